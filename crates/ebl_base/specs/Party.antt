@@ -1,0 +1,27 @@
+-- A party: a name on its platform, with the text platform/name.
+use Rattle.std.specs.Prelude.{ℕ, List, [], ◌∷◌, ◌++◌, Option, Some, None, ◌==◌, if◌then◌else◌, take}
+use Rattle.ebl_base.specs.PlatformCode.{code_of, code_text}
+use Rattle.ebl_base.specs.Name35.{name_of, name_text}
+use Rattle.ebl_base.specs.declared.platform_code.PlatformCode.{PlatformCode}
+use Rattle.ebl_base.specs.declared.name35.Name35.{Name35}
+use Rattle.ebl_base.specs.declared.party.Party.{Party}
+use Rattle.ebl_base.specs.declared.party.PartyText.{PartyText}
+
+-- the party of a code and a name, where both have their forms
+abbrev pub party_at : Option PlatformCode → Option Name35 → Option Party
+party_at None name = None
+party_at (Some platform) None = None
+party_at (Some platform) (Some name) = Some (record { platform = platform; code = name })
+
+-- a platform code, a slash and a name
+abbrev pub party_of : List ℕ → Option Party
+party_of (a ∷ b ∷ c ∷ d ∷ slash ∷ name) = if slash == 47 then party_at (code_of (a ∷ b ∷ c ∷ d ∷ [])) (name_of name) else None
+party_of text = None
+
+-- the text of a party
+abbrev pub party_text : Party → List ℕ
+party_text party = code_text party.platform ++ 47 ∷ name_text party.code
+
+-- what a text of a party shows
+abbrev pub party_text_bytes : PartyText → List ℕ
+party_text_bytes text = take text.len text.bytes

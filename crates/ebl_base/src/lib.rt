@@ -1,0 +1,28 @@
+//! The nouns that every crate of the workspace shares: platforms, parties, transactions, and the lists that hold them.
+#![tactic(auto)]
+
+mod char_list;
+mod checksum;
+mod failed;
+mod items;
+mod kind;
+mod moment;
+mod name35;
+mod no_memory;
+mod parts;
+mod party;
+mod platform_code;
+mod transaction;
+
+pub use char_list::CharList;
+pub use checksum::Checksum;
+pub use failed::Failed;
+pub use items::{ByteList, Copied, Items};
+pub use kind::Kind;
+pub use moment::Moment;
+pub use name35::Name35;
+pub use no_memory::NoMemory;
+pub use parts::first_part;
+pub use party::{Party, PartyText};
+pub use platform_code::PlatformCode;
+pub use transaction::{Transaction, TransactionList};
