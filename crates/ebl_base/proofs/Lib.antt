@@ -1,2 +1,7 @@
+pub mod CarrierLemmas
 mod PartsLemmas
 mod PartyLemmas
+pub mod SameLemmas
+pub mod FaultsLemmas
+pub mod CallsLemmas
+pub mod TextLemmas

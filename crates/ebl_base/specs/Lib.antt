@@ -1,5 +1,11 @@
 pub mod PlatformCode
 pub mod Name35
 pub mod Party
+pub mod Provider
+pub mod CarrierCode
 pub mod Moment
+pub mod Checksum
 pub mod Parts
+pub mod Signature
+pub mod Faults
+pub mod Calls

@@ -1,6 +1,7 @@
 -- The name of a party on its platform: 1 to 35 characters A to Z, 0 to 9, hyphen or low line.
-use Rattle.std.specs.Prelude.{ℕ, ◌-◌, Bool, not, List, ◌++◌, Option, Some, None, length, ◌&&◌, ◌||◌, ◌==◌, nat_le, if◌then◌else◌, replicate, take_while}
+use Rattle.std.specs.Prelude.{ℕ, ◌-◌, Bool, List, ◌++◌, Option, Some, None, length, ◌&&◌, ◌||◌, ◌==◌, nat_le, if◌then◌else◌, replicate, take_while}
 use Rattle.std.specs.List.{list_all}
+use Rattle.std.specs.Str.{bytes_eq}
 use Rattle.ebl_base.specs.PlatformCode.{is_code_character}
 use Rattle.ebl_base.specs.declared.name35.Name35.{Name35}
 
@@ -16,10 +17,10 @@ is_name text = nat_le 1 (length text) && nat_le (length text) 35 && list_all is_
 abbrev pub name_of : List ℕ → Option Name35
 name_of text = if is_name text then Some (record { bytes = text ++ replicate (35 - length text) 0 }) else None
 
--- what stands before the first zero
-abbrev pub before_zeros : List ℕ → List ℕ
-before_zeros bytes = take_while (λ c. not (c == 0)) bytes
-
--- the text of a name
+-- the text of a name: the name characters that stand in front
 abbrev pub name_text : Name35 → List ℕ
-name_text name = before_zeros name.bytes
+name_text name = take_while is_name_character name.bytes
+
+-- whether two names are one
+abbrev pub name_eq : Name35 → Name35 → Bool
+name_eq a b = bytes_eq a.bytes b.bytes

@@ -1,7 +1,7 @@
 -- A party: a name on its platform, with the text platform/name.
-use Rattle.std.specs.Prelude.{ℕ, List, [], ◌∷◌, ◌++◌, Option, Some, None, ◌==◌, if◌then◌else◌, take}
-use Rattle.ebl_base.specs.PlatformCode.{code_of, code_text}
-use Rattle.ebl_base.specs.Name35.{name_of, name_text}
+use Rattle.std.specs.Prelude.{ℕ, Bool, ◌&&◌, List, [], ◌∷◌, ◌++◌, Option, Some, None, ◌==◌, ◌||◌, if◌then◌else◌, take_while}
+use Rattle.ebl_base.specs.PlatformCode.{code_of, code_text, code_eq}
+use Rattle.ebl_base.specs.Name35.{name_of, name_text, name_eq, is_name_character}
 use Rattle.ebl_base.specs.declared.platform_code.PlatformCode.{PlatformCode}
 use Rattle.ebl_base.specs.declared.name35.Name35.{Name35}
 use Rattle.ebl_base.specs.declared.party.Party.{Party}
@@ -22,6 +22,14 @@ party_of text = None
 abbrev pub party_text : Party → List ℕ
 party_text party = code_text party.platform ++ 47 ∷ name_text party.code
 
--- what a text of a party shows
+-- a name character or a slash
+abbrev pub is_party_character : ℕ → Bool
+is_party_character c = is_name_character c || (c == 47)
+
+-- what a text of a party shows: the characters of parties' texts that stand in front
 abbrev pub party_text_bytes : PartyText → List ℕ
-party_text_bytes text = take text.len text.bytes
+party_text_bytes text = take_while is_party_character text.bytes
+
+-- whether two parties are one
+abbrev pub party_eq : Party → Party → Bool
+party_eq a b = code_eq a.platform b.platform && name_eq a.code b.code

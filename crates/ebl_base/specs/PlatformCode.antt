@@ -1,6 +1,7 @@
 -- The code of a title platform: four characters A to Z or 0 to 9.
-use Rattle.std.specs.Prelude.{ℕ, Bool, List, Option, Some, None, length, ◌&&◌, ◌||◌, ◌==◌, nat_le, if◌then◌else◌}
+use Rattle.std.specs.Prelude.{ℕ, Bool, List, Option, Some, None, length, ◌&&◌, ◌||◌, ◌==◌, nat_le, if◌then◌else◌, take_while}
 use Rattle.std.specs.List.{list_all}
+use Rattle.std.specs.Str.{bytes_eq}
 use Rattle.ebl_base.specs.declared.platform_code.PlatformCode.{PlatformCode}
 
 -- a capital letter or a digit
@@ -15,6 +16,10 @@ is_code text = (length text == 4) && list_all is_code_character text
 abbrev pub code_of : List ℕ → Option PlatformCode
 code_of text = if is_code text then Some (record { bytes = text }) else None
 
--- the text of a code
+-- the text of a code: the code characters that stand in front
 abbrev pub code_text : PlatformCode → List ℕ
-code_text code = code.bytes
+code_text code = take_while is_code_character code.bytes
+
+-- whether two codes are one
+abbrev pub code_eq : PlatformCode → PlatformCode → Bool
+code_eq a b = bytes_eq a.bytes b.bytes

@@ -107,6 +107,12 @@ impl Copied for u8 {
     }
 }
 
+impl Copied for u64 {
+    fn copy(&self, _alloc: Global) -> Result<Self, NoMemory> {
+        Ok(*self)
+    }
+}
+
 impl<T: Copied> Copied for Items<T> {
     fn copy(&self, alloc: Global) -> Result<Self, NoMemory> {
         let mut copies = Vec::with_capacity(alloc, self.items.len())?;

@@ -1,9 +1,13 @@
 //! The nouns that every crate of the workspace shares: platforms, parties, transactions, and the lists that hold them.
 #![tactic(auto)]
 
+mod calls;
+mod carrier_code;
 mod char_list;
 mod checksum;
 mod failed;
+mod faults;
+mod front;
 mod items;
 mod kind;
 mod moment;
@@ -12,11 +16,19 @@ mod no_memory;
 mod parts;
 mod party;
 mod platform_code;
+mod provider;
+mod signature;
+mod signed_text;
+#[cfg(test)]
+mod tests;
 mod transaction;
 
+pub use calls::{CallList, Calls};
+pub use carrier_code::CarrierCode;
 pub use char_list::CharList;
 pub use checksum::Checksum;
 pub use failed::Failed;
+pub use faults::count_fault;
 pub use items::{ByteList, Copied, Items};
 pub use kind::Kind;
 pub use moment::Moment;
@@ -25,4 +37,7 @@ pub use no_memory::NoMemory;
 pub use parts::first_part;
 pub use party::{Party, PartyText};
 pub use platform_code::PlatformCode;
+pub use provider::Provider;
+pub use signature::Signature;
+pub use signed_text::SignedText;
 pub use transaction::{Transaction, TransactionList};

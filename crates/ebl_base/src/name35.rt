@@ -1,8 +1,9 @@
-ghost use Rattle.std.specs.Prelude.{◌≡◌, ◌+◌, ◌≤◌, ◌++◌, length, take, drop};
-ghost use Rattle.std.specs.List.{list_all};
-ghost use Rattle.ebl_base.specs.Name35.{name_of, name_text, is_name_character, before_zeros};
+ghost use Rattle.std.specs.Prelude.{◌≡◌, ◌≤◌, length, take};
+ghost use Rattle.std.specs.List.{list_all, prefix_len};
+ghost use Rattle.std.specs.Str.{IsAscii};
+ghost use Rattle.ebl_base.specs.Name35.{name_of, name_text, is_name_character};
 
-use crate::parts::len_before;
+use crate::front::{front_text, put_text};
 
 /// The name of a party on its platform: 1 to 35 characters `A` to `Z`, `0` to `9`, `-` or `_`.
 #[derive(Clone, Copy, Debug, PartialEq, Eq, PartialOrd, Ord)]
@@ -11,7 +12,7 @@ pub struct Name35 {
     bytes: [u8; 35],
 }
 
-fn is_name_byte(byte: u8) -> bool
+pub(crate) fn is_name_byte(byte: u8) -> bool
     ensures { result ≡ is_name_character byte }
 {
     byte.is_ascii_uppercase() || byte.is_ascii_digit() || byte == b'-' || byte == b'_'
@@ -23,20 +24,13 @@ fn are_name_bytes(bytes: &[u8]) -> bool
     bytes.iter().all(|byte| is_name_byte(*byte))
 }
 
-// The text that stands in front of the zeros of a fixed array.
-fn text_before_zeros(bytes: &[u8]) -> &[u8]
-    ensures { result.now ≡ before_zeros bytes.now }
+// How many name characters stand in front.
+fn name_front_len(bytes: &[u8]) -> usize
+    ensures len { result ≡ prefix_len is_name_character bytes.now }
+    ensures most { result ≤ length bytes.now }
+    ensures ascii { IsAscii (take result bytes.now) }
 {
-    let len = len_before(0, bytes);
-    &bytes[..len]
-}
-
-// Writes a text over the first bytes of a fixed array.
-pub(crate) fn put_text(bytes: &mut [u8], at: usize, text: &[u8])
-    requires { at + length text.now ≤ length bytes.old }
-    ensures { bytes.new ≡ take at bytes.old ++ text.now ++ drop (at + length text.now) bytes.old }
-{
-    bytes[at..at + text.len()].copy_from_slice(text);
+    bytes.iter().take_while(|byte| is_name_byte(**byte)).count()
 }
 
 impl Name35 {
@@ -58,11 +52,19 @@ impl Name35 {
         Some(Name35 { bytes })
     }
 
+    /// The characters.
+    pub fn as_str(&self) -> &str
+        ensures text { result.now ≡ name_text self.now }
+        ensures most { length result.now ≤ 35 }
+    {
+        front_text(&self.bytes, name_front_len(&self.bytes))
+    }
+
     /// The characters, in ASCII.
     pub fn as_bytes(&self) -> &[u8]
         ensures text { result.now ≡ name_text self.now }
         ensures most { length result.now ≤ 35 }
     {
-        text_before_zeros(&self.bytes)
+        self.as_str().as_bytes()
     }
 }

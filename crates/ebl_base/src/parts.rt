@@ -9,7 +9,7 @@ fn position_of(end: u8, text: &[u8]) -> Option<usize>
 }
 
 // How many bytes stand before the first byte of this kind, or all where there is none.
-pub(crate) fn len_before(end: u8, text: &[u8]) -> usize
+fn len_before(end: u8, text: &[u8]) -> usize
     ensures len { result ≡ position_or_len (λ b. b == end) text.now }
     ensures most { result ≤ length text.now }
 {

@@ -1,7 +1,10 @@
-ghost use Rattle.std.specs.Prelude.{◌≡◌};
-ghost use Rattle.ebl_base.specs.Party.{party_of, party_text, party_text_bytes};
+ghost use Rattle.std.specs.Prelude.{◌≡◌, ◌≤◌, length, take};
+ghost use Rattle.std.specs.List.{prefix_len};
+ghost use Rattle.std.specs.Str.{IsAscii};
+ghost use Rattle.ebl_base.specs.Party.{party_of, party_text, party_text_bytes, is_party_character};
 
-use crate::name35::{Name35, put_text};
+use crate::front::{front_text, put_text};
+use crate::name35::{Name35, is_name_byte};
 use crate::platform_code::PlatformCode;
 
 /// A party to bills: a name on its platform. Its text is `ALPH/EXPORT`.
@@ -14,9 +17,8 @@ pub struct Party {
 /// The text of a party, as [`Party::to_text`] gives it.
 #[derive(Clone, Copy, Debug, PartialEq, Eq)]
 pub struct PartyText {
-    // The characters, and whatever behind them.
+    // The characters, and zeros behind them.
     bytes: [u8; 40],
-    len: usize,
 }
 
 impl Party {
@@ -36,21 +38,46 @@ impl Party {
     pub fn to_text(&self) -> PartyText
         ensures { party_text_bytes result ≡ party_text self.now }
     {
-        let mut bytes = [0; 40];
+        let platform = self.platform.as_bytes();
         let name = self.code.as_bytes();
-        put_text(&mut bytes, 0, self.platform.as_bytes());
-        put_text(&mut bytes, 4, b"/");
-        put_text(&mut bytes, 5, name);
-        let len = 5 + name.len();
-        PartyText { bytes, len }
+        let mut bytes = [0; 40];
+        put_text(&mut bytes, 0, platform);
+        put_text(&mut bytes, platform.len(), b"/");
+        put_text(&mut bytes, platform.len() + 1, name);
+        PartyText { bytes }
     }
 }
 
 impl PartyText {
+    /// The characters.
+    pub fn as_str(&self) -> &str
+        ensures { result.now ≡ party_text_bytes self.now }
+    {
+        front_text(&self.bytes, party_front_len(&self.bytes))
+    }
+
     /// The characters, in ASCII.
     pub fn as_bytes(&self) -> &[u8]
         ensures { result.now ≡ party_text_bytes self.now }
     {
-        &self.bytes[..self.len.min(40)]
+        self.as_str().as_bytes()
     }
+}
+
+fn is_party_byte(byte: u8) -> bool
+    ensures { result ≡ is_party_character byte }
+{
+    is_name_byte(byte) || byte == b'/'
+}
+
+// How many characters of parties' texts stand in front.
+fn party_front_len(bytes: &[u8]) -> usize
+    ensures len { result ≡ prefix_len is_party_character bytes.now }
+    ensures most { result ≤ length bytes.now }
+    ensures ascii { IsAscii (take result bytes.now) }
+{
+    bytes
+        .iter()
+        .take_while(|byte| is_party_byte(**byte))
+        .count()
 }

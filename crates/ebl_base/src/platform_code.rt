@@ -1,6 +1,9 @@
-ghost use Rattle.std.specs.Prelude.{◌≡◌, length};
-ghost use Rattle.std.specs.List.{list_all};
+ghost use Rattle.std.specs.Prelude.{◌≡◌, ◌≤◌, length, take};
+ghost use Rattle.std.specs.List.{list_all, prefix_len};
+ghost use Rattle.std.specs.Str.{IsAscii};
 ghost use Rattle.ebl_base.specs.PlatformCode.{code_of, code_text, is_code_character};
+
+use crate::front::front_text;
 
 /// The code of a title platform: four characters `A` to `Z` or `0` to `9`.
 #[derive(Clone, Copy, Debug, PartialEq, Eq, PartialOrd, Ord)]
@@ -14,7 +17,7 @@ fn is_code_byte(byte: u8) -> bool
     byte.is_ascii_uppercase() || byte.is_ascii_digit()
 }
 
-fn are_code_bytes(bytes: &[u8]) -> bool
+pub(crate) fn are_code_bytes(bytes: &[u8]) -> bool
     ensures { result ≡ list_all is_code_character bytes.now }
 {
     bytes.iter().all(|byte| is_code_byte(*byte))
@@ -36,11 +39,28 @@ impl PlatformCode {
         })
     }
 
+    /// The four characters.
+    pub fn as_str(&self) -> &str
+        ensures text { result.now ≡ code_text self.now }
+        ensures most { length result.now ≤ 4 }
+    {
+        front_text(&self.bytes, code_front_len(&self.bytes))
+    }
+
     /// The four characters, in ASCII.
     pub fn as_bytes(&self) -> &[u8]
         ensures text { result.now ≡ code_text self.now }
-        ensures len { length result.now ≡ 4 }
+        ensures most { length result.now ≤ 4 }
     {
-        &self.bytes
+        self.as_str().as_bytes()
     }
+}
+
+// How many code characters stand in front.
+pub(crate) fn code_front_len(bytes: &[u8]) -> usize
+    ensures len { result ≡ prefix_len is_code_character bytes.now }
+    ensures most { result ≤ length bytes.now }
+    ensures ascii { IsAscii (take result bytes.now) }
+{
+    bytes.iter().take_while(|byte| is_code_byte(**byte)).count()
 }

@@ -1,0 +1,111 @@
+-- What was read from a text has that text again.
+use Rattle.std.proofs.Common.{◌≡◌, ℕ, zero, suc, ◌-◌, Bool, true, false, ◌&&◌, ◌==◌, List, [], ◌∷◌, ◌++◌, Option, Some, None, cond, length, nat_le, codes, append-nil, refl, sym, ap, ◌∙◌, arith, take_while, replicate}
+use Rattle.std.specs.List.{list_all, prefix_len}
+use Rattle.std.specs.Str.{bytes_eq}
+use Rattle.std.proofs.lemmas.Bool.{and_parts}
+use Rattle.std.proofs.lemmas.Bool.Decides.{nat_tests}
+use Rattle.std.proofs.lemmas.Slice.Eq.{bytes_eq-Decides}
+use Rattle.ebl_base.specs.PlatformCode.{is_code_character, is_code, code_of, code_text}
+use Rattle.ebl_base.specs.Name35.{is_name_character, is_name, name_of, name_text}
+use Rattle.ebl_base.specs.CarrierCode.{is_carrier_code, carrier_code_of, carrier_code_text}
+use Rattle.ebl_base.specs.Provider.{provider_of, provider_text}
+use Rattle.ebl_base.proofs.PartyLemmas.{whole_front}
+use Rattle.ebl_base.specs.Party.{party_at, party_of, party_text}
+use Rattle.ebl_base.specs.declared.platform_code.PlatformCode.{PlatformCode}
+use Rattle.ebl_base.specs.declared.name35.Name35.{Name35}
+use Rattle.ebl_base.specs.declared.carrier_code.CarrierCode.{CarrierCode}
+use Rattle.ebl_base.specs.declared.provider.Provider.{Provider}
+use Rattle.ebl_base.specs.declared.provider.Provider.TheVariants.{Smdg, Nmfta}
+use Rattle.ebl_base.specs.declared.party.Party.{Party}
+
+-- a choice that is there was made for a test that holds
+when_some : {T : Type 0} (b : Bool) (x y : T) → cond b (Some x) None ≡ Some y → (b ≡ true) × (x ≡ y)
+when_some true x y h = (refl, cc)
+when_some false x y h = cc
+
+-- no zero is a character of a code or a name
+code_zeros : (n : ℕ) → prefix_len is_code_character (replicate n 0) ≡ 0
+code_zeros zero = refl
+code_zeros (suc n) = refl
+
+name_zeros : (n : ℕ) → prefix_len is_name_character (replicate n 0) ≡ 0
+name_zeros zero = refl
+name_zeros (suc n) = refl
+
+pub code_text-code_of : (text : List ℕ) (code : PlatformCode) → code_of text ≡ Some code
+    → code_text code ≡ text
+code_text-code_of text code h =
+    let made : PlatformCode = record { bytes = text } in
+    let both = when_some (is_code text) made code h in
+    let all = (and_parts (length text == 4) (list_all is_code_character text) both.0).1 in
+    ap code_text (sym both.1) ∙ ap (take_while is_code_character) (sym (append-nil text))
+    ∙ whole_front is_code_character text [] all refl
+
+pub name_text-name_of : (text : List ℕ) (name : Name35) → name_of text ≡ Some name → name_text name ≡ text
+name_text-name_of text name h =
+    let made : Name35 = record { bytes = text ++ replicate (35 - length text) 0 } in
+    let both = when_some (is_name text) made name h in
+    let all =
+    (and_parts (nat_le 1 (length text) && nat_le (length text) 35) (list_all is_name_character text) both.0).1
+    in
+    ap name_text (sym both.1)
+    ∙ whole_front is_name_character text (replicate (35 - length text) 0) all
+    (name_zeros (35 - length text))
+
+pub carrier_code_text-carrier_code_of : (text : List ℕ) (code : CarrierCode)
+    → carrier_code_of text ≡ Some code → carrier_code_text code ≡ text
+carrier_code_text-carrier_code_of text code h =
+    let made : CarrierCode = record { bytes = text ++ replicate (4 - length text) 0 } in
+    let both = when_some (is_carrier_code text) made code h in
+    let all =
+    (and_parts (nat_le 1 (length text) && nat_le (length text) 4) (list_all is_code_character text) both.0).1
+    in
+    ap carrier_code_text (sym both.1)
+    ∙ whole_front is_code_character text (replicate (4 - length text) 0) all
+    (code_zeros (4 - length text))
+
+pub provider_text-provider_of : (text : List ℕ) (provider : Provider) → provider_of text ≡ Some provider
+    → provider_text provider ≡ text
+provider_text-provider_of text provider h =
+    by_tests (bytes_eq text (codes "SMDG")) refl (bytes_eq text (codes "NMFTA")) refl h
+  where
+    by_tests : (s : Bool) → bytes_eq text (codes "SMDG") ≡ s → (n : Bool) → bytes_eq text (codes "NMFTA") ≡ n
+        → cond s (Some Smdg) (cond n (Some Nmfta) None) ≡ Some provider → provider_text provider ≡ text
+    by_tests true s n e h =
+        let first : Smdg ≡ provider = cc in
+        ap provider_text (sym first) ∙ sym ((bytes_eq-Decides text (codes "SMDG")).0 s)
+    by_tests false s true e h =
+        let second : Nmfta ≡ provider = cc in
+        ap provider_text (sym second) ∙ sym ((bytes_eq-Decides text (codes "NMFTA")).0 e)
+    by_tests false s false e h = cc
+
+-- the parts of a party that is there
+parts_of-party_at : (code : Option PlatformCode) (name : Option Name35) (party : Party)
+    → party_at code name ≡ Some party → (code ≡ Some party.platform) × (name ≡ Some party.code)
+parts_of-party_at None name party h = cc
+parts_of-party_at (Some code) None party h = cc
+parts_of-party_at (Some code) (Some name) party h =
+    let made : Party = record { platform = code; code = name } in
+    let same : made ≡ party = (when_some true made party h).1 in
+    (ap (λ (p : Party). Some p.platform) same, ap (λ (p : Party). Some p.code) same)
+
+pub party_text-party_of : (text : List ℕ) (party : Party) → party_of text ≡ Some party
+    → party_text party ≡ text
+party_text-party_of [] party h = cc
+party_text-party_of (a ∷ []) party h = cc
+party_text-party_of (a ∷ b ∷ []) party h = cc
+party_text-party_of (a ∷ b ∷ c ∷ []) party h = cc
+party_text-party_of (a ∷ b ∷ c ∷ d ∷ []) party h = cc
+party_text-party_of (a ∷ b ∷ c ∷ d ∷ slash ∷ name) party h = by_test (slash == 47) refl h
+  where
+    by_test : (s : Bool) → (slash == 47) ≡ s
+        → cond s (party_at (code_of (a ∷ b ∷ c ∷ d ∷ [])) (name_of name)) None ≡ Some party
+        → party_text party ≡ a ∷ b ∷ c ∷ d ∷ slash ∷ name
+    by_test true s h =
+        let parts = parts_of-party_at (code_of (a ∷ b ∷ c ∷ d ∷ [])) (name_of name) party h in
+        let mark : slash ≡ 47 = grind (arith, nat_tests) in
+        ap (λ text. text ++ 47 ∷ name_text party.code)
+        (code_text-code_of (a ∷ b ∷ c ∷ d ∷ []) party.platform parts.0)
+        ∙ ap (λ text. a ∷ b ∷ c ∷ d ∷ 47 ∷ text) (name_text-name_of name party.code parts.1)
+        ∙ ap (λ m. a ∷ b ∷ c ∷ d ∷ m ∷ name) (sym mark)
+    by_test false s h = cc

@@ -1,0 +1,11 @@
+use Rattle.std.proofs.Common.{ℕ, ◌≡◌, ◌+◌, ◌-◌, length, drop, arith}
+use Rattle.std.proofs.Math.ListN.{replicate}
+use Rattle.std.proofs.lemmas.List.{drop-replicate}
+use Rattle.std.proofs.lemmas.Grind.{common_steps}
+use Rattle.ebl_base.proofs.carrier_code.CarrierCode.try_new.Goals as goal
+
+zeros_behind : (n : ℕ) → drop (0 + n) (replicate {A = ℕ} 4 0) ≡ replicate (4 - n) 0
+zeros_behind n = let e : 0 + n ≡ n = omega arith in rw e (drop-replicate n 4 0)
+
+pub returns : goal.returns
+returns c = grind (arith, common_steps, zeros_behind (length c.args.text.now))

@@ -1,0 +1,21 @@
+-- Who keeps the list in which a carrier's code stands.
+use Rattle.std.specs.Prelude.{ℕ, Bool, true, false, List, Option, Some, None, codes, if◌then◌else◌}
+use Rattle.std.specs.Str.{bytes_eq}
+use Rattle.ebl_base.specs.declared.provider.Provider.{Provider}
+use Rattle.ebl_base.specs.declared.provider.Provider.TheVariants.{Smdg, Nmfta}
+
+-- the text of a provider
+abbrev pub provider_text : Provider → List ℕ
+provider_text Smdg = codes "SMDG"
+provider_text Nmfta = codes "NMFTA"
+
+-- the provider with this text
+abbrev pub provider_of : List ℕ → Option Provider
+provider_of text = if bytes_eq text (codes "SMDG") then Some Smdg else if bytes_eq text (codes "NMFTA") then Some Nmfta else None
+
+-- whether two providers are one
+abbrev pub provider_eq : Provider → Provider → Bool
+provider_eq Smdg Smdg = true
+provider_eq Smdg Nmfta = false
+provider_eq Nmfta Smdg = false
+provider_eq Nmfta Nmfta = true

@@ -1,0 +1,13 @@
+ghost use Rattle.std.specs.Prelude.{◌≡◌, ◌≤◌};
+ghost use Rattle.ebl_base.specs.Faults.{risen};
+
+use crate::failed::Failed;
+
+/// Counts a fault and answers it. A count stays at 2^64 - 1 once it is there.
+pub fn count_fault(faults: &mut u64) -> Failed
+    ensures counted { faults.new ≡ risen faults.old }
+    ensures later { faults.old ≤ faults.new }
+{
+    *faults = faults.saturating_add(1);
+    Failed
+}
