@@ -1,0 +1,54 @@
+-- One piece after another, and first parts of them. (`Appends-nil`, `Appends-trans` and `Appends-kept` stand in std's `KnownBytes`.)
+use Rattle.std.proofs.Common.{◌≡◌, ℕ, ◌+◌, ◌-◌, ◌≤◌, List, [], ◌++◌, Option, Result, Ok, Err, OnErr, refl, ap, ◌∙◌, sym, subst, append_assoc, append-nil, length, take, drop, take-append-drop, length-take, arith}
+use Rattle.std.proofs.lemmas.List.{take-take, length-take-le}
+use Rattle.std.proofs.Math.Seq.{take-append-add}
+use Rattle.std.specs.Io.KnownBytes.{Appends, Keeps}
+use Rattle.std.proofs.KnownBytes.{Appends-nil, Appends-trans, Appends-kept}
+use Rattle.ebl_edge.specs.Sink.{AppendsFirst}
+
+-- nothing is a first part
+pub AppendsFirst-nil : (a : Option (List ℕ)) (text : List ℕ) → AppendsFirst a a text
+AppendsFirst-nil a text = record { front = []; back = text; parts = refl; wrote = Appends-nil a }
+
+-- the whole is a first part
+pub AppendsFirst-whole : (a b : Option (List ℕ)) (text : List ℕ) → Appends a b text → AppendsFirst a b text
+AppendsFirst-whole a b text p = record { front = text; back = []; parts = append-nil text; wrote = p }
+
+-- the first n bytes are a first part
+pub AppendsFirst-take : (a b : Option (List ℕ)) (n : ℕ) (text : List ℕ) → Appends a b (take n text) → AppendsFirst a b text
+AppendsFirst-take a b n text p = record { front = take n text; back = drop n text; parts = take-append-drop n text; wrote = p }
+
+-- a first part of one text is one of that text with more behind it
+pub AppendsFirst-longer : (a b : Option (List ℕ)) (text more : List ℕ) → AppendsFirst a b text → AppendsFirst a b (text ++ more)
+AppendsFirst-longer a b text more p =
+    record { front = p.front; back = p.back ++ more; parts = sym (append_assoc p.front p.back more) ∙ ap (λ l. l ++ more) p.parts; wrote = p.wrote }
+
+-- a whole text, and then a first part of the next
+pub AppendsFirst-after : (a b c : Option (List ℕ)) (text next : List ℕ) → Appends a b text → AppendsFirst b c next → AppendsFirst a c (text ++ next)
+AppendsFirst-after a b c text next p q =
+    record { front = text ++ q.front; back = q.back; parts = append_assoc text q.front q.back ∙ ap (λ l. text ++ l) q.parts; wrote = Appends-trans a b c text q.front p q.wrote }
+
+-- a first part, and then nothing more
+pub AppendsFirst-kept : (a b c : Option (List ℕ)) (text : List ℕ) → AppendsFirst a b text → Keeps b c → AppendsFirst a c text
+AppendsFirst-kept a b c text p q = record { front = p.front; back = p.back; parts = p.parts; wrote = Appends-kept a b c p.front p.wrote q }
+
+-- a front, and more of what stands behind it
+pub take-add : (m n : ℕ) (text : List ℕ) → m ≤ length text → take (m + n) text ≡ take m text ++ take n (drop m text)
+take-add m n text le =
+    sym (ap (take (m + n)) (take-append-drop m text)) ∙ ap (λ k. take (k + n) (take m text ++ drop m text)) (sym (length-take-le m text le))
+    ∙ take-append-add (take m text) (drop m text) n
+
+-- the first m bytes were written, and then n more of the rest
+pub Appends-on : (a b c : Option (List ℕ)) (text : List ℕ) (m n : ℕ) → m ≤ length text → n ≤ length (take (length text - m) (drop m text))
+    → Appends a b (take m text) → Appends b c (take n (take (length text - m) (drop m text))) → (m + n ≤ length text) × Appends a c (take (m + n) text)
+Appends-on a b c text m n front within p q =
+    let room : n ≤ length text - m = omega (arith, within, length-take (length text - m) (drop m text)) in
+    let more : take n (take (length text - m) (drop m text)) ≡ take n (drop m text) = take-take n (length text - m) (drop m text) room in (
+      omega arith,
+      subst (λ (l : List ℕ). Appends a c l) (ap (λ l. take m text ++ l) more ∙ sym (take-add m n text front)) (Appends-trans a b c _ _ p q),
+    )
+
+-- a failed call of one that answers more
+pub OnErr-fact : {T E P : Type 0} (r : Result T E) → P → OnErr r P
+OnErr-fact (Ok x) p = tt
+OnErr-fact (Err e) p = p

@@ -1,0 +1,8 @@
+-- What a sink that took its room shows.
+use Rattle.std.specs.Prelude.{ℕ, List}
+
+-- the bytes that were written, for how many it has room, and how often a piece was too long
+pub record RoomRecord : Type 0 where
+  pub written : List ℕ
+  pub room : ℕ
+  pub faults : ℕ

@@ -1,0 +1,60 @@
+ghost use Rattle.std.specs.Prelude.{◌≡◌};
+
+use crate::source::Source;
+use ebl_base::{Failed, count_fault};
+use std::io::{ErrorKind, Read};
+use std::marker::Model;
+
+/// A reader of std as a source. It tells what the reader tells, and nothing where that tells nothing, as standard input does.
+///
+/// Each error of the reader counts as a fault. A read that a signal interrupted is made again.
+#[derive(Drop)]
+pub struct ReaderSource<R> {
+    reader: R,
+    faults: u64,
+}
+
+impl<R> Model for ReaderSource<R> {
+    ghost use Rattle.ebl_edge.specs.Counted.{Counted};
+
+    ghost Value = { Counted R };
+
+    ghost view = { λ s. record { inner = s.reader; faults = s.faults } };
+}
+
+impl<R> ReaderSource<R> {
+    /// A source over this reader.
+    pub fn new(reader: R) -> Self
+        ensures { result ≡ record { inner = reader; faults = 0 } }
+    {
+        ReaderSource { reader, faults: 0 }
+    }
+
+    /// How many errors the reader answered.
+    pub fn faults(&self) -> u64
+        ensures { result ≡ self.now.faults }
+    {
+        self.faults
+    }
+}
+
+impl<R: Read> Source for ReaderSource<R> {
+    ghost left = { λ s. R.remaining s.inner };
+
+    ghost faults = { λ s. s.faults };
+
+    fn read(&mut self, into: &mut [u8]) -> Result<usize, Failed> {
+        for _ in 0..u64::MAX {
+            match self.reader.read(into) {
+                Ok(count) => return Ok(count),
+                Err(error) => {
+                    let failed = count_fault(&mut self.faults);
+                    if error.kind() != ErrorKind::Interrupted {
+                        return Err(failed);
+                    }
+                }
+            }
+        }
+        Err(count_fault(&mut self.faults))
+    }
+}
