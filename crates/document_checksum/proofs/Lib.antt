@@ -1,0 +1,3 @@
+pub mod DigestBytes
+pub mod Digits
+pub mod Texts
