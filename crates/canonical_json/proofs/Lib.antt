@@ -1,0 +1,9 @@
+pub mod Views
+pub mod Units
+pub mod Order
+pub mod Sorting
+pub mod Growing
+pub mod Texts
+pub mod Readings
+pub mod Refusals
+pub mod Parts

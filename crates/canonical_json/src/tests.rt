@@ -1,0 +1,245 @@
+//! What no clause can say: that the definitions are those of RFC 8785, and that the calls succeed.
+use crate::{
+    Json, JsonList, Member, MemberList, ReadError, canonical_reads, equal_texts_have_equal_values,
+    flag_of, int_of, is_lawful, list_of, member_of, read, text_of, write,
+};
+use ebl_base::{CharList, NoMemory};
+use std::alloc::{AllocError, Global};
+use std::test::Fail;
+
+// RFC 8785, sections 3.2.2 and 3.2.3, without their fractions, and rows worked by hand from them.
+#[test]
+fn the_text_is_that_of_rfc_8785(rt: HostRuntime) -> Result<(), Fail> {
+    let rows: [(&[u8], &[u8]); 14] = [
+        (b"{}", b"{}"),
+        (b" [ ] ", b"[]"),
+        (
+            b"{\"string\": \"\\u20ac$\\u000F\\u000aA'\\u0042\\u0022\\u005c\\\\\\\"\\/\", \"literals\": [null, true, false]}",
+            b"{\"literals\":[null,true,false],\"string\":\"\xe2\x82\xac$\\u000f\\nA'B\\\"\\\\\\\\\\\"/\"}",
+        ),
+        (
+            b"{\"\\u20ac\": \"Euro Sign\", \"\\r\": \"Carriage Return\", \"\\ufb33\": \"Hebrew Letter Dalet With Dagesh\", \"1\": \"One\", \"\\ud83d\\ude00\": \"Emoji: Grinning Face\", \"\\u0080\": \"Control\", \"\\u00f6\": \"Latin Small Letter O With Diaeresis\"}",
+            b"{\"\\r\":\"Carriage Return\",\"1\":\"One\",\"\xc2\x80\":\"Control\",\"\xc3\xb6\":\"Latin Small Letter O With Diaeresis\",\"\xe2\x82\xac\":\"Euro Sign\",\"\xf0\x9f\x98\x80\":\"Emoji: Grinning Face\",\"\xef\xac\xb3\":\"Hebrew Letter Dalet With Dagesh\"}",
+        ),
+        (
+            b"{\"\\ufb33\":7,\"\\ud83d\\ude00\":6,\"\\u20ac\":5,\"\\u00f6\":4,\"\\u0080\":3,\"1\":2,\"\\r\":1}",
+            b"\x7b\x22\x5c\x72\x22\x3a\x31\x2c\x22\x31\x22\x3a\x32\x2c\x22\xc2\x80\x22\x3a\x33\x2c\x22\xc3\xb6\x22\x3a\x34\x2c\x22\xe2\x82\xac\x22\x3a\x35\x2c\x22\xf0\x9f\x98\x80\x22\x3a\x36\x2c\x22\xef\xac\xb3\x22\x3a\x37\x7d",
+        ),
+        (
+            b"\"\\u0000\\u0008\\u0009\\u000A\\u000C\\u000D\\u001F\\u0020\\u007F\\/\"",
+            b"\"\\u0000\\b\\t\\n\\f\\r\\u001f \x7f/\"",
+        ),
+        (b"9007199254740991", b"9007199254740991"),
+        (b"-9007199254740991", b"-9007199254740991"),
+        (b"[0,10,-1,100000000000]", b"[0,10,-1,100000000000]"),
+        (b"{\"b\":1,\"a\":2,\"b\":3}", b"{\"a\":2,\"b\":3}"),
+        (
+            b"{\"aa\":1,\"a\":2,\"\":3,\"B\":4}",
+            b"{\"\":3,\"B\":4,\"a\":2,\"aa\":1}",
+        ),
+        (b"{\"\\u0061\":1,\"a\":2}", b"{\"a\":2}"),
+        // What a repeated name hides does not count.
+        (b"{\"a\":1.5,\"a\":1}", b"{\"a\":1}"),
+        (
+            b"{\"a\":9007199254740992,\"a\":{\"c\":[],\"b\":null}}",
+            b"{\"a\":{\"b\":null,\"c\":[]}}",
+        ),
+    ];
+    for (text, want) in rows {
+        let json = read(rt.alloc(), text)?;
+        assert!(rt; is_lawful(&json));
+        assert_eq!(rt; write(rt.alloc(), &json)?.as_slice(), want);
+    }
+    Ok(())
+}
+
+// RFC 8259 and RFC 3629 say which texts are none; 2^53 - 1 and the forms of numbers are this crate's limits.
+#[test]
+fn each_refusal_has_its_cause(rt: HostRuntime) -> Result<(), Fail> {
+    let none: [&[u8]; 43] = [
+        b"",
+        b" ",
+        b"{",
+        b"[1,]",
+        b"{\"a\":1,}",
+        b"{a:1}",
+        b"'a'",
+        b"tru",
+        b"True",
+        b"NaN",
+        b"{} {}",
+        b"1 2",
+        b"[]x",
+        b"\xef\xbb\xbf{}",
+        // truncated and unknown escapes
+        b"\"\\",
+        b"\"\\\"",
+        b"\"\\u\"",
+        b"\"\\u12\"",
+        b"\"\\u123g\"",
+        b"\"\\x41\"",
+        // lone surrogates, in either half
+        b"\"\\ud800\"",
+        b"\"\\udc00\"",
+        b"\"\\ud83d\\ud83d\"",
+        b"\"\\ud83d\\u0041\"",
+        b"\"\\ude00\\ud83d\"",
+        // no UTF-8: overlong, above U+10FFFF, a surrogate, a stray byte
+        b"\"\xc0\xaf\"",
+        b"\"\xe0\x80\xaf\"",
+        b"\"\xf0\x80\x80\xaf\"",
+        b"\"\xf4\x90\x80\x80\"",
+        b"\"\xed\xa0\x80\"",
+        b"\"\xff\"",
+        b"\"\x80\"",
+        // control characters
+        b"\"\x00\"",
+        b"\"\n\"",
+        b"\"\x1f\"",
+        // numbers
+        b"01",
+        b"-01",
+        b"+1",
+        b".5",
+        b"1.",
+        b"1e",
+        b"1e400",
+        b"{\"a\":1e400,\"a\":1}",
+    ];
+    for text in none {
+        assert_eq!(rt;
+            read(rt.alloc(), text).err(),
+            Some(ReadError::NotJson),
+            "{text:?}"
+        );
+    }
+    let others: [(&[u8], ReadError); 14] = [
+        (b"-0", ReadError::Fraction),
+        (b"1.0", ReadError::Fraction),
+        (b"1e3", ReadError::Fraction),
+        (b"1E-3", ReadError::Fraction),
+        (b"24000.5", ReadError::Fraction),
+        (b"18446744073709551616", ReadError::Fraction),
+        (b"-9223372036854775809", ReadError::Fraction),
+        (b"[9007199254740992,{\"a\":0.5}]", ReadError::Fraction),
+        (b"9007199254740992", ReadError::Range),
+        (b"-9007199254740992", ReadError::Range),
+        (b"9223372036854775808", ReadError::Range),
+        (b"18446744073709551615", ReadError::Range),
+        (b"-9223372036854775808", ReadError::Range),
+        (b"{\"a\":[9007199254740992]}", ReadError::Range),
+    ];
+    for (text, want) in others {
+        assert_eq!(rt; read(rt.alloc(), text).err(), Some(want), "{text:?}");
+    }
+    Ok(())
+}
+
+// The text of a value that nests so deep in one kind of brackets.
+fn nested(
+    alloc: Global,
+    open: &[u8],
+    middle: &[u8],
+    close: u8,
+    depth: usize,
+) -> Result<Vec<u8>, AllocError> {
+    let mut text = Vec::new(alloc);
+    for _ in 0..depth {
+        text.extend_from_slice(open)?;
+    }
+    text.extend_from_slice(middle)?;
+    for _ in 0..depth {
+        text.push(close).map_err(|_| AllocError)?;
+    }
+    Ok(text)
+}
+
+#[test]
+fn a_value_nests_127_deep(rt: HostRuntime) -> Result<(), Fail> {
+    let alloc = rt.alloc();
+    for (open, middle, close) in [
+        (&b"["[..], &b""[..], b']'),
+        (&b"{\"a\":"[..], &b"1"[..], b'}'),
+    ] {
+        let deepest = nested(alloc, open, middle, close, 127)?;
+        let json = read(alloc, &deepest)?;
+        assert_eq!(rt; write(alloc, &json)?.as_slice(), deepest.as_slice());
+        let deeper = nested(alloc, open, middle, close, 128)?;
+        assert_eq!(rt; read(alloc, &deeper).err(), Some(ReadError::NotJson));
+    }
+    Ok(())
+}
+
+#[test]
+fn members_are_found_by_their_names(rt: HostRuntime) -> Result<(), Fail> {
+    let json = read(
+        rt.alloc(),
+        b"{\"f\":false,\"l\":[1,2],\"n\":-7,\"o\":{\"x\":null},\"t\":\"at sea\"}",
+    )?;
+    assert_eq!(rt; text_of(&json, "t").map(|t| t.as_str()), Some("at sea"));
+    assert_eq!(rt; int_of(&json, "n"), Some(-7));
+    assert_eq!(rt; flag_of(&json, "f"), Some(false));
+    assert_eq!(rt; list_of(&json, "l").map(|l| l.len()), Some(2));
+    assert!(rt; matches!(member_of(&json, "o"), Some(Json::Object(_))));
+    for name in ["f", "x", "", "tt"] {
+        assert!(rt; text_of(&json, name).is_none());
+        assert!(rt; int_of(&json, name).is_none());
+        assert!(rt; list_of(&json, name).is_none());
+    }
+    assert!(rt; flag_of(&json, "t").is_none());
+    assert!(rt; member_of(&Json::Null, "t").is_none());
+    Ok(())
+}
+
+fn named(alloc: Global, name: &str, value: Json) -> Result<Member, NoMemory> {
+    Ok(Member::new(CharList::from_text(alloc, name)?, value))
+}
+
+fn pair(alloc: Global, first: &str, second: &str, number: i64) -> Result<Json, NoMemory> {
+    let mut members = Vec::new(alloc);
+    members.push(named(alloc, first, Json::Int(number))?)?;
+    members.push(named(alloc, second, Json::Null)?)?;
+    Ok(Json::Object(MemberList::from_vec(members)))
+}
+
+#[test]
+fn values_are_built_and_copied(rt: HostRuntime) -> Result<(), Fail> {
+    let alloc = rt.alloc();
+    for (first, second, number, lawful) in [
+        ("a", "b", 1, true),
+        ("\u{1F600}", "\u{FB33}", 9_007_199_254_740_991, true),
+        ("\u{FB33}", "\u{1F600}", 1, false),
+        ("b", "a", 1, false),
+        ("a", "a", 1, false),
+        ("a", "b", 9_007_199_254_740_992, false),
+        ("a", "b", -9_007_199_254_740_992, false),
+    ] {
+        let mut items = Vec::new(alloc);
+        items.push(Json::Flag(true))?;
+        items.push(pair(alloc, first, second, number)?)?;
+        let json = Json::List(JsonList::from_vec(items));
+        assert_eq!(rt; is_lawful(&json), lawful);
+        let copy = json.copy(alloc)?;
+        assert_eq!(rt;
+            write(alloc, &copy)?.as_slice(),
+            write(alloc, &json)?.as_slice()
+        );
+    }
+    let list = JsonList::new(alloc).copy(alloc)?;
+    assert_eq!(rt;
+        (list.len(), list.as_slice().len(), list.into_vec().len()),
+        (0, 0, 0)
+    );
+    let members = MemberList::new(alloc).copy(alloc)?;
+    assert_eq!(rt;
+        (
+            members.len(),
+            members.as_slice().len(),
+            members.into_vec().len()
+        ),
+        (0, 0, 0)
+    );
+    canonical_reads();
+    equal_texts_have_equal_values();
+    Ok(())
+}
