@@ -1,0 +1,4 @@
+mod FormsLemmas
+mod DistinctLemmas
+mod IndexLemmas
+mod WritingLemmas

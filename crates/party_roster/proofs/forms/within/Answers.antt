@@ -1,0 +1,13 @@
+use Rattle.std.proofs.Common.{true, false}
+use Rattle.party_roster.proofs.FormsLemmas.{within-test}
+use Rattle.party_roster.proofs.forms.within.Goals as goal
+
+pub returns-then-is_within : goal.returns-then-is_within
+returns-then-is_within c =
+    within-test c.as_slice-items.result.now _ c.args.least c.args.most true c.as_slice-items.ensures.view
+    c.if-is_within.ensures
+
+pub returns-else-is_within : goal.returns-else-is_within
+returns-else-is_within c =
+    within-test c.as_slice-items.result.now _ c.args.least c.args.most false c.as_slice-items.ensures.view
+    c.if-is_within.ensures

@@ -1,0 +1,6 @@
+pub mod Forms
+pub mod Distinct
+pub mod RosterRecord
+pub mod Index
+pub mod Reading
+pub mod Writing

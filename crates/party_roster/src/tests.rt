@@ -1,0 +1,246 @@
+//! Rosters, and the first wrong place of values that are none. In these texts `'` stands for `"`.
+use crate::{Roster, RosterFault, RosterPlace};
+use canonical_json::{Json, ReadError, read};
+use ebl_base::{CarrierCode, Party, PlatformCode, Provider};
+use std::alloc::{AllocError, Global};
+use std::test::Fail;
+
+const PLATFORMS: &str = "['ALPH','BETA']";
+
+const PARTIES: &str = "['ALPH/BANK','ALPH/CARRIER','BETA/IMPORT']";
+
+const CARRIERS: &str =
+    "[{'code':'OCNL','party':'ALPH/CARRIER','provider':'NMFTA'},{'code':'OCNL','party':'BETA/IMPORT','provider':'SMDG'}]";
+
+// The first wrong place of a roster's platforms, parties and carriers, with a second wrong thing behind
+// it where there can be one.
+const PLACES: [(&str, &str, &str, RosterPlace); 19] = [
+    ("[]", "[]", "[]", RosterPlace::Whole),
+    ("{}", PARTIES, CARRIERS, RosterPlace::Whole),
+    (
+        "['alph','BETA',7]",
+        "[]",
+        CARRIERS,
+        RosterPlace::Platform(0),
+    ),
+    (
+        "['ALPH','ALPH','ALPHA']",
+        PARTIES,
+        CARRIERS,
+        RosterPlace::Platform(1),
+    ),
+    (
+        "['ALPH','BETA','ALPH']",
+        "[1]",
+        CARRIERS,
+        RosterPlace::Platform(2),
+    ),
+    (PLATFORMS, "[]", "[]", RosterPlace::Parties),
+    (PLATFORMS, "'ALPH/BANK'", CARRIERS, RosterPlace::Parties),
+    ("['ALPH']", "['BETA/X']", CARRIERS, RosterPlace::PartyAt(0)),
+    (
+        "['ALPH']",
+        "['ALPH-BANK','BETA/X']",
+        CARRIERS,
+        RosterPlace::PartyAt(0),
+    ),
+    (
+        "['ALPH']",
+        "['ALPH/BANK','ALPH/BANK','ALPH/CARRIER','ALPH/EXPORT']",
+        CARRIERS,
+        RosterPlace::PartyAt(1),
+    ),
+    (
+        PLATFORMS,
+        "['BETA/X','GAMM/X','BETA/X']",
+        "[]",
+        RosterPlace::PartyAt(1),
+    ),
+    (
+        PLATFORMS,
+        "['ALPH/BANK','ALPH/CARRIER','ALPH/bank']",
+        "{}",
+        RosterPlace::PartyAt(2),
+    ),
+    (PLATFORMS, PARTIES, "[]", RosterPlace::Carriers),
+    (PLATFORMS, PARTIES, "null", RosterPlace::Carriers),
+    (PLATFORMS, PARTIES, "[7,8]", RosterPlace::CarrierAt(0)),
+    (
+        PLATFORMS,
+        PARTIES,
+        "[{'code':'OCNLX','party':'ALPH/BANK','provider':'SMDG'},1]",
+        RosterPlace::CarrierAt(0),
+    ),
+    (
+        PLATFORMS,
+        PARTIES,
+        "[{'code':'OCNL','party':'ALPH/BANK','provider':'smdg'},1]",
+        RosterPlace::CarrierAt(0),
+    ),
+    (
+        PLATFORMS,
+        PARTIES,
+        "[{'code':'OCNL','party':'ALPH/EXPORT','provider':'SMDG'}]",
+        RosterPlace::CarrierAt(0),
+    ),
+    (
+        PLATFORMS,
+        PARTIES,
+        "[{'code':'OCNL','party':'ALPH/BANK','provider':'SMDG'},{'code':'OCNL','party':'ALPH/CARRIER','provider':'SMDG'}]",
+        RosterPlace::CarrierAt(1),
+    ),
+];
+
+const TAKES_PART: [(&str, bool); 4] = [
+    ("ALPH/BANK", true),
+    ("BETA/IMPORT", true),
+    ("BETA/BANK", false),
+    ("GAMM/BANK", false),
+];
+
+const CARRIERS_FOR: [(Provider, &str, &str); 3] = [
+    (Provider::Nmfta, "OCNL", "ALPH/CARRIER"),
+    (Provider::Smdg, "OCNL", "BETA/IMPORT"),
+    (Provider::Smdg, "OCN", "none"),
+];
+
+// The value that a text is, with quotes for its apostrophes.
+fn json(alloc: Global, text: &str) -> Result<Json, ReadError> {
+    let mut bytes = Vec::new(alloc);
+    for byte in text.bytes() {
+        let quoted = if byte == b'\'' { b'"' } else { byte };
+        if bytes.push(quoted).is_err() {
+            return Err(ReadError::NoMemory);
+        }
+    }
+    read(alloc, &bytes)
+}
+
+// Whether the value that a text is reads as a roster.
+fn answer(alloc: Global, text: &str) -> Option<Result<(), RosterFault>> {
+    let json = json(alloc, text).ok()?;
+    match Roster::read(alloc, &json) {
+        Ok(_) => Some(Ok(())),
+        Err(fault) => Some(Err(fault)),
+    }
+}
+
+fn fault(place: RosterPlace) -> Option<Result<(), RosterFault>> {
+    Some(Err(RosterFault::RosterForm(place)))
+}
+
+fn text_of(
+    alloc: Global,
+    platforms: &str,
+    parties: &str,
+    carriers: &str,
+) -> Result<String, AllocError> {
+    format!(in alloc;
+        "{{'parties':{parties},'further':[],'carriers':{carriers},'platforms':{platforms}}}"
+    )
+}
+
+// Members come in any order, and further members are ignored.
+#[test]
+fn looks_up(rt: HostRuntime) -> Result<(), Fail> {
+    let text = text_of(rt.alloc(), PLATFORMS, PARTIES, CARRIERS)?;
+    let Ok(json) = json(rt.alloc(), &text) else {
+        panic!(rt; "no JSON");
+    };
+    let Ok(roster) = Roster::read(rt.alloc(), &json) else {
+        panic!(rt; "no roster");
+    };
+    let platforms = [
+        PlatformCode::try_new(b"ALPH"),
+        PlatformCode::try_new(b"BETA"),
+    ];
+    assert_eq!(rt; roster.platforms().first().copied(), platforms[0]);
+    assert_eq!(rt; roster.platforms().len(), 2);
+    assert_eq!(rt;
+        platforms[1].map(|platform| roster.has_platform(platform)),
+        Some(true)
+    );
+    assert_eq!(rt;
+        PlatformCode::try_new(b"GAMM").map(|platform| roster.has_platform(platform)),
+        Some(false)
+    );
+    assert_eq!(rt;
+        roster.parties().last().copied(),
+        Party::from_text(b"BETA/IMPORT")
+    );
+    assert_eq!(rt;
+        roster.carriers().first().map(|carrier| carrier.party),
+        Party::from_text(b"ALPH/CARRIER")
+    );
+    for (text, want) in &TAKES_PART {
+        assert_eq!(rt;
+            Party::from_text(text.as_bytes()).map(|party| roster.knows(party)),
+            Some(*want),
+            "{text}"
+        );
+    }
+    for (provider, code, want) in &CARRIERS_FOR {
+        let party = CarrierCode::try_new(code.as_bytes()).and_then(|code| roster.carrier(
+            *provider, code,
+        ));
+        assert_eq!(rt; party, Party::from_text(want.as_bytes()), "{code}");
+    }
+    Ok(())
+}
+
+#[test]
+fn names_the_first_wrong_place(rt: HostRuntime) -> Result<(), Fail> {
+    for (platforms, parties, carriers, want) in &PLACES {
+        let text = text_of(rt.alloc(), platforms, parties, carriers)?;
+        assert_eq!(rt; answer(rt.alloc(), &text), fault(*want), "{text}");
+    }
+    assert_eq!(rt; answer(rt.alloc(), "[]"), fault(RosterPlace::Whole));
+    Ok(())
+}
+
+// A list of texts, each with its number behind a front.
+fn numbered(alloc: Global, count: usize, front: &str, behind: &str) -> Result<String, AllocError> {
+    let mut list = String::from_str(alloc, "[")?;
+    for i in 0..count {
+        let comma = if i == 0 { "" } else { "," };
+        let item = format!(in alloc; "{comma}{front}{i}{behind}")?;
+        list.push_str(&item)?;
+    }
+    list.push_str("]")?;
+    Ok(list)
+}
+
+// One more than the most of each list is too many, and the most is not.
+#[test]
+fn lists_at_their_limits(rt: HostRuntime) -> Result<(), Fail> {
+    let alloc = rt.alloc();
+    let carriers = "[{'code':'A','party':'PLT0/A','provider':'SMDG'}]";
+    for (count, want) in [(8, Some(Ok(()))), (9, fault(RosterPlace::Whole))] {
+        let platforms = numbered(alloc, count, "'PLT", "'")?;
+        assert_eq!(rt;
+            answer(alloc, &text_of(alloc, &platforms, "['PLT0/A']", carriers)?),
+            want
+        );
+    }
+    for (count, want) in [(1024, Some(Ok(()))), (1025, fault(RosterPlace::Parties))] {
+        let parties = numbered(alloc, count, "'PLT0/", "'")?;
+        let carriers = "[{'code':'A','party':'PLT0/1023','provider':'SMDG'}]";
+        assert_eq!(rt;
+            answer(alloc, &text_of(alloc, "['PLT0']", &parties, carriers)?),
+            want
+        );
+    }
+    for (count, want) in [(64, Some(Ok(()))), (65, fault(RosterPlace::Carriers))] {
+        let carriers = numbered(
+            alloc,
+            count,
+            "{'party':'PLT0/A','provider':'SMDG','code':'C",
+            "'}",
+        )?;
+        assert_eq!(rt;
+            answer(alloc, &text_of(alloc, "['PLT0']", "['PLT0/A']", &carriers)?),
+            want
+        );
+    }
+    Ok(())
+}
