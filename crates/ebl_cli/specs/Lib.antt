@@ -1,0 +1,9 @@
+pub mod World
+pub mod Names
+pub mod Step
+pub mod Lines
+pub mod Script
+pub mod Run
+pub mod Canon
+pub mod Command
+pub mod Status

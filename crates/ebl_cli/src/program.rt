@@ -1,0 +1,115 @@
+//! The program around the top call: its words, its exit, and its line on standard error.
+ghost use Rattle.std.specs.Prelude.{◌≡◌};
+ghost use Rattle.ebl_cli.specs.Status.{exit_of};
+
+use crate::run::run_ebl;
+use crate::status::Status;
+use canonical_json::ReadError;
+use ebl_edge::{Sink, standard_input, standard_output};
+use std::alloc::Global;
+use std::io::Input;
+use std::process::ExitCode;
+use std::rt::Env;
+use std::{env, io};
+
+const HELP: &str = "ebl: electronic bills of lading on title platforms
+
+usage:
+  ebl drive       reads a script from standard input, one JSON object a line, and
+                  writes a line for each event, and then a line for each bill
+  ebl canon       reads one JSON value from standard input, and writes its canonical
+                  text (RFC 8785) and that text's SHA-256 checksum
+  ebl --help      writes this text
+  ebl --version   writes the version
+
+exits: 0 done; 2 usage; 3 a line is not a script line; 4 the input is too long;
+5 JSON is refused; 10 read fault; 11 write fault; 12 no memory
+";
+
+const VERSION: &str = "ebl 0.1.0\n";
+
+/// Runs the program by its words, writes the line of its status to standard error, and answers its exit.
+pub fn run_program<R: Alloc<A = Global> + Env + Eprint + Input + Print>(rt: &R) -> ExitCode {
+    let status = match words(rt) {
+        Ok(words) => run_words(rt, &words),
+        Err(fault) => fault_status(&fault),
+    };
+    // Where standard error fails, nothing is left to tell it but the exit.
+    let _ = report(rt, status);
+    ExitCode::from(exit_of(status))
+}
+
+// The words behind the program's name.
+fn words<R: Alloc<A = Global> + Env>(rt: &R) -> io::Result<Vec<String>> {
+    let mut words = Vec::new(rt.alloc());
+    for word in env::args(rt)?.skip(1) {
+        words.push(word)?;
+    }
+    Ok(words)
+}
+
+// A word that is no text is a faulty command line.
+fn fault_status(fault: &io::Error) -> Status {
+    match fault.kind() {
+        io::ErrorKind::OutOfMemory => Status::NoMemory,
+        _ => Status::Usage,
+    }
+}
+
+fn run_words<R: Alloc<A = Global> + Input + Print>(rt: &R, words: &Vec<String>) -> Status {
+    let mut sink = standard_output(rt);
+    match words.as_slice() {
+        [word] if word.as_str() == "--help" => put_text(&mut sink, HELP),
+        [word] if word.as_str() == "--version" => put_text(&mut sink, VERSION),
+        _ => {
+            let mut source = standard_input(rt);
+            run_ebl(rt.alloc(), words, &mut source, &mut sink)
+        }
+    }
+}
+
+fn put_text<K: Sink>(sink: &mut K, text: &str) -> Status {
+    match sink.put(text.as_bytes()) {
+        Ok(()) => Status::Done,
+        Err(_) => Status::WriteFault,
+    }
+}
+
+/// The program's exit for a status.
+#[tactic(auto, unfolding(crate::specs::Status::exit_of))]
+pub fn exit_of(status: Status) -> u8
+    ensures { result ≡ exit_of status }
+{
+    match status {
+        Status::Done => 0,
+        Status::Usage => 2,
+        Status::BadScript(_) => 3,
+        Status::TooLong => 4,
+        Status::BadJson(_) => 5,
+        Status::ReadFault => 10,
+        Status::WriteFault => 11,
+        Status::NoMemory => 12,
+    }
+}
+
+fn report<R: Eprint>(rt: &R, status: Status) -> io::Result<()> {
+    match status {
+        Status::Done => Ok(()),
+        Status::Usage => eprintln!(rt; "ebl: usage"),
+        Status::BadScript(n) => eprintln!(rt; "ebl: line {n} is not a script line"),
+        Status::TooLong => eprintln!(rt; "ebl: the input is too long"),
+        Status::BadJson(error) => eprintln!(rt; "ebl: JSON is refused: {}", error_name(error)),
+        Status::ReadFault => eprintln!(rt; "ebl: read fault"),
+        Status::WriteFault => eprintln!(rt; "ebl: write fault"),
+        Status::NoMemory => eprintln!(rt; "ebl: no memory"),
+    }
+}
+
+fn error_name(error: ReadError) -> &'static str {
+    match error {
+        ReadError::NotJson => "NOT_JSON",
+        ReadError::Fraction => "FRACTION",
+        ReadError::Range => "RANGE",
+        ReadError::NoMemory => "NO_MEMORY",
+    }
+}

@@ -1,0 +1,23 @@
+//! How a run of the program ends.
+use canonical_json::ReadError;
+
+/// How a run of the program ends. The first of these that fits, in the order of the variants but for `Done`.
+#[derive(Clone, Copy, Debug, PartialEq, Eq)]
+pub enum Status {
+    /// Each line was answered, and the bill lines stand.
+    Done,
+    /// The words are no command.
+    Usage,
+    /// The source failed.
+    ReadFault,
+    /// The source has more than 67,108,864 bytes.
+    TooLong,
+    /// `canon` alone: the input is no JSON with whole numbers in range, and why.
+    BadJson(ReadError),
+    /// The line of this number, counted from 1, is the first outside the grammar, or the line 100,001. The answers before it stand.
+    BadScript(u64),
+    /// The sink failed. What it took is a first part of the answers.
+    WriteFault,
+    /// Memory ran out. What was written is a first part of the answers.
+    NoMemory,
+}

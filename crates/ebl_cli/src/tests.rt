@@ -1,0 +1,304 @@
+//! The top call over memory: what is written, to the byte, and each status.
+use crate::run::run_ebl;
+use crate::status::Status;
+use canonical_json::ReadError;
+use ebl_base::{ByteList, CallList, NoMemory};
+use ebl_edge::{MemorySink, MemorySource, RepeatedSource};
+use std::alloc::Global;
+use std::process::Abort;
+use std::test::Fail;
+
+const ROSTER: &str =
+    r#"{"roster":{"carriers":[{"code":"OCNL","party":"ALPH/CARRIER","provider":"NMFTA"}],"parties":["ALPH/BANK","ALPH/CARRIER","ALPH/EXPORT"],"platforms":["ALPH"]}}
+"#;
+
+const SIGN: &str =
+    r#"{"at":"ALPH","do":"SIGN","document":{"carrierCode":"OCNL","carrierCodeListProvider":"NMFTA","isToOrder":true,"transportDocumentReference":"OCNL0000001","transportDocumentTypeCode":"BOL"},"now":1000,"party":"ALPH/CARRIER"}
+"#;
+
+const SIGNED: &str =
+    r#"{"event":1,"reply":"DONE","sent":[],"view":{"bill":1,"entries":0,"holder":"ALPH/CARRIER","place":"HELD","possessor":"ALPH/CARRIER","state":"SIGNED"}}
+"#;
+
+const SIGNED_BILL: &str =
+    r#"{"acts":["ALPH"],"bill":1,"end":"ALPH","entries":0,"forked":false,"holder":"ALPH/CARRIER","possessor":"ALPH/CARRIER","state":"SIGNED"}
+"#;
+
+const FIRST_RUN: &str =
+    r#"{"at":"ALPH","do":"SIGN","document":{"carrierCode":"OCNL","carrierCodeListProvider":"NMFTA","grossWeight":{"unit":"KGM","value":24000},"isToOrder":true,"transportDocumentReference":"OCNL0000001","transportDocumentTypeCode":"BOL"},"now":1000,"party":"ALPH/CARRIER"}
+{"at":"ALPH","bill":1,"do":"ISSUE","now":2000,"party":"ALPH/CARRIER","recipient":"ALPH/EXPORT"}
+{"at":"ALPH","bill":1,"do":"ENDORSE","now":3000,"party":"ALPH/EXPORT","recipient":"ALPH/BANK"}
+"#;
+
+const TRANSFER_TO_BANK: &str =
+    r#"{"at":"ALPH","bill":1,"do":"TRANSFER","now":4000,"party":"ALPH/EXPORT","recipient":"ALPH/BANK"}
+"#;
+
+const TRANSFER_BY_BANK: &str =
+    r#"{"at":"ALPH","bill":1,"do":"TRANSFER","now":4000,"party":"ALPH/BANK","recipient":"ALPH/CARRIER"}
+"#;
+
+const FIRST_THREE_ANSWERS: &str =
+    r#"{"event":1,"reply":"DONE","sent":[],"view":{"bill":1,"entries":0,"holder":"ALPH/CARRIER","place":"HELD","possessor":"ALPH/CARRIER","state":"SIGNED"}}
+{"event":2,"reply":"DONE","sent":[],"view":{"bill":1,"entries":0,"holder":"ALPH/EXPORT","place":"HELD","possessor":"ALPH/EXPORT","state":"LIVE"}}
+{"event":3,"reply":"DONE","sent":[],"view":{"bill":1,"entries":0,"holder":"ALPH/BANK","place":"HELD","possessor":"ALPH/EXPORT","state":"LIVE"}}
+"#;
+
+const FOURTH_ANSWER: &str =
+    r#"{"event":4,"reply":"DONE","sent":[],"view":{"bill":1,"entries":0,"holder":"ALPH/BANK","place":"HELD","possessor":"ALPH/BANK","state":"LIVE"}}
+{"acts":["ALPH"],"bill":1,"end":"ALPH","entries":0,"forked":false,"holder":"ALPH/BANK","possessor":"ALPH/BANK","state":"LIVE"}
+"#;
+
+const FOURTH_REFUSED: &str = r#"{"event":4,"reply":"NOT_ALLOWED","rule":"F7","sent":[]}
+{"acts":["ALPH"],"bill":1,"end":"ALPH","entries":0,"forked":false,"holder":"ALPH/BANK","possessor":"ALPH/EXPORT","state":"LIVE"}
+"#;
+
+fn words_of(alloc: Global, word: &str) -> Result<Vec<String>, NoMemory> {
+    let word = String::from_str(alloc, word)?;
+    Ok(vec![in alloc; word]?)
+}
+
+fn text_of(alloc: Global, pieces: &[&str]) -> Result<ByteList, NoMemory> {
+    let mut text = ByteList::new(alloc);
+    for piece in pieces {
+        text.extend_from_slice(piece.as_bytes())?;
+    }
+    Ok(text)
+}
+
+// Runs the command of this word on the pieces of a text, and compares the status and the bytes written.
+fn expect_of(
+    rt: &impl Abort,
+    alloc: Global,
+    word: &str,
+    text: &[&str],
+    status: Status,
+    written: &[u8],
+) -> Result<(), NoMemory> {
+    let words = words_of(alloc, word)?;
+    let mut source = MemorySource::new(text_of(alloc, text)?, CallList::new(alloc));
+    let mut sink = MemorySink::new(alloc, CallList::new(alloc));
+    assert_eq!(rt; run_ebl(alloc, &words, &mut source, &mut sink), status);
+    assert!(rt; sink.written() == written);
+    Ok(())
+}
+
+// Runs `drive` on the pieces of a script.
+fn expect(
+    rt: &impl Abort,
+    alloc: Global,
+    script: &[&str],
+    status: Status,
+    written: &[&str],
+) -> Result<(), NoMemory> {
+    let written = text_of(alloc, written)?;
+    expect_of(rt, alloc, "drive", script, status, written.as_slice())
+}
+
+#[test]
+fn a_bill_is_signed(rt: HostRuntime) -> Result<(), Fail> {
+    let alloc = rt.alloc();
+    expect(
+        &rt,
+        alloc,
+        &[ROSTER, SIGN],
+        Status::Done,
+        &[SIGNED, SIGNED_BILL],
+    )?;
+    expect(&rt, alloc, &[ROSTER], Status::Done, &[])?;
+    let known = "{\"event\":2,\"reply\":\"KNOWN_BILL\",\"sent\":[]}\n";
+    expect(
+        &rt,
+        alloc,
+        &[ROSTER, SIGN, SIGN],
+        Status::Done,
+        &[SIGNED, known, SIGNED_BILL],
+    )?;
+    Ok(())
+}
+
+#[test]
+fn first_run(rt: HostRuntime) -> Result<(), Fail> {
+    let alloc = rt.alloc();
+    expect(
+        &rt,
+        alloc,
+        &[ROSTER, FIRST_RUN, TRANSFER_TO_BANK],
+        Status::Done,
+        &[FIRST_THREE_ANSWERS, FOURTH_ANSWER],
+    )?;
+    expect(
+        &rt,
+        alloc,
+        &[ROSTER, FIRST_RUN, TRANSFER_BY_BANK],
+        Status::Done,
+        &[FIRST_THREE_ANSWERS, FOURTH_REFUSED],
+    )?;
+    let no_bill = "{\"event\":1,\"reply\":\"NO_BILL\",\"sent\":[]}\n";
+    expect(
+        &rt,
+        alloc,
+        &[ROSTER, TRANSFER_BY_BANK],
+        Status::Done,
+        &[no_bill],
+    )?;
+    Ok(())
+}
+
+#[test]
+fn refused_scripts(rt: HostRuntime) -> Result<(), Fail> {
+    let alloc = rt.alloc();
+    // A script, the first line outside the grammar, and the answers before it.
+    let rows: [(&[&str], u64, &[&str]); 12] = [
+        (&[], 1, &[]),
+        (&["\n"], 1, &[]),
+        (&["{}\n"], 1, &[]),
+        (&[SIGN], 1, &[]),
+        (
+            &[
+                "{\"roster\":{\"carriers\":[{\"code\":\"OCNL\",\"party\":\"ALPH/A\",\"provider\":\"NMFTA\"}],\"parties\":[\"ALPH/A\"],\"platforms\":[\"ALPH\",\"BETA\"]}}\n",
+            ],
+            1,
+            &[],
+        ),
+        (&[ROSTER, "{"], 2, &[]),
+        (&[ROSTER, "\n"], 2, &[]),
+        (
+            &[
+                ROSTER,
+                SIGN,
+                "{\"at\":\"ALPH\",\"do\":\"ISSUE\",\"bill\":1.5,\"party\":\"ALPH/CARRIER\"}\n",
+            ],
+            3,
+            &[SIGNED],
+        ),
+        (
+            &[
+                ROSTER,
+                SIGN,
+                "{\"at\":\"ALPH\",\"do\":\"ISSUE\",\"bill\":\"1\",\"party\":\"ALPH/CARRIER\"}\n",
+            ],
+            3,
+            &[SIGNED],
+        ),
+        (
+            &[
+                ROSTER,
+                SIGN,
+                "{\"at\":\"ALPH\",\"do\":\"ISSUE\",\"bill\":1,\"party\":\"ALPH/NOBODY\"}\n",
+            ],
+            3,
+            &[SIGNED],
+        ),
+        (
+            &[
+                ROSTER,
+                "{\"at\":\"ALPH\",\"do\":\"SIGN\",\"document\":{},\"party\":\"ALPH/BANK\"}\n",
+            ],
+            2,
+            &[],
+        ),
+        (&[ROSTER, SIGN, "\n", SIGN], 3, &[SIGNED]),
+    ];
+    for (script, line, written) in rows {
+        expect(&rt, alloc, script, Status::BadScript(line), written)?;
+    }
+    Ok(())
+}
+
+#[test]
+fn words_and_lengths(rt: HostRuntime) -> Result<(), Fail> {
+    let alloc = rt.alloc();
+    let none = Vec::new(alloc);
+    let mut source = MemorySource::new(ByteList::new(alloc), CallList::new(alloc));
+    let mut sink = MemorySink::new(alloc, CallList::new(alloc));
+    assert_eq!(rt;
+        run_ebl(alloc, &none, &mut source, &mut sink),
+        Status::Usage
+    );
+    let unknown = words_of(alloc, "driven")?;
+    assert_eq!(rt;
+        run_ebl(alloc, &unknown, &mut source, &mut sink),
+        Status::Usage
+    );
+    let drive = words_of(alloc, "drive")?;
+    let mut long = RepeatedSource::new(b' ', 67_108_865);
+    assert_eq!(rt;
+        run_ebl(alloc, &drive, &mut long, &mut sink),
+        Status::TooLong
+    );
+    assert!(rt; sink.written().is_empty());
+    Ok(())
+}
+
+#[test]
+fn faults_of_the_outside(rt: HostRuntime) -> Result<(), Fail> {
+    let alloc = rt.alloc();
+    let words = words_of(alloc, "drive")?;
+    let script = [ROSTER, FIRST_RUN, TRANSFER_TO_BANK];
+    let whole = text_of(alloc, &[FIRST_THREE_ANSWERS, FOURTH_ANSWER])?;
+    for call in 0..7u64 {
+        let fails = CallList::from_slice(alloc, &[call]).map_err(|_| "memory")?;
+        let mut source = MemorySource::new(text_of(alloc, &script)?, CallList::new(alloc));
+        let mut sink = MemorySink::tearing(alloc, fails);
+        let status = run_ebl(alloc, &words, &mut source, &mut sink);
+        // Four answers and the bill lines are put.
+        let wanted = if call < 5 {
+            Status::WriteFault
+        } else {
+            Status::Done
+        };
+        assert_eq!(rt; status, wanted, "at put {call}");
+        assert!(rt;
+            whole.as_slice().starts_with(sink.written()),
+            "at put {call}"
+        );
+    }
+    for call in 0..4u64 {
+        let fails = CallList::from_slice(alloc, &[call]).map_err(|_| "memory")?;
+        let mut source = MemorySource::new(text_of(alloc, &script)?, fails);
+        let mut sink = MemorySink::new(alloc, CallList::new(alloc));
+        let status = run_ebl(alloc, &words, &mut source, &mut sink);
+        // The script comes in one read, and its end in another.
+        let wanted = if call < 2 {
+            Status::ReadFault
+        } else {
+            Status::Done
+        };
+        assert_eq!(rt; status, wanted, "at read {call}");
+        assert_eq!(rt; sink.written().is_empty(), call < 2, "at read {call}");
+    }
+    Ok(())
+}
+
+#[test]
+fn canonical_texts(rt: HostRuntime) -> Result<(), Fail> {
+    let alloc = rt.alloc();
+    let empty = b"{}\n44136fa355b3678a1146ad16f7e8649e94fb4fc21fe77e8310c060f61caaff8a\n";
+    expect_of(&rt, alloc, "canon", &[" { } \n"], Status::Done, empty)?;
+    // The names in the order of their UTF-16 code units.
+    let names =
+        b"{\"\\r\":1,\"1\":2,\"\xc2\x80\":3,\"\xc3\xb6\":4,\"\xe2\x82\xac\":5,\"\xf0\x9f\x98\x80\":6,\"\xef\xac\xb3\":7}\n4bd52d82f332c2e5c7206abd57c74b45dd4f0fef63ab7af87b8bde4481e450e7\n";
+    let text = r#"{"\ufb33":7,"\ud83d\ude00":6,"\u20ac":5,"\u00f6":4,"\u0080":3,"1":2,"\r":1}"#;
+    expect_of(&rt, alloc, "canon", &[text], Status::Done, names)?;
+    let greatest =
+        b"9007199254740991\nf40b423c2dd95ff2b2f027e22208f438cf7242862e5e746860e697308c9add26\n";
+    expect_of(
+        &rt,
+        alloc,
+        "canon",
+        &["9007199254740991"],
+        Status::Done,
+        greatest,
+    )?;
+    let refused = [
+        ("9007199254740992", ReadError::Range),
+        ("24000.5", ReadError::Fraction),
+        ("{", ReadError::NotJson),
+        ("", ReadError::NotJson),
+    ];
+    for (text, error) in refused {
+        expect_of(&rt, alloc, "canon", &[text], Status::BadJson(error), b"")?;
+    }
+    Ok(())
+}
