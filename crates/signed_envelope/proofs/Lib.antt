@@ -1,0 +1,6 @@
+pub mod Stops
+pub mod PartsLemmas
+pub mod Refusals
+pub mod Readings
+pub mod Utf8Bytes
+pub mod Composed
