@@ -1,0 +1,13 @@
+//! Rings of keys for tests: HS256 with keys that anybody can derive. They give no security.
+#![tactic(auto)]
+
+mod failing_ring;
+mod hmac;
+mod keyed_ring;
+mod keys;
+mod tags;
+#[cfg(test)]
+mod tests;
+
+pub use failing_ring::FailingRing;
+pub use keyed_ring::KeyedRing;
