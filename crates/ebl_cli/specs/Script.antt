@@ -18,8 +18,8 @@ use Rattle.canonical_json.specs.Field.{member_of, text_of, int_of, as_int}
 use Rattle.document_checksum.specs.Digest.{checksum_of}
 use Rattle.party_roster.specs.RosterRecord.{RosterRecord, knows}
 use Rattle.party_roster.specs.Reading.{roster_of}
-use Rattle.party_roster.specs.Forms.{platform_under}
-use Rattle.party_roster.specs.Forms as forms
+use Rattle.json_forms.specs.Reading.{platform_under}
+use Rattle.json_forms.specs.Reading as forms
 use Rattle.party_roster.specs.declared.carrier.Carrier.{Carrier}
 use Rattle.ebl_cli.specs.declared.event.Event.{Event}
 use Rattle.ebl_cli.specs.declared.event.Deed.{Deed}

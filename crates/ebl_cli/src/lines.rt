@@ -9,8 +9,9 @@ ghost use Rattle.ebl_cli.specs.declared.answer.Answer.TheVariants.{Done, NotAllo
 
 use crate::answer::{Answer, View};
 use crate::bill::Bill;
-use canonical_json::{Json, JsonList, Member, MemberList, write};
-use ebl_base::{ByteList, CharList, NoMemory, Party, PlatformCode};
+use canonical_json::{Json, Member, write};
+use ebl_base::{ByteList, NoMemory, PlatformCode};
+use json_forms::{list_json, member, number_member, object_json, party_member, text_json, text_member};
 use std::alloc::Global;
 use title_fold::{FoldRefusal, Title, possessor, title_holder};
 
@@ -62,61 +63,11 @@ fn line_of(alloc: Global, value: &Json) -> Result<ByteList, NoMemory>
 
 // ---- values
 
-fn number(n: u32) -> Json
-    ensures { view result ≡ number n }
-{
-    Json::Int(i64::from(n))
-}
-
-fn text(alloc: Global, chars: &str) -> Result<Json, NoMemory>
-    ensures { IfOk result (λ json. view json ≡ text chars.now) }
-{
-    Ok(Json::Text(CharList::from_text(alloc, chars)?))
-}
-
-fn object(members: Vec<Member>) -> Json
-    ensures { view result ≡ object (members_view members.items) }
-{
-    Json::Object(MemberList::from_vec(members))
-}
-
-fn list(items: Vec<Json>) -> Json
-    ensures { view result ≡ list (items_view items.items) }
-{
-    Json::List(JsonList::from_vec(items))
-}
-
-fn member(alloc: Global, name: &str, value: Json) -> Result<Member, NoMemory>
-    ensures { IfOk result (λ m. member_view m ≡ (name.now, view value)) }
-{
-    let name = CharList::from_text(alloc, name)?;
-    Ok(Member { name, value })
-}
-
-fn number_member(alloc: Global, name: &str, n: u32) -> Result<Member, NoMemory>
-    ensures { IfOk result (λ m. member_view m ≡ (name.now, number n)) }
-{
-    member(alloc, name, number(n))
-}
-
-fn text_member(alloc: Global, name: &str, chars: &str) -> Result<Member, NoMemory>
-    ensures { IfOk result (λ m. member_view m ≡ (name.now, text chars.now)) }
-{
-    let value = text(alloc, chars)?;
-    member(alloc, name, value)
-}
-
-fn party_member(alloc: Global, name: &str, party: Party) -> Result<Member, NoMemory>
-    ensures { IfOk result (λ m. member_view m ≡ (name.now, text (party_text party))) }
-{
-    text_member(alloc, name, party.to_text().as_str())
-}
-
 // No message is sent on one platform.
 fn sent_member(alloc: Global) -> Result<Member, NoMemory>
     ensures { IfOk result (λ m. member_view m ≡ (codes "sent", list no_values)) }
 {
-    member(alloc, "sent", list(Vec::new(alloc)))
+    member(alloc, "sent", list_json(Vec::new(alloc)))
 }
 
 fn state_name(title: Title) -> &'static str
@@ -150,49 +101,49 @@ fn view_value(alloc: Global, v: View) -> Result<Json, NoMemory>
     ensures { IfOk result (λ json. view json ≡ view_value v) }
 {
     let members = vec![in alloc;
-        number_member(alloc, "bill", v.bill)?,
+        number_member(alloc, "bill", u64::from(v.bill))?,
         number_member(alloc, "entries", 0)?,
         party_member(alloc, "holder", title_holder(v.title))?,
         text_member(alloc, "place", "HELD")?,
         party_member(alloc, "possessor", possessor(v.title))?,
         text_member(alloc, "state", state_name(v.title))?,
     ]?;
-    Ok(object(members))
+    Ok(object_json(members))
 }
 
 fn bare_answer(alloc: Global, n: u32, reply: &str) -> Result<Json, NoMemory>
     ensures { IfOk result (λ json. view json ≡ bare_answer n reply.now) }
 {
     let members = vec![in alloc;
-        number_member(alloc, "event", n)?,
+        number_member(alloc, "event", u64::from(n))?,
         text_member(alloc, "reply", reply)?,
         sent_member(alloc)?,
     ]?;
-    Ok(object(members))
+    Ok(object_json(members))
 }
 
 fn done_answer(alloc: Global, n: u32, v: View) -> Result<Json, NoMemory>
     ensures { IfOk result (λ json. view json ≡ answer_value n (Done v)) }
 {
     let members = vec![in alloc;
-        number_member(alloc, "event", n)?,
+        number_member(alloc, "event", u64::from(n))?,
         text_member(alloc, "reply", "DONE")?,
         sent_member(alloc)?,
         member(alloc, "view", view_value(alloc, v)?)?,
     ]?;
-    Ok(object(members))
+    Ok(object_json(members))
 }
 
 fn refusal_answer(alloc: Global, n: u32, rule: FoldRefusal) -> Result<Json, NoMemory>
     ensures { IfOk result (λ json. view json ≡ answer_value n (NotAllowed rule)) }
 {
     let members = vec![in alloc;
-        number_member(alloc, "event", n)?,
+        number_member(alloc, "event", u64::from(n))?,
         text_member(alloc, "reply", "NOT_ALLOWED")?,
         text_member(alloc, "rule", rule_name(rule))?,
         sent_member(alloc)?,
     ]?;
-    Ok(object(members))
+    Ok(object_json(members))
 }
 
 fn answer_value(alloc: Global, n: u32, answer: Answer) -> Result<Json, NoMemory>
@@ -211,10 +162,10 @@ fn acting(alloc: Global, platform: PlatformCode, title: Title) -> Result<Json, N
     ensures { IfOk result (λ json. view json ≡ list (acting platform (Some title))) }
 {
     if let Title::Ended { .. } = title {
-        return Ok(list(Vec::new(alloc)));
+        return Ok(list_json(Vec::new(alloc)));
     }
-    let items = vec![in alloc; text(alloc, platform.as_str())?]?;
-    Ok(list(items))
+    let items = vec![in alloc; text_json(alloc, platform.as_str())?]?;
+    Ok(list_json(items))
 }
 
 fn bill_value(alloc: Global, platform: PlatformCode, n: u32, title: Title) -> Result<Json, NoMemory>
@@ -222,7 +173,7 @@ fn bill_value(alloc: Global, platform: PlatformCode, n: u32, title: Title) -> Re
 {
     let members = vec![in alloc;
         member(alloc, "acts", acting(alloc, platform, title)?)?,
-        number_member(alloc, "bill", n)?,
+        number_member(alloc, "bill", u64::from(n))?,
         text_member(alloc, "end", platform.as_str())?,
         number_member(alloc, "entries", 0)?,
         member(alloc, "forked", Json::Flag(false))?,
@@ -230,5 +181,5 @@ fn bill_value(alloc: Global, platform: PlatformCode, n: u32, title: Title) -> Re
         party_member(alloc, "possessor", possessor(title))?,
         text_member(alloc, "state", state_name(title))?,
     ]?;
-    Ok(object(members))
+    Ok(object_json(members))
 }

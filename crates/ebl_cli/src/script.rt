@@ -10,7 +10,8 @@ use crate::event::{Deed, Event};
 use canonical_json::{Json, ReadError, int_of, member_of, read, text_of, write};
 use document_checksum::checksum;
 use ebl_base::{Checksum, Kind, Moment, NoMemory, Party, PlatformCode};
-use party_roster::{Roster, RosterFault, platform_under};
+use json_forms::platform_under;
+use party_roster::{Roster, RosterFault};
 use std::alloc::Global;
 
 /// What the first line of a script gives.
@@ -109,7 +110,7 @@ fn event_of(alloc: Global, start: &Start, json: &Json) -> Result<Option<Event>, 
 fn listed(roster: &Roster, json: &Json) -> Option<Party>
     ensures { result ≡ listed roster.now (view json.now) }
 {
-    let party = party_roster::party_in(json)?;
+    let party = json_forms::party_in(json)?;
     if roster.knows(party) {
         Some(party)
     } else {

@@ -3,7 +3,7 @@ use Rattle.std.proofs.Common.{◌≡◌, ℕ, suc, ◌+◌, Bool, true, false, L
 use Rattle.canonical_json.specs.Value.{Value}
 use Rattle.canonical_json.specs.View.{view, items_view}
 use Rattle.canonical_json.specs.declared.value.Json.{Json}
-use Rattle.party_roster.specs.Forms.{each}
+use Rattle.json_forms.specs.Reading.{each}
 use Rattle.std.specs.Set.{is_member}
 use Rattle.party_roster.specs.Distinct.{fresh, here_or_behind, first_wrong, present, unless_wrong, distinct}
 

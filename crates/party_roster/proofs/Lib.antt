@@ -1,4 +1,3 @@
-mod FormsLemmas
 mod DistinctLemmas
 mod IndexLemmas
 mod WritingLemmas

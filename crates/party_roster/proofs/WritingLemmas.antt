@@ -16,39 +16,15 @@ use Rattle.ebl_base.proofs.TextLemmas.{code_text-code_of, party_text-party_of, p
 use Rattle.party_roster.specs.declared.carrier.Carrier.{Carrier}
 use Rattle.party_roster.specs.declared.fault.RosterPlace.{RosterPlace}
 use Rattle.party_roster.specs.declared.fault.RosterPlace.TheVariants.{Whole, Platform, Parties, PartyAt, Carriers, CarrierAt}
-use Rattle.party_roster.specs.Forms.{platform_in, party_in, party_under, provider_under, carrier_code_under, count_of, within, each}
+use Rattle.json_forms.specs.Reading.{platform_in, party_in, party_under, provider_under, carrier_code_under, count_of, within, each}
 use Rattle.party_roster.specs.Distinct.{fresh, here_or_behind, first_wrong, present, unless_wrong, distinct}
 use Rattle.party_roster.specs.RosterRecord.{RosterRecord, same_carrier}
 use Rattle.party_roster.specs.Reading.{list_read, platforms_of, on_listed, listed_party, parties_of, carrier_with, carrier_in, of_listed, listed_carrier, carriers_of, then_read, roster_of}
-use Rattle.party_roster.specs.Writing.{each_written, platform_value, party_value, carrier_value, roster_value}
+use Rattle.json_forms.specs.Writing.{each_written, platform_value, party_value}
+use Rattle.json_forms.proofs.RoundTrips.{ReadsBack, again, kept, platform-reads_back, count_of-each}
+use Rattle.party_roster.specs.Writing.{carrier_value, roster_value}
 
 -- ---- items
-
--- what is written of an item that a value was read as reads as that item
-abbrev pub ReadsBack : {T : Type 0} → (Value → Option T) → (T → Value) → Type 0
-ReadsBack {T} form write = (v : Value) (x : T) → form v ≡ Some x → form (write x) ≡ Some x
-
--- a value that some text gave
-text_behind : {T : Type 0} (read : List ℕ → Option T) (said : Option (List ℕ)) (x : T)
-    → option_and_then read said ≡ Some x → (t : List ℕ) × (read t ≡ Some x)
-text_behind read None x h = cc
-text_behind read (Some t) x h = (t, h)
-
--- reading again the text of what was read
-again : {T : Type 0} (read : List ℕ → Option T) (written : T → List ℕ)
-    → ((t : List ℕ) (x : T) → read t ≡ Some x → written x ≡ t) → (said : Option (List ℕ)) (x : T)
-    → option_and_then read said ≡ Some x → read (written x) ≡ Some x
-again read written same said x h =
-    let behind = text_behind read said x h in
-    ap read (same behind.0 x behind.1) ∙ behind.1
-
-platform-reads_back : ReadsBack platform_in platform_value
-platform-reads_back v x h = again code_of code_text code_text-code_of (as_text v) x h
-
--- a choice of what is there
-kept : {T : Type 0} (b : Bool) (x y : T) → cond b (Some x) None ≡ Some y → (b ≡ true) × (x ≡ y)
-kept true x y h = (refl, cc)
-kept false x y h = cc
 
 -- a listed party is there and its platform is listed
 on_listed-parts : (platforms : List PlatformCode) (o : Option Party) (x : Party)
@@ -156,12 +132,6 @@ each-each_written same form write back earlier (item v values) right =
     ∙ ap (λ o. o ∷ each form (each_written write (present (each form values))))
     (back v first.0 first.1 ∙ sym first.1)
     ∙ ap (λ rest. form v ∷ rest) (each-each_written same form write back (earlier ++ first.0 ∷ []) values first.2)
-
--- as many values as items
-count_of-each : {T : Type 0} (form : Value → T) (values : Values)
-    → count_of values ≡ length (each form values)
-count_of-each form no_values = refl
-count_of-each form (item v values) = ap suc (count_of-each form values)
 
 -- values within the limits
 within-parts : (least most : ℕ) (values found : Values) → within least most values ≡ Some found

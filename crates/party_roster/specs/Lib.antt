@@ -1,4 +1,3 @@
-pub mod Forms
 pub mod Distinct
 pub mod RosterRecord
 pub mod Index

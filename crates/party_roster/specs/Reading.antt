@@ -13,7 +13,7 @@ use Rattle.party_roster.specs.declared.fault.RosterPlace.{RosterPlace}
 use Rattle.party_roster.specs.declared.fault.RosterPlace.TheVariants.{Whole, Platform, Parties, PartyAt, Carriers, CarrierAt}
 use Rattle.party_roster.specs.declared.fault.RosterFault.{RosterFault}
 use Rattle.party_roster.specs.declared.fault.RosterFault.TheVariants.{RosterForm, NoMemory}
-use Rattle.party_roster.specs.Forms.{platform_in, party_in, party_under, provider_under, carrier_code_under, items_under, each}
+use Rattle.json_forms.specs.Reading.{platform_in, party_in, party_under, provider_under, carrier_code_under, items_under, each}
 use Rattle.party_roster.specs.Distinct.{distinct}
 use Rattle.party_roster.specs.RosterRecord.{RosterRecord, same_carrier}
 

@@ -8,10 +8,10 @@ ghost use Rattle.party_roster.specs.Reading.{carriers_of, distinct_carriers, car
 
 use crate::carrier::Carrier;
 use crate::fault::{RosterFault, RosterPlace};
-use crate::forms::{carrier_code_under, items_under, party_under, provider_under};
 use crate::parties::PartyList;
 use canonical_json::Json;
 use ebl_base::{CarrierCode, Copied, NoMemory, Party, Provider};
+use json_forms::{carrier_code_under, items_under, party_under, provider_under};
 use std::alloc::Global;
 use std::collections::BTreeMap;
 use std::marker::Model;

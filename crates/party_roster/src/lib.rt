@@ -4,7 +4,6 @@
 mod carrier;
 mod carriers;
 mod fault;
-mod forms;
 mod laws;
 mod parties;
 mod platforms;
@@ -14,9 +13,5 @@ mod tests;
 
 pub use carrier::Carrier;
 pub use fault::{RosterFault, RosterPlace};
-pub use forms::{
-    carrier_code_under, items_under, party_in, party_under, platform_in, platform_under,
-    provider_under,
-};
 pub use laws::written_rosters_read_back;
 pub use roster::Roster;

@@ -7,10 +7,10 @@ ghost use Rattle.party_roster.specs.Distinct.{fresh};
 ghost use Rattle.party_roster.specs.Reading.{parties_of, distinct_parties, listed_party, IsFault};
 
 use crate::fault::{RosterFault, RosterPlace};
-use crate::forms::{items_under, party_in};
 use crate::platforms::has_platform;
 use canonical_json::Json;
 use ebl_base::{Copied, NoMemory, Party, PlatformCode};
+use json_forms::{items_under, party_in};
 use std::alloc::Global;
 use std::collections::BTreeSet;
 use std::marker::Model;

@@ -3,14 +3,14 @@ ghost use Rattle.std.specs.Prelude.{◌≡◌, Ok, IfOk, IfErr};
 ghost use Rattle.std.specs.Set.{is_member};
 ghost use Rattle.canonical_json.specs.View.{view, items_view};
 ghost use Rattle.ebl_base.specs.PlatformCode.{code_eq};
-ghost use Rattle.party_roster.specs.Forms.{platform_in};
+ghost use Rattle.json_forms.specs.Reading.{platform_in};
 ghost use Rattle.party_roster.specs.Distinct.{fresh};
 ghost use Rattle.party_roster.specs.Reading.{platforms_of, distinct_platforms, IsFault};
 
 use crate::fault::{RosterFault, RosterPlace};
-use crate::forms::{items_under, platform_in};
 use canonical_json::Json;
 use ebl_base::{Items, PlatformCode};
+use json_forms::{items_under, platform_in};
 use std::alloc::Global;
 
 /// The most platforms of a roster.

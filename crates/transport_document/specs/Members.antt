@@ -3,7 +3,7 @@ use Rattle.std.specs.Prelude.{ℕ, ◌&&◌, List, Option, Some, None, Result, O
 use Rattle.std.specs.Str.{chars}
 use Rattle.canonical_json.specs.Value.{Value}
 use Rattle.canonical_json.specs.Field.{text_of, flag_of}
-use Rattle.party_roster.specs.Forms.{carrier_code_under, provider_under}
+use Rattle.json_forms.specs.Reading.{carrier_code_under, provider_under}
 use Rattle.transport_document.specs.declared.fault.DocumentField.{DocumentField}
 use Rattle.transport_document.specs.declared.fault.DocumentField.TheVariants as fields
 use Rattle.transport_document.specs.declared.members.DocumentType.{DocumentType}

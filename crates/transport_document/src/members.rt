@@ -7,7 +7,7 @@ ghost use Rattle.transport_document.specs.Members.{members_of, type_of, type_und
 use crate::fault::DocumentField;
 use canonical_json::{Json, flag_of, text_of};
 use ebl_base::{CarrierCode, Provider};
-use party_roster::{carrier_code_under, provider_under};
+use json_forms::{carrier_code_under, provider_under};
 
 /// What a document does: a bill of lading gives title, a sea waybill doesn't.
 #[derive(Clone, Copy, Debug, PartialEq, Eq)]

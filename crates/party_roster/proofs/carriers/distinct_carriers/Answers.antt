@@ -1,7 +1,7 @@
 use Rattle.std.proofs.Common.{◌+◌, drop, ap, ◌∙◌, sym}
 use Rattle.canonical_json.specs.View.{view, items_view}
 use Rattle.party_roster.specs.declared.fault.RosterPlace.TheVariants.{CarrierAt}
-use Rattle.party_roster.specs.Forms.{each}
+use Rattle.json_forms.specs.Reading.{each}
 use Rattle.party_roster.specs.RosterRecord.{same_carrier}
 use Rattle.party_roster.specs.Reading.{listed_carrier}
 use Rattle.party_roster.proofs.DistinctLemmas.{goes_on, goes_on-item, fresh-is_member}

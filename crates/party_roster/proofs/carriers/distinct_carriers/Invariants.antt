@@ -1,7 +1,7 @@
 use Rattle.std.proofs.Common.{◌≡◌, drop}
 use Rattle.canonical_json.specs.View.{items_view}
 use Rattle.party_roster.specs.declared.fault.RosterPlace.TheVariants.{CarrierAt}
-use Rattle.party_roster.specs.Forms.{each}
+use Rattle.json_forms.specs.Reading.{each}
 use Rattle.party_roster.specs.Distinct.{distinct}
 use Rattle.party_roster.specs.RosterRecord.{same_carrier}
 use Rattle.party_roster.specs.Reading.{listed_carrier}

@@ -2,7 +2,7 @@ use Rattle.std.proofs.Common.{◌+◌, drop, ap, ◌∙◌}
 use Rattle.canonical_json.specs.View.{items_view}
 use Rattle.ebl_base.specs.Party.{party_eq}
 use Rattle.party_roster.specs.declared.fault.RosterPlace.TheVariants.{PartyAt}
-use Rattle.party_roster.specs.Forms.{each}
+use Rattle.json_forms.specs.Reading.{each}
 use Rattle.party_roster.specs.Reading.{listed_party}
 use Rattle.party_roster.proofs.DistinctLemmas.{goes_on, goes_on-item}
 use Rattle.party_roster.proofs.parties.distinct_parties.Goals as goal

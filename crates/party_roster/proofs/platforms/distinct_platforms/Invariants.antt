@@ -2,7 +2,7 @@ use Rattle.std.proofs.Common.{◌≡◌, drop}
 use Rattle.canonical_json.specs.View.{items_view}
 use Rattle.ebl_base.specs.PlatformCode.{code_eq}
 use Rattle.party_roster.specs.declared.fault.RosterPlace.TheVariants.{Platform}
-use Rattle.party_roster.specs.Forms.{platform_in, each}
+use Rattle.json_forms.specs.Reading.{platform_in, each}
 use Rattle.party_roster.specs.Distinct.{distinct}
 use Rattle.party_roster.proofs.DistinctLemmas.{goes_on}
 use Rattle.party_roster.proofs.platforms.distinct_platforms.Given as goal

@@ -3,7 +3,7 @@ use Rattle.std.proofs.Common.{◌≡◌, ℕ, suc, Bool, ◌&&◌, nat_le, List,
 use Rattle.canonical_json.specs.Value.{Values}
 use Rattle.canonical_json.specs.declared.value.Json.{Json}
 use Rattle.canonical_json.specs.View.{items_view}
-use Rattle.party_roster.specs.Forms.{count_of, within}
+use Rattle.json_forms.specs.Reading.{count_of, within}
 
 -- as many values as items
 pub count_of-items_view : (items : List Json) → count_of (items_view items) ≡ length items

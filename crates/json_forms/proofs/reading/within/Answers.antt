@@ -1,6 +1,6 @@
 use Rattle.std.proofs.Common.{true, false}
-use Rattle.party_roster.proofs.FormsLemmas.{within-test}
-use Rattle.party_roster.proofs.forms.within.Goals as goal
+use Rattle.json_forms.proofs.ReadingLemmas.{within-test}
+use Rattle.json_forms.proofs.reading.within.Goals as goal
 
 pub returns-then-is_within : goal.returns-then-is_within
 returns-then-is_within c =

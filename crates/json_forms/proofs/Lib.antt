@@ -1,0 +1,3 @@
+mod ReadingLemmas
+pub mod ListLemmas
+pub mod RoundTrips

@@ -1,0 +1,34 @@
+-- Small forms as they are written.
+use Rattle.std.specs.Prelude.{ℕ, pos, List, map}
+use Rattle.canonical_json.specs.Value.{Value, int, text, list, Values}
+use Rattle.canonical_json.specs.View.{values_of}
+use Rattle.document_checksum.specs.Text.{checksum_text}
+use Rattle.ebl_base.specs.PlatformCode.{code_text}
+use Rattle.ebl_base.specs.Party.{party_text}
+use Rattle.ebl_base.specs.declared.checksum.Checksum.{Checksum}
+use Rattle.ebl_base.specs.declared.platform_code.PlatformCode.{PlatformCode}
+use Rattle.ebl_base.specs.declared.party.Party.{Party}
+
+-- each item of a list, written in one way
+abbrev pub each_written : {T : Type 0} → (T → Value) → List T → Values
+each_written write xs = values_of (map write xs)
+
+-- a whole number
+abbrev pub number_value : ℕ → Value
+number_value n = int (pos n)
+
+-- a platform code is its text
+abbrev pub platform_value : PlatformCode → Value
+platform_value platform = text (code_text platform)
+
+-- a party is its text
+abbrev pub party_value : Party → Value
+party_value party = text (party_text party)
+
+-- a checksum is its text
+abbrev pub checksum_value : Checksum → Value
+checksum_value checksum = text (checksum_text checksum)
+
+-- checksums, in their order
+abbrev pub checksums_value : List Checksum → Value
+checksums_value checksums = list (each_written checksum_value checksums)

@@ -1,0 +1,112 @@
+//! Values in and out of each form. In these texts `'` stands for `"`.
+use crate::*;
+use canonical_json::{Json, ReadError, read, write};
+use ebl_base::{ByteList, Checksum, Party, PlatformCode};
+use std::alloc::Global;
+use std::test::Fail;
+
+fn json(alloc: Global, text: &str) -> Result<Json, ReadError> {
+    let mut bytes = Vec::new(alloc);
+    for byte in text.as_bytes() {
+        bytes.push(if *byte == b'\'' { b'"' } else { *byte })?;
+    }
+    read(alloc, bytes.as_slice())
+}
+
+#[test]
+fn members_under_their_names(rt: HostRuntime) -> Result<(), Fail> {
+    let object = json(
+        rt.alloc(),
+        "{'at':'ALPH','by':'ALPH/EXPORT','n':3,'none':null}",
+    )
+    .ok()
+    .ok_or("json")?;
+    assert!(rt; platform_under(&object, "at") == PlatformCode::try_new(b"ALPH"));
+    assert!(rt; platform_under(&object, "by").is_none());
+    assert!(rt; party_under(&object, "by") == Party::from_text(b"ALPH/EXPORT"));
+    assert!(rt; party_under(&object, "at").is_none());
+    assert!(rt; checksum_under(&object, "at").is_none());
+    assert!(rt; party_if_any(&object, "by") == Ok(Party::from_text(b"ALPH/EXPORT")));
+    assert!(rt; party_if_any(&object, "to") == Ok(None));
+    assert!(rt; party_if_any(&object, "none") == Err(OtherForm));
+    assert!(rt; checksum_if_any(&object, "none") == Err(OtherForm));
+    assert!(rt; text_if_any(&object, "n").is_err());
+    Ok(())
+}
+
+#[test]
+fn whole_numbers_in_their_range(rt: HostRuntime) -> Result<(), Fail> {
+    let object = json(rt.alloc(), "{'n':3,'below':-1,'text':'3'}")
+        .ok()
+        .ok_or("json")?;
+    assert_eq!(rt; number_under(&object, "n", 3, 3), Some(3));
+    assert_eq!(rt; number_under(&object, "n", 4, 9), None);
+    assert_eq!(rt; number_under(&object, "n", 0, 2), None);
+    assert_eq!(rt; number_under(&object, "below", 0, u64::MAX), None);
+    assert_eq!(rt; number_under(&object, "text", 0, 9), None);
+    assert_eq!(rt; number_under(&object, "other", 0, 9), None);
+    Ok(())
+}
+
+#[test]
+fn lists_of_a_stated_length(rt: HostRuntime) -> Result<(), Fail> {
+    let object = json(rt.alloc(), "{'l':[1,2],'o':{}}").ok().ok_or("json")?;
+    assert!(rt; items_under(&object, "l", 2, 2).is_some());
+    assert!(rt; items_under(&object, "l", 0, 1).is_none());
+    assert!(rt; items_under(&object, "l", 3, 4).is_none());
+    assert!(rt; items_under(&object, "o", 0, 1).is_none());
+    Ok(())
+}
+
+fn written(alloc: Global, checksums: &[Checksum]) -> Result<ByteList, Fail> {
+    let json = checksums_json(alloc, checksums).ok().ok_or("memory")?;
+    write(alloc, &json).ok().ok_or("memory".into())
+}
+
+#[test]
+fn checksums_there_and_back(rt: HostRuntime) -> Result<(), Fail> {
+    let two = [Checksum([0; 32]), Checksum([255; 32])];
+    let text = written(rt.alloc(), &two)?;
+    assert_eq!(rt; text.len(), 2 * 66 + 3);
+    let list = read(rt.alloc(), text.as_slice()).ok().ok_or("json")?;
+    let Json::List(items) = list else {
+        return Err("a list".into());
+    };
+    let found = checksums_in(rt.alloc(), items.as_slice())
+        .ok()
+        .ok_or("memory")?
+        .ok_or("checksums")?;
+    assert!(rt; found.as_slice() == two.as_slice());
+    let Json::List(mixed) = json(rt.alloc(), "['44']").ok().ok_or("json")? else {
+        return Err("a list".into());
+    };
+    assert!(rt;
+        checksums_in(rt.alloc(), mixed.as_slice())
+            .ok()
+            .ok_or("memory")?
+            .is_none()
+    );
+    Ok(())
+}
+
+#[test]
+fn members_written(rt: HostRuntime) -> Result<(), Fail> {
+    let party = Party::from_text(b"ALPH/EXPORT").ok_or("a party")?;
+    let members = vec![in rt.alloc();
+        party_member(rt.alloc(), "actor", party)
+            .ok()
+            .ok_or("memory")?,
+        number_member(rt.alloc(), "time", 9_007_199_254_740_991)
+            .ok()
+            .ok_or("memory")?,
+    ]
+    .ok()
+    .ok_or("memory")?;
+    let text = write(rt.alloc(), &object_json(members))
+        .ok()
+        .ok_or("memory")?;
+    assert!(rt;
+        text.as_slice() == b"{\"actor\":\"ALPH/EXPORT\",\"time\":9007199254740991}".as_slice()
+    );
+    Ok(())
+}
