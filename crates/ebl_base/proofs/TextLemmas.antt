@@ -9,6 +9,9 @@ use Rattle.ebl_base.specs.PlatformCode.{is_code_character, is_code, code_of, cod
 use Rattle.ebl_base.specs.Name35.{is_name_character, is_name, name_of, name_text}
 use Rattle.ebl_base.specs.CarrierCode.{is_carrier_code, carrier_code_of, carrier_code_text}
 use Rattle.ebl_base.specs.Provider.{provider_of, provider_text}
+use Rattle.ebl_base.specs.Kind.{kind_of, kind_text}
+use Rattle.ebl_base.specs.declared.kind.Kind.{Kind}
+use Rattle.ebl_base.specs.declared.kind.Kind.TheVariants.{Sign, Issue, Endorse, Transfer, SurrenderForDelivery, SurrenderForAmendment, SurrenderAccepted, SurrenderRefused}
 use Rattle.ebl_base.proofs.PartyLemmas.{whole_front}
 use Rattle.ebl_base.specs.Party.{party_at, party_of, party_text}
 use Rattle.ebl_base.specs.declared.platform_code.PlatformCode.{PlatformCode}
@@ -78,6 +81,17 @@ provider_text-provider_of text provider h =
         let second : Nmfta ≡ provider = cc in
         ap provider_text (sym second) ∙ sym ((bytes_eq-Decides text (codes "NMFTA")).0 e)
     by_tests false s false e h = cc
+
+-- each kind is read from its text
+pub kind_of-kind_text : (kind : Kind) → kind_of (kind_text kind) ≡ Some kind
+kind_of-kind_text Sign = refl
+kind_of-kind_text Issue = refl
+kind_of-kind_text Endorse = refl
+kind_of-kind_text Transfer = refl
+kind_of-kind_text SurrenderForDelivery = refl
+kind_of-kind_text SurrenderForAmendment = refl
+kind_of-kind_text SurrenderAccepted = refl
+kind_of-kind_text SurrenderRefused = refl
 
 -- the parts of a party that is there
 parts_of-party_at : (code : Option PlatformCode) (name : Option Name35) (party : Party)

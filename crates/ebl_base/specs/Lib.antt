@@ -2,6 +2,7 @@ pub mod PlatformCode
 pub mod Name35
 pub mod Party
 pub mod Provider
+pub mod Kind
 pub mod CarrierCode
 pub mod Moment
 pub mod Checksum

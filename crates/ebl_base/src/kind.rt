@@ -1,3 +1,7 @@
+ghost use Rattle.std.specs.Prelude.{◌≡◌, find};
+ghost use Rattle.std.specs.Str.{bytes_eq};
+ghost use Rattle.ebl_base.specs.Kind.{kind_of, kind_text};
+
 /// What a transaction does to the title of a bill.
 #[derive(Clone, Copy, Debug, PartialEq, Eq)]
 pub enum Kind {
@@ -17,4 +21,52 @@ pub enum Kind {
     SurrenderAccepted,
     /// The carrier refuses a surrender: the asker has the bill again.
     SurrenderRefused,
+}
+
+/// Every kind, once.
+const KINDS: [Kind; 8] = [
+    Kind::Sign,
+    Kind::Issue,
+    Kind::Endorse,
+    Kind::Transfer,
+    Kind::SurrenderForDelivery,
+    Kind::SurrenderForAmendment,
+    Kind::SurrenderAccepted,
+    Kind::SurrenderRefused,
+];
+
+fn first_with(kinds: &[Kind], text: &[u8]) -> Option<Kind>
+    ensures { result ≡ find (λ kind. bytes_eq (kind_text kind) text.now) kinds.now }
+{
+    for kind in kinds {
+        if kind.as_str().as_bytes() == text {
+            return Some(*kind);
+        }
+    }
+    None
+}
+
+impl Kind {
+    /// The kind with this text, as `SIGN`; `None` exactly where the text is that of no kind.
+    pub fn from_text(text: &[u8]) -> Option<Kind>
+        ensures { result ≡ kind_of text.now }
+    {
+        first_with(&KINDS, text)
+    }
+
+    /// The text of the kind.
+    pub fn as_str(self) -> &'static str
+        ensures { result.now ≡ kind_text self }
+    {
+        match self {
+            Kind::Sign => "SIGN",
+            Kind::Issue => "ISSUE",
+            Kind::Endorse => "ENDORSE",
+            Kind::Transfer => "TRANSFER",
+            Kind::SurrenderForDelivery => "SURRENDER_FOR_DELIVERY",
+            Kind::SurrenderForAmendment => "SURRENDER_FOR_AMENDMENT",
+            Kind::SurrenderAccepted => "SURRENDER_ACCEPTED",
+            Kind::SurrenderRefused => "SURRENDER_REFUSED",
+        }
+    }
 }

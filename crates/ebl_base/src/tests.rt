@@ -62,6 +62,34 @@ fn texts(rt: HostRuntime) -> Result<(), Fail> {
     Ok(())
 }
 
+// The names of the kinds, as the messages of platforms write them.
+#[test]
+fn kinds(rt: HostRuntime) {
+    let rows: [(&[u8], Option<Kind>); 11] = [
+        (b"SIGN", Some(Kind::Sign)),
+        (b"ISSUE", Some(Kind::Issue)),
+        (b"ENDORSE", Some(Kind::Endorse)),
+        (b"TRANSFER", Some(Kind::Transfer)),
+        (b"SURRENDER_FOR_DELIVERY", Some(Kind::SurrenderForDelivery)),
+        (
+            b"SURRENDER_FOR_AMENDMENT",
+            Some(Kind::SurrenderForAmendment),
+        ),
+        (b"SURRENDER_ACCEPTED", Some(Kind::SurrenderAccepted)),
+        (b"SURRENDER_REFUSED", Some(Kind::SurrenderRefused)),
+        (b"", None),
+        (b"sign", None),
+        (b"SURRENDER", None),
+    ];
+    for (text, kind) in rows {
+        assert_eq!(rt; Kind::from_text(text), kind, "{text:?}");
+        assert!(rt;
+            kind.is_none_or(|kind| kind.as_str().as_bytes() == text),
+            "{text:?}"
+        );
+    }
+}
+
 #[test]
 fn parts(rt: HostRuntime) {
     // A text, its first part, and what stands behind it.
