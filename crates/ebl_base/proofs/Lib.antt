@@ -5,3 +5,4 @@ pub mod SameLemmas
 pub mod FaultsLemmas
 pub mod CallsLemmas
 pub mod TextLemmas
+pub mod AnswerLemmas

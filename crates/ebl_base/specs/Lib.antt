@@ -6,6 +6,8 @@ pub mod Kind
 pub mod CarrierCode
 pub mod Moment
 pub mod Checksum
+pub mod Code
+pub mod Reason
 pub mod Parts
 pub mod Signature
 pub mod Faults

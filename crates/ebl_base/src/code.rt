@@ -1,3 +1,6 @@
+ghost use Rattle.std.specs.Prelude.{◌≡◌};
+ghost use Rattle.ebl_base.specs.Code.{response_code_of, response_code_text};
+
 /// How a platform answers an envelope that another one sends (DCSA PINT 3.0).
 #[derive(Clone, Copy, Debug, PartialEq, Eq)]
 pub enum Code {
@@ -15,4 +18,37 @@ pub enum Code {
     MissingDocuments,
     /// DISE: the envelope is disputed, since its chain parts from the one that is known here.
     DisputedEnvelope,
+}
+
+impl Code {
+    /// The code with this text of four letters; `None` exactly where the text is none of the seven.
+    pub fn from_text(text: &[u8]) -> Option<Code>
+        ensures { result ≡ response_code_of text.now }
+    {
+        match text {
+            b"RECE" => Some(Code::Received),
+            b"DUPE" => Some(Code::Duplicate),
+            b"BSIG" => Some(Code::BadSignature),
+            b"BENV" => Some(Code::BadEnvelope),
+            b"INCD" => Some(Code::InconsistentDocument),
+            b"MDOC" => Some(Code::MissingDocuments),
+            b"DISE" => Some(Code::DisputedEnvelope),
+            _ => None,
+        }
+    }
+
+    /// The four letters of the code.
+    pub fn as_str(self) -> &'static str
+        ensures { result.now ≡ response_code_text self }
+    {
+        match self {
+            Code::Received => "RECE",
+            Code::Duplicate => "DUPE",
+            Code::BadSignature => "BSIG",
+            Code::BadEnvelope => "BENV",
+            Code::InconsistentDocument => "INCD",
+            Code::MissingDocuments => "MDOC",
+            Code::DisputedEnvelope => "DISE",
+        }
+    }
 }
