@@ -7,3 +7,4 @@ pub mod Texts
 pub mod Readings
 pub mod Refusals
 pub mod Parts
+pub mod TakingLemmas

@@ -5,3 +5,4 @@ pub mod Lawful
 pub mod Canon
 pub mod Reading
 pub mod Field
+pub mod Taking

@@ -7,6 +7,7 @@ mod lawful;
 mod laws;
 mod name;
 mod reading;
+mod taking;
 #[cfg(test)]
 mod tests;
 mod value;
@@ -17,5 +18,6 @@ pub use field::{flag_of, int_of, list_of, member_of, text_of};
 pub use lawful::is_lawful;
 pub use laws::{canonical_reads, equal_texts_have_equal_values};
 pub use reading::read;
+pub use taking::take_member;
 pub use value::{Json, JsonList, Member, MemberList};
-pub use writing::write;
+pub use writing::{write, write_text};

@@ -1,7 +1,7 @@
 //! What no clause can say: that the definitions are those of RFC 8785, and that the calls succeed.
 use crate::{
     Json, JsonList, Member, MemberList, ReadError, canonical_reads, equal_texts_have_equal_values,
-    flag_of, int_of, is_lawful, list_of, member_of, read, text_of, write,
+    flag_of, int_of, is_lawful, list_of, member_of, read, take_member, text_of, write, write_text,
 };
 use ebl_base::{CharList, NoMemory};
 use std::alloc::{AllocError, Global};
@@ -188,6 +188,30 @@ fn members_are_found_by_their_names(rt: HostRuntime) -> Result<(), Fail> {
     }
     assert!(rt; flag_of(&json, "t").is_none());
     assert!(rt; member_of(&Json::Null, "t").is_none());
+    Ok(())
+}
+
+#[test]
+fn a_member_is_taken_out(rt: HostRuntime) -> Result<(), Fail> {
+    let alloc = rt.alloc();
+    let Json::Object(members) = read(alloc, b"{\"a\":[1],\"b\":\"x\\n\",\"c\":null}")? else {
+        assert!(rt; false);
+        return Ok(());
+    };
+    let mut members = members.into_vec();
+    assert!(rt; take_member(&mut members, "d").is_none());
+    assert!(rt; matches!(take_member(&mut members, "a"), Some(Json::List(_))));
+    assert!(rt; take_member(&mut members, "a").is_none());
+    assert!(rt; matches!(take_member(&mut members, "c"), Some(Json::Null)));
+    let left = Json::Object(MemberList::from_vec(members));
+    assert_eq!(rt;
+        write(alloc, &left)?.as_slice(),
+        b"{\"b\":\"x\\n\"}".as_slice()
+    );
+    assert_eq!(rt;
+        write_text(alloc, b"x\n")?.as_slice(),
+        b"\"x\\n\"".as_slice()
+    );
     Ok(())
 }
 

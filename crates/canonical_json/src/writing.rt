@@ -25,6 +25,16 @@ pub fn write(alloc: Global, json: &Json) -> Result<ByteList, NoMemory>
     Ok(ByteList::from_vec(out))
 }
 
+/// The canonical text of a text of these bytes, in quotation marks: RFC 8785, section 3.2.2.2. It is
+/// a text of JSON where the bytes are UTF-8.
+pub fn write_text(alloc: Global, text: &[u8]) -> Result<ByteList, NoMemory>
+    ensures { IfOk result (λ bytes. bytes ≡ quoted text.now) }
+{
+    let mut out = Vec::with_capacity(alloc, text.len())?;
+    push_quoted(&mut out, text)?;
+    Ok(ByteList::from_vec(out))
+}
+
 #[cycle(write)]
 fn push_value(out: &mut Vec<u8>, json: &Json) -> Result<(), NoMemory>
     ensures text { OnOk result (out.new.items ≡ out.old.items ++ canon (view json.now)) }
@@ -107,12 +117,17 @@ fn push_number(out: &mut Vec<u8>, number: i64) -> Result<(), NoMemory>
     push_bytes(out, buffer.format(number).as_bytes())
 }
 
-// RFC 8785, section 3.2.2.2. Bytes that stand for themselves are written together.
 fn push_text(out: &mut Vec<u8>, text: &str) -> Result<(), NoMemory>
     ensures text { OnOk result (out.new.items ≡ out.old.items ++ quoted text.now) }
     ensures utf8 { IsUtf8 text.now }
 {
-    let text = text.as_bytes();
+    push_quoted(out, text.as_bytes())
+}
+
+// RFC 8785, section 3.2.2.2. Bytes that stand for themselves are written together.
+fn push_quoted(out: &mut Vec<u8>, text: &[u8]) -> Result<(), NoMemory>
+    ensures { OnOk result (out.new.items ≡ out.old.items ++ quoted text.now) }
+{
     push_bytes(out, b"\"")?;
     let mut at = 0;
     loop {
