@@ -1,3 +1,4 @@
 pub mod DigestBytes
 pub mod Digits
 pub mod Texts
+pub mod ReadTexts

@@ -1,7 +1,7 @@
 -- The texts of answers' codes and reasons read back.
-use Rattle.std.proofs.Common.{◌≡◌, ℕ, Option, Some, None, refl}
+use Rattle.std.proofs.Common.{◌≡◌, ℕ, Some, refl}
 use Rattle.ebl_base.specs.Code.{response_code_of, response_code_text}
-use Rattle.ebl_base.specs.Reason.{code_for, reason_at, reason_index, reason_of, reason_text}
+use Rattle.ebl_base.specs.Reason.{code_for, reason_at, reason_of, reason_text}
 use Rattle.ebl_base.specs.declared.code.Code.{Code}
 use Rattle.ebl_base.specs.declared.code.Code.TheVariants.{Received, Duplicate, BadSignature, BadEnvelope, InconsistentDocument, MissingDocuments, DisputedEnvelope}
 use Rattle.ebl_base.specs.declared.reason.Reason.{Reason}

@@ -6,6 +6,7 @@ pub mod Kind
 pub mod CarrierCode
 pub mod Moment
 pub mod Checksum
+pub mod Reference
 pub mod Code
 pub mod Reason
 pub mod Parts

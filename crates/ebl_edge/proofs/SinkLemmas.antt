@@ -10,27 +10,9 @@ use Rattle.ebl_edge.specs.Sink.{AppendsFirst}
 pub AppendsFirst-nil : (a : Option (List ℕ)) (text : List ℕ) → AppendsFirst a a text
 AppendsFirst-nil a text = record { front = []; back = text; parts = refl; wrote = Appends-nil a }
 
--- the whole is a first part
-pub AppendsFirst-whole : (a b : Option (List ℕ)) (text : List ℕ) → Appends a b text → AppendsFirst a b text
-AppendsFirst-whole a b text p = record { front = text; back = []; parts = append-nil text; wrote = p }
-
 -- the first n bytes are a first part
 pub AppendsFirst-take : (a b : Option (List ℕ)) (n : ℕ) (text : List ℕ) → Appends a b (take n text) → AppendsFirst a b text
 AppendsFirst-take a b n text p = record { front = take n text; back = drop n text; parts = take-append-drop n text; wrote = p }
-
--- a first part of one text is one of that text with more behind it
-pub AppendsFirst-longer : (a b : Option (List ℕ)) (text more : List ℕ) → AppendsFirst a b text → AppendsFirst a b (text ++ more)
-AppendsFirst-longer a b text more p =
-    record { front = p.front; back = p.back ++ more; parts = sym (append_assoc p.front p.back more) ∙ ap (λ l. l ++ more) p.parts; wrote = p.wrote }
-
--- a whole text, and then a first part of the next
-pub AppendsFirst-after : (a b c : Option (List ℕ)) (text next : List ℕ) → Appends a b text → AppendsFirst b c next → AppendsFirst a c (text ++ next)
-AppendsFirst-after a b c text next p q =
-    record { front = text ++ q.front; back = q.back; parts = append_assoc text q.front q.back ∙ ap (λ l. text ++ l) q.parts; wrote = Appends-trans a b c text q.front p q.wrote }
-
--- a first part, and then nothing more
-pub AppendsFirst-kept : (a b c : Option (List ℕ)) (text : List ℕ) → AppendsFirst a b text → Keeps b c → AppendsFirst a c text
-AppendsFirst-kept a b c text p q = record { front = p.front; back = p.back; parts = p.parts; wrote = Appends-kept a b c p.front p.wrote q }
 
 -- a front, and more of what stands behind it
 pub take-add : (m n : ℕ) (text : List ℕ) → m ≤ length text → take (m + n) text ≡ take m text ++ take n (drop m text)

@@ -6,3 +6,4 @@ pub mod Fold
 pub mod Movement
 pub mod Taken
 pub mod Changes
+pub mod Chain
