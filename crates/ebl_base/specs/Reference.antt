@@ -1,5 +1,5 @@
 -- The reference of an envelope, which its bill and the last entry of its chain fix.
-use Rattle.std.specs.Prelude.{List, ◌++◌, take, drop}
+use Rattle.std.specs.Prelude.{◌++◌, take, drop}
 use Rattle.ebl_base.specs.declared.checksum.Checksum.{Checksum}
 use Rattle.ebl_base.specs.declared.reference.Reference.{Reference}
 

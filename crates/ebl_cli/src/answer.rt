@@ -6,9 +6,11 @@ use title_fold::{FoldRefusal, Title};
 pub struct View {
     /// The bill's number, from 1, in the order of signing.
     pub bill: u32,
+    /// The title to the bill after the event.
     pub title: Title,
 }
 
+/// What an event is answered. Only `Done` changes a bill.
 #[derive(Clone, Copy, Debug, PartialEq, Eq)]
 pub enum Answer {
     /// The command was taken.

@@ -19,6 +19,8 @@ pub enum Deed {
 pub struct Event {
     /// The party that acts.
     pub party: Party,
+    /// When it acts, by the script's own clock.
     pub now: Moment,
+    /// What it does.
     pub deed: Deed,
 }

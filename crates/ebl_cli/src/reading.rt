@@ -15,8 +15,11 @@ const PIECE: usize = 65_536;
 /// Why a source was not read to its end.
 #[derive(Clone, Copy, Debug, PartialEq, Eq)]
 pub enum ReadStop {
+    /// The source failed.
     ReadFault,
+    /// The source gave more than [`MOST_BYTES`].
     TooLong,
+    /// Memory ran out.
     NoMemory,
 }
 

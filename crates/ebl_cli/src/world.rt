@@ -46,6 +46,7 @@ impl World {
         }
     }
 
+    /// The platform that holds the bills.
     pub fn platform(&self) -> PlatformCode
         ensures { result ≡ self.now.platform }
     {

@@ -1,9 +1,9 @@
--- One piece after another, and first parts of them. (`Appends-nil`, `Appends-trans` and `Appends-kept` stand in std's `KnownBytes`.)
-use Rattle.std.proofs.Common.{◌≡◌, ℕ, ◌+◌, ◌-◌, ◌≤◌, List, [], ◌++◌, Option, Result, Ok, Err, OnErr, refl, ap, ◌∙◌, sym, subst, append_assoc, append-nil, length, take, drop, take-append-drop, length-take, arith}
+-- One piece after another, and first parts of them. (`Appends-nil` and `Appends-trans` stand in std's `KnownBytes`.)
+use Rattle.std.proofs.Common.{◌≡◌, ℕ, ◌+◌, ◌-◌, ◌≤◌, List, [], ◌++◌, Option, Result, Ok, Err, OnErr, refl, ap, ◌∙◌, sym, subst, length, take, drop, take-append-drop, length-take, arith}
 use Rattle.std.proofs.lemmas.List.{take-take, length-take-le}
 use Rattle.std.proofs.Math.Seq.{take-append-add}
-use Rattle.std.specs.Io.KnownBytes.{Appends, Keeps}
-use Rattle.std.proofs.KnownBytes.{Appends-nil, Appends-trans, Appends-kept}
+use Rattle.std.specs.Io.KnownBytes.{Appends}
+use Rattle.std.proofs.KnownBytes.{Appends-nil, Appends-trans}
 use Rattle.ebl_edge.specs.Sink.{AppendsFirst}
 
 -- nothing is a first part

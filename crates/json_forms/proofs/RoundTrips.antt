@@ -2,14 +2,12 @@
 use Rattle.std.proofs.Common.{◌≡◌, ℕ, suc, pos, negsuc, ℤ, Bool, true, false, ◌&&◌, nat_le, List, [], ◌∷◌, Option, Some, None, cond, length, refl, sym, ap, ◌∙◌, subst}
 use Rattle.std.specs.Prelude.{option_and_then, IfSome}
 use Rattle.canonical_json.specs.Value.{Value, Values, no_values, item}
-use Rattle.canonical_json.specs.Field.{as_text, as_int}
+use Rattle.canonical_json.specs.Field.{as_text}
 use Rattle.document_checksum.specs.Text.{checksum_text, checksum_of_text}
 use Rattle.document_checksum.proofs.Texts.{checksum_text-checksum_of_text}
 use Rattle.ebl_base.specs.PlatformCode.{code_of, code_text}
 use Rattle.ebl_base.specs.Party.{party_of, party_text}
 use Rattle.ebl_base.specs.declared.checksum.Checksum.{Checksum}
-use Rattle.ebl_base.specs.declared.platform_code.PlatformCode.{PlatformCode}
-use Rattle.ebl_base.specs.declared.party.Party.{Party}
 use Rattle.ebl_base.proofs.TextLemmas.{code_text-code_of, party_text-party_of}
 use Rattle.json_forms.specs.Reading.{platform_in, party_in, checksum_in, number_in, count_of, each, all_of, with_more}
 use Rattle.json_forms.specs.Writing.{each_written, platform_value, party_value, checksum_value}

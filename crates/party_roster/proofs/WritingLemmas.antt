@@ -4,7 +4,7 @@ use Rattle.std.specs.Prelude.{option_and_then}
 use Rattle.std.specs.Set.{is_member}
 use Rattle.canonical_json.specs.Value.{Value, Values, no_values, item}
 use Rattle.canonical_json.specs.Field.{as_text, text_of, list_of}
-use Rattle.ebl_base.specs.PlatformCode.{code_eq, code_of, code_text}
+use Rattle.ebl_base.specs.PlatformCode.{code_eq}
 use Rattle.ebl_base.specs.Party.{party_eq, party_of, party_text}
 use Rattle.ebl_base.specs.Provider.{provider_of, provider_text}
 use Rattle.ebl_base.specs.CarrierCode.{carrier_code_of, carrier_code_text}
@@ -12,7 +12,7 @@ use Rattle.ebl_base.specs.declared.platform_code.PlatformCode.{PlatformCode}
 use Rattle.ebl_base.specs.declared.party.Party.{Party}
 use Rattle.ebl_base.specs.declared.provider.Provider.{Provider}
 use Rattle.ebl_base.specs.declared.carrier_code.CarrierCode.{CarrierCode}
-use Rattle.ebl_base.proofs.TextLemmas.{code_text-code_of, party_text-party_of, provider_text-provider_of, carrier_code_text-carrier_code_of}
+use Rattle.ebl_base.proofs.TextLemmas.{party_text-party_of, provider_text-provider_of, carrier_code_text-carrier_code_of}
 use Rattle.party_roster.specs.declared.carrier.Carrier.{Carrier}
 use Rattle.party_roster.specs.declared.fault.RosterPlace.{RosterPlace}
 use Rattle.party_roster.specs.declared.fault.RosterPlace.TheVariants.{Whole, Platform, Parties, PartyAt, Carriers, CarrierAt}
