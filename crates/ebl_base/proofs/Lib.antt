@@ -5,4 +5,5 @@ pub mod SameLemmas
 pub mod FaultsLemmas
 pub mod CallsLemmas
 pub mod TextLemmas
+pub mod ChecksumLemmas
 pub mod AnswerLemmas

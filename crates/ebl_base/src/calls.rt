@@ -41,6 +41,13 @@ impl Calls {
         }
     }
 
+    /// The number of the next call.
+    pub fn number(&self) -> u64
+        ensures { result ≡ self.now.number }
+    {
+        self.number
+    }
+
     /// Counts the next call, and answers whether it is to fail. It looks through the whole list.
     pub fn next_fails(&mut self) -> bool
         ensures listed { IsTrue result ↔ Contains self.old.fails self.old.number }
