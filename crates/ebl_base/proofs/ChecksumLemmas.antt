@@ -1,5 +1,5 @@
 -- What it says that two checksums are one.
-use Rattle.std.proofs.Common.{◌≡◌, ℕ, List, true, ap}
+use Rattle.std.proofs.Common.{◌≡◌, ℕ, List, ap}
 use Rattle.std.specs.Bool.{Decides}
 use Rattle.std.proofs.lemmas.Bool.Decides.{Decides-like}
 use Rattle.std.proofs.lemmas.Slice.Eq.{bytes_eq-Decides}
