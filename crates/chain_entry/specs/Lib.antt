@@ -1,0 +1,3 @@
+pub mod Reading
+pub mod Form
+pub mod Writing
