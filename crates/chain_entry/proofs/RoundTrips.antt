@@ -7,9 +7,9 @@ use Rattle.std.proofs.lemmas.Bool.Decides.{nat_tests}
 use Rattle.canonical_json.specs.Value.{Value, Values, no_values, item, object, list, member, no_members}
 use Rattle.canonical_json.specs.Field.{text_of, int_of, list_of, member_of, as_text}
 use Rattle.document_checksum.specs.Text.{checksum_of_text}
-use Rattle.json_forms.specs.Reading.{platform_under, checksum_under, checksum_in, checksum_if_any, number_in, number_under, party_in, party_under, party_if_any, in_form, if_any, count_of, within, with_more, all_of}
+use Rattle.json_forms.specs.Reading.{needed, needed_if_any, platform_under, checksum_under, checksum_in, checksum_if_any, number_in, number_under, party_in, party_under, party_if_any, in_form, if_any, count_of, within, with_more, all_of}
 use Rattle.json_forms.specs.declared.reading.OtherForm.{OtherForm}
-use Rattle.json_forms.specs.Writing.{each_written, number_value, platform_value, party_value, checksum_value}
+use Rattle.json_forms.specs.Writing.{each_written, number_value, platform_value, party_value, checksum_value, member_if_any}
 use Rattle.json_forms.proofs.RoundTrips.{again, kept, number_in-within, count_of-each_written, count_of-all_of, checksum-reads_back}
 use Rattle.ebl_base.specs.PlatformCode.{code_of, code_text}
 use Rattle.ebl_base.specs.Party.{party_of, party_text}
@@ -25,9 +25,9 @@ use Rattle.ebl_base.proofs.TextLemmas.{code_text-code_of, party_text-party_of, k
 use Rattle.chain_entry.specs.declared.reading.Head.{Head}
 use Rattle.chain_entry.specs.declared.fault.EntryField.{EntryField}
 use Rattle.chain_entry.specs.declared.fault.EntryField.TheVariants.{Platform, Bill, Previous, Attempt, Transactions}
-use Rattle.chain_entry.specs.Reading.{kind_under, time_under, transaction_with, transaction_of, needed, needed_if_any, head_of, transactions_of, entry_with, then_read, entry_of}
+use Rattle.chain_entry.specs.Reading.{kind_under, time_under, transaction_with, transaction_of, head_of, transactions_of, entry_with, then_read, entry_of}
 use Rattle.chain_entry.specs.Form.{IsCode, IsParty, IsName, IsTransaction, IsEntry}
-use Rattle.chain_entry.specs.Writing.{kind_value, member_if_any, transaction_value, entry_value}
+use Rattle.chain_entry.specs.Writing.{kind_value, transaction_value, entry_value}
 
 -- ---- what is read has the form
 

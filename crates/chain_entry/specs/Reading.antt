@@ -2,7 +2,7 @@
 use Rattle.std.specs.Prelude.{◌≡◌, List, Option, Some, None, Result, Ok, Err, codes, option_and_then}
 use Rattle.canonical_json.specs.Value.{Value}
 use Rattle.canonical_json.specs.Field.{text_of}
-use Rattle.json_forms.specs.Reading.{platform_under, checksum_under, checksum_if_any, number_under, party_under, party_if_any, items_under, all_of}
+use Rattle.json_forms.specs.Reading.{needed, needed_if_any, platform_under, checksum_under, checksum_if_any, number_under, party_under, party_if_any, items_under, all_of}
 use Rattle.json_forms.specs.declared.reading.OtherForm.{OtherForm}
 use Rattle.ebl_base.specs.Kind.{kind_of}
 use Rattle.ebl_base.specs.Moment.{moment_of}
@@ -44,17 +44,6 @@ transaction_of v =
     (time_under v)
 
 -- ---- entries
-
--- what is made of a member, or the field where there is none of its form
-abbrev pub needed : {A B : Type 0} → EntryField → Option A → (A → Result B EntryField) → Result B EntryField
-needed field None next = Err field
-needed field (Some x) next = next x
-
--- what is made of a member that may be left out, or the field where it has another form
-abbrev pub needed_if_any : {A B : Type 0} → EntryField → Result A OtherForm → (A → Result B EntryField)
-    → Result B EntryField
-needed_if_any field (Err other) next = Err field
-needed_if_any field (Ok x) next = next x
 
 -- what stands before the transactions, or the first wrong member
 abbrev pub head_of : Value → Result Head EntryField

@@ -1,7 +1,7 @@
 -- The written form of a transaction and of an entry: the one value without further members, with the names in order.
-use Rattle.std.specs.Prelude.{ℕ, List, Option, Some, None, codes}
-use Rattle.canonical_json.specs.Value.{Value, text, list, object, Members, no_members, member}
-use Rattle.json_forms.specs.Writing.{each_written, number_value, platform_value, party_value, checksum_value}
+use Rattle.std.specs.Prelude.{codes}
+use Rattle.canonical_json.specs.Value.{Value, text, list, object, no_members, member}
+use Rattle.json_forms.specs.Writing.{each_written, number_value, platform_value, party_value, checksum_value, member_if_any}
 use Rattle.ebl_base.specs.Kind.{kind_text}
 use Rattle.ebl_base.specs.Moment.{moment_number}
 use Rattle.ebl_base.specs.declared.kind.Kind.{Kind}
@@ -11,11 +11,6 @@ use Rattle.ebl_base.specs.declared.entry.Entry.{Entry}
 -- a kind is its text
 abbrev pub kind_value : Kind → Value
 kind_value kind = text (kind_text kind)
-
--- a member that may be left out, in front of those that follow
-abbrev pub member_if_any : {T : Type 0} → List ℕ → (T → Value) → Option T → Members → Members
-member_if_any name write None ms = ms
-member_if_any name write (Some x) ms = member name (write x) ms
 
 abbrev pub transaction_value : Transaction → Value
 transaction_value t =

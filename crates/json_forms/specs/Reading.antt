@@ -115,3 +115,15 @@ with_more (Some x) (Some xs) = Some (x ∷ xs)
 abbrev pub all_of : {T : Type 0} → (Value → Option T) → Values → Option (List T)
 all_of form no_values = Some []
 all_of form (item v vs) = with_more (form v) (all_of form vs)
+
+-- ---- members one after the other, the first wrong one ending the reading
+
+-- what is made of a member, or its field where there is none in its form
+abbrev pub needed : {A B F : Type 0} → F → Option A → (A → Result B F) → Result B F
+needed field None next = Err field
+needed field (Some x) next = next x
+
+-- what is made of a member that may be left out, or its field where it is there in another form
+abbrev pub needed_if_any : {A B F : Type 0} → F → Result A OtherForm → (A → Result B F) → Result B F
+needed_if_any field (Err other) next = Err field
+needed_if_any field (Ok x) next = next x

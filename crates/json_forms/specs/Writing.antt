@@ -1,6 +1,6 @@
 -- Small forms as they are written.
-use Rattle.std.specs.Prelude.{ℕ, pos, List, map}
-use Rattle.canonical_json.specs.Value.{Value, int, text, list, Values}
+use Rattle.std.specs.Prelude.{ℕ, pos, List, Option, Some, None, map}
+use Rattle.canonical_json.specs.Value.{Value, int, text, list, Values, Members, member}
 use Rattle.canonical_json.specs.View.{values_of}
 use Rattle.document_checksum.specs.Text.{checksum_text}
 use Rattle.ebl_base.specs.PlatformCode.{code_text}
@@ -32,3 +32,8 @@ checksum_value checksum = text (checksum_text checksum)
 -- checksums, in their order
 abbrev pub checksums_value : List Checksum → Value
 checksums_value checksums = list (each_written checksum_value checksums)
+
+-- a member that may be left out, in front of those that follow
+abbrev pub member_if_any : {T : Type 0} → List ℕ → (T → Value) → Option T → Members → Members
+member_if_any name write None ms = ms
+member_if_any name write (Some x) ms = member name (write x) ms

@@ -1,9 +1,9 @@
 -- The five members of a transport document that are read.
-use Rattle.std.specs.Prelude.{ℕ, ◌&&◌, List, Option, Some, None, Result, Ok, Err, codes, length, nat_le, option_and_then, bytes_eq, if◌then◌else◌}
+use Rattle.std.specs.Prelude.{ℕ, ◌&&◌, List, Option, Some, None, Result, Ok, codes, length, nat_le, option_and_then, bytes_eq, if◌then◌else◌}
 use Rattle.std.specs.Str.{chars}
 use Rattle.canonical_json.specs.Value.{Value}
 use Rattle.canonical_json.specs.Field.{text_of, flag_of}
-use Rattle.json_forms.specs.Reading.{carrier_code_under, provider_under}
+use Rattle.json_forms.specs.Reading.{needed, carrier_code_under, provider_under}
 use Rattle.transport_document.specs.declared.fault.DocumentField.{DocumentField}
 use Rattle.transport_document.specs.declared.fault.DocumentField.TheVariants as fields
 use Rattle.transport_document.specs.declared.members.DocumentType.{DocumentType}
@@ -28,12 +28,6 @@ reference_under v = option_and_then reference_of (text_of (codes "transportDocum
 -- the type under its name
 abbrev pub type_under : Value → Option DocumentType
 type_under v = option_and_then type_of (text_of (codes "transportDocumentTypeCode") v)
-
--- what is made of a member, or the field where there is none
-abbrev pub needed : {A B : Type 0} → DocumentField → Option A → (A → Result B DocumentField)
-    → Result B DocumentField
-needed field None next = Err field
-needed field (Some x) next = next x
 
 -- the members of a document, or the first field that is absent or of another form
 abbrev pub members_of : Value → Result Members DocumentField
