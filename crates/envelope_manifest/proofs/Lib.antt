@@ -1,0 +1,6 @@
+pub mod FormLemmas
+pub mod PieceLemmas
+pub mod BodyLemmas
+pub mod ManifestLemmas
+pub mod WholeBodies
+pub mod ReadBodies

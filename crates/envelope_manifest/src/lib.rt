@@ -1,8 +1,26 @@
 //! Envelopes: the manifest of a bill's additional documents, and the body in which a bill is sent.
 #![tactic(auto)]
 
+mod body;
+mod body_reading;
+mod body_writing;
+mod fault;
+mod laws;
 mod manifest;
 mod piece;
+mod reading;
+#[cfg(test)]
+mod tests;
+mod writing;
 
+pub use body::Body;
+pub use fault::{BodyFault, BodyField, ManifestFault, ManifestField};
+pub use laws::{
+    bodies_with_one_text_are_one, manifests_with_one_text_are_one, pieces_with_one_text_are_one,
+    texts_have_one_body, written_bodies_read_back, written_manifests_read_back,
+    written_pieces_read_back,
+};
 pub use manifest::Manifest;
 pub use piece::{Piece, PieceList};
+pub use reading::{decode, decode_piece};
+pub use writing::{encode, encode_piece};

@@ -1,0 +1,4 @@
+pub mod Frames
+pub mod Framed
+pub mod Places
+pub mod Journal

@@ -1,0 +1,4 @@
+pub mod Disk
+pub mod Event
+pub mod Record
+pub mod Log

@@ -1,0 +1,196 @@
+//! Manifests and the documents that they list, as they are read: the first wrong field ends the reading.
+ghost use Rattle.std.specs.Prelude.{◌≡◌, Ok, Some, IsTrue, option_map, nat_le, not, IfOk, IfErr, IfSome};
+ghost use Rattle.std.specs.Str.{IsUtf8};
+ghost use Rattle.canonical_json.specs.View.{view, items_view};
+ghost use Rattle.std.specs.Set.{is_member};
+ghost use Rattle.ebl_base.specs.Checksum.{checksum_eq};
+ghost use Rattle.json_forms.specs.Reading.{needed, all_of};
+ghost use Rattle.envelope_manifest.specs.Piece.{IsPiece, has_no_control, is_control, is_plain_text, piece_in, piece_of, plain_text, plain_text_under};
+ghost use Rattle.envelope_manifest.specs.Manifest.{AreDocuments, ArePieces, IsFault, IsManifest, are_distinct, checksums_of, go_together, manifest_of, pieces_in, pieces_under, total_size};
+ghost use Rattle.envelope_manifest.specs.declared.fault.ManifestField.TheVariants.{Documents};
+
+use crate::fault::{ManifestFault, ManifestField};
+use crate::manifest::Manifest;
+use crate::piece::{Piece, PieceList};
+use canonical_json::{Json, text_of};
+use ebl_base::{CharList, Checksum};
+use json_forms::{checksum_under, items_under, number_under};
+use std::alloc::Global;
+
+/// The most documents of a manifest.
+const PIECES_MOST: usize = 16;
+
+/// The most bytes of all documents of a manifest together.
+const TOGETHER_MOST: u32 = 4_194_304;
+
+/// The most bytes of a document.
+const SIZE_MOST: u64 = 2_097_152;
+
+/// The most bytes of a document's name.
+const NAME_MOST: usize = 128;
+
+/// The most bytes of a media type.
+const MEDIA_MOST: usize = 64;
+
+/// The manifest that a value is: an object with `bill` and `last`, checksums, and `documents`, a list of at most 16
+/// objects as [`decode_piece`] reads them, with distinct checksums, together of at most 4,194,304 bytes. Further
+/// members are ignored.
+///
+/// [`ManifestFault::ManifestForm`] names the first wrong field in that order. It goes over the documents once, and
+/// compares their checksums two by two: they are few.
+pub fn decode(alloc: Global, json: &Json) -> Result<Manifest, ManifestFault>
+    ensures ok { IfOk result (λ manifest. manifest_of (view json.now) ≡ Ok manifest) }
+    ensures form { IfOk result (λ manifest. IsManifest manifest) }
+    ensures err { IfErr result (IsFault (manifest_of (view json.now))) }
+{
+    let Some(bill) = checksum_under(json, "bill") else {
+        return Err(ManifestFault::ManifestForm(ManifestField::Bill));
+    };
+    let Some(last) = checksum_under(json, "last") else {
+        return Err(ManifestFault::ManifestForm(ManifestField::Last));
+    };
+    let documents = pieces_under(alloc, json)?;
+    Ok(Manifest {
+        bill,
+        last,
+        documents,
+    })
+}
+
+/// The document that a value lists: an object with `name`, a text of 1 to 128 bytes; `media`, a text of 1 to 64;
+/// `size`, 0 to 2,097,152 bytes; `checksum`, 64 hexadecimal digits in lower case. Bytes of a text are those of its
+/// UTF-8, and neither text has a character below U+0020 or U+007F. Further members are ignored.
+///
+/// [`ManifestFault::ManifestForm`] of the documents comes exactly where the value is of another form.
+pub fn decode_piece(alloc: Global, json: &Json) -> Result<Piece, ManifestFault>
+    ensures ok { IfOk result (λ piece. piece_of (view json.now) ≡ Ok piece) }
+    ensures form { IfOk result (λ piece. IsPiece piece) }
+    ensures err { IfErr result (IsFault (piece_of (view json.now))) }
+{
+    let Some(name) = plain_text_under(json, "name", NAME_MOST) else {
+        return Err(ManifestFault::ManifestForm(ManifestField::Documents));
+    };
+    let Some(media) = plain_text_under(json, "media", MEDIA_MOST) else {
+        return Err(ManifestFault::ManifestForm(ManifestField::Documents));
+    };
+    let Some(size) = number_under(json, "size", 0, SIZE_MOST) else {
+        return Err(ManifestFault::ManifestForm(ManifestField::Documents));
+    };
+    let Some(checksum) = checksum_under(json, "checksum") else {
+        return Err(ManifestFault::ManifestForm(ManifestField::Documents));
+    };
+    let name = CharList::from_text(alloc, name)?;
+    let media = CharList::from_text(alloc, media)?;
+    Ok(Piece {
+        name,
+        media,
+        size: size as u32,
+        checksum,
+    })
+}
+
+// The text that the member of that name is, where it has 1 to `most` bytes and no control character.
+fn plain_text_under<'a>(json: &'a Json, name: &str, most: usize) -> Option<&'a str>
+    ensures text { option_map (λ t. t.now) result ≡ plain_text_under name.now most (view json.now) }
+    ensures utf8 { IfSome result (λ t. IsUtf8 t.now) }
+{
+    plain_text(text_of(json, name)?.as_str(), most)
+}
+
+fn plain_text(text: &str, most: usize) -> Option<&str>
+    ensures text { option_map (λ t. t.now) result ≡ plain_text most text.now }
+    ensures utf8 { IfSome result (λ t. IsUtf8 t.now) }
+{
+    if is_plain_text(text, most) {
+        Some(text)
+    } else {
+        None
+    }
+}
+
+fn is_plain_text(text: &str, most: usize) -> bool
+    ensures { result ≡ is_plain_text most text.now }
+{
+    1 <= text.len() && text.len() <= most && has_no_control(text)
+}
+
+fn has_no_control(text: &str) -> bool
+    ensures { result ≡ has_no_control text.now }
+{
+    text.chars().all(|c| !is_control(c))
+}
+
+fn is_control(c: char) -> bool
+    ensures { result ≡ is_control c }
+{
+    c < ' ' || c == '\u{7F}'
+}
+
+fn pieces_under(alloc: Global, json: &Json) -> Result<PieceList, ManifestFault>
+    ensures ok { IfOk result (λ pieces. pieces_under (view json.now) ≡ Some pieces) }
+    ensures form { IfOk result (λ pieces. AreDocuments pieces) }
+    ensures err { IfErr result (IsFault (needed Documents (pieces_under (view json.now)) Ok)) }
+{
+    let Some(items) = items_under(json, "documents", 0, PIECES_MOST) else {
+        return Err(ManifestFault::ManifestForm(ManifestField::Documents));
+    };
+    let pieces = all_pieces(alloc, items)?;
+    if !go_together(pieces.as_slice()) {
+        return Err(ManifestFault::ManifestForm(ManifestField::Documents));
+    }
+    Ok(pieces)
+}
+
+fn all_pieces(alloc: Global, items: &[Json]) -> Result<PieceList, ManifestFault>
+    ensures ok { IfOk result (λ pieces. all_of piece_in (items_view items.now) ≡ Some pieces) }
+    ensures form { IfOk result (λ pieces. ArePieces pieces) }
+    ensures err { IfErr result (IsFault (needed Documents (all_of piece_in (items_view items.now)) Ok)) }
+{
+    let mut pieces = PieceList::new(alloc);
+    for item in items {
+        let piece = decode_piece(alloc, item)?;
+        pieces.push(piece)?;
+    }
+    Ok(pieces)
+}
+
+fn go_together(pieces: &[Piece]) -> bool
+    ensures { result ≡ go_together pieces.now }
+{
+    are_distinct(pieces) && fit_together(pieces)
+}
+
+fn are_distinct(pieces: &[Piece]) -> bool
+    ensures { result ≡ are_distinct (checksums_of pieces.now) }
+{
+    for (i, piece) in pieces.iter().enumerate() {
+        if has_checksum(&pieces[i + 1..], piece.checksum) {
+            return false;
+        }
+    }
+    true
+}
+
+fn has_checksum(pieces: &[Piece], checksum: Checksum) -> bool
+    ensures { result ≡ is_member checksum_eq (checksums_of pieces.now) checksum }
+{
+    for piece in pieces {
+        if checksum == piece.checksum {
+            return true;
+        }
+    }
+    false
+}
+
+fn fit_together(pieces: &[Piece]) -> bool
+    ensures { result ≡ nat_le (total_size pieces.now) 4194304 }
+{
+    let mut room = TOGETHER_MOST;
+    for piece in pieces {
+        if room < piece.size {
+            return false;
+        }
+        room -= piece.size;
+    }
+    true
+}

@@ -1,0 +1,3 @@
+pub mod WantedLemmas
+pub mod ReferenceLemmas
+pub mod StartedLemmas

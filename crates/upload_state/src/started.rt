@@ -1,0 +1,33 @@
+//! The answer that an upload has started.
+
+use ebl_base::{ChecksumList, NoMemory, Reference};
+
+/// An upload has started: under which reference it goes on, and which documents are wanted.
+#[derive(Debug, Drop)]
+pub struct Started {
+    /// The reference of the upload.
+    pub reference: Reference,
+    /// The checksums of the wanted documents, 1 to 16 in the order of the manifest.
+    pub missing: ChecksumList,
+}
+
+/// Why a text is not taken as the answer that an upload has started.
+#[derive(Clone, Copy, Debug, PartialEq, Eq)]
+pub enum StartedFault {
+    /// It is no JSON (RFC 8259) with whole numbers of at most 2^53 - 1 in size, or no object with `reference`, the
+    /// text of a UUID, and `missing`, a list of 1 to 16 checksums.
+    Form,
+    /// Memory ran out.
+    NoMemory,
+}
+
+impl From<NoMemory> for StartedFault {
+    ghost use Rattle.std.specs.Prelude.{◌≡◌};
+    ghost use Rattle.upload_state.specs.declared.started.StartedFault.TheVariants as faults;
+
+    ghost from_gives = { λ _ e. e ≡ faults.NoMemory };
+
+    fn from(_: NoMemory) -> StartedFault {
+        StartedFault::NoMemory
+    }
+}
