@@ -85,7 +85,7 @@ front_passes_at p x xs true e h = rw (take_while-cons p x xs, e) (rw (e, h) refl
 front_passes_at p x xs false e h = rw (take_while-cons p x xs, e) refl
 
 -- the characters that pass a test from the front on pass it
-front_passes : (p : ℕ → Bool) (xs : List ℕ) → list_all p (take_while p xs) ≡ true
+pub front_passes : (p : ℕ → Bool) (xs : List ℕ) → list_all p (take_while p xs) ≡ true
 front_passes p [] = refl
 front_passes p (x ∷ xs) = front_passes_at p x xs (p x) refl (front_passes p xs)
 
@@ -112,7 +112,7 @@ party_is_text party =
     (ascii_of is_name_character name_below (name_text party.code) (front_passes is_name_character party.code.bytes))))
 
 -- what is there was chosen by a test that holds
-test_holds : {T : Type 0} (b : Bool) (o : Option T) (x : T) → cond b o None ≡ Some x → b ≡ true
+pub test_holds : {T : Type 0} (b : Bool) (o : Option T) (x : T) → cond b o None ≡ Some x → b ≡ true
 test_holds true o x h = refl
 test_holds false o x h = cc
 

@@ -1,5 +1,5 @@
 //! What holds of every entry and every transaction. The functions do nothing: their contracts are the laws.
-ghost use Rattle.std.specs.Prelude.{◌≡◌, ◌≤◌, Some, Ok};
+ghost use Rattle.std.specs.Prelude.{◌≡◌, ◌≤◌, Some, Ok, length};
 ghost use Rattle.canonical_json.specs.Value.{Value, depth};
 ghost use Rattle.canonical_json.specs.Canon.{canon};
 ghost use Rattle.canonical_json.specs.Lawful.{IsLawful, HasTexts};
@@ -41,3 +41,9 @@ pub fn entries_with_one_text_are_one()
 {
     equal_texts_have_equal_values();
 }
+
+/// The canonical text of an entry of the form has at most 5,500 bytes, and that of a transaction at most 164.
+pub fn written_entries_are_short()
+    ensures entry { (entry : Entry) → IsEntry entry → length (canon (entry_value entry)) ≤ 5500 }
+    ensures transaction { (t : Transaction) → IsTransaction t → length (canon (transaction_value t)) ≤ 164 }
+{}

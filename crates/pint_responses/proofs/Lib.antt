@@ -1,0 +1,10 @@
+mod HeadLemmas
+mod PlainLemmas
+mod MemberLemmas
+mod Tails
+mod LawfulLemmas
+mod LengthLemmas
+mod WrittenLemmas
+mod TextLemmas
+mod SealedLemmas
+mod ReadLemmas

@@ -1,0 +1,4 @@
+pub mod Response
+pub mod Writing
+pub mod Reading
+pub mod Sealed

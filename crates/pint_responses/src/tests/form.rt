@@ -1,0 +1,149 @@
+//! Each member wrong in each way. In these texts `'` stands for `"`.
+use crate::tests::platform;
+use crate::{ResponseField, UnsealFault, unseal};
+use canonical_json::read;
+use signed_envelope::compose;
+use std::process::Abort;
+use std::test::Fail;
+use test_signer::KeyedRing;
+
+// A response with these members behind others; of a name that comes twice the last value counts.
+pub(crate) fn fault_with(
+    rt: &(impl Abort + AllocGlobal),
+    members: &str,
+) -> Result<Option<UnsealFault>, Fail> {
+    let text = format!(in rt.alloc();
+        "{{'responseCode':'BENV','standing':false,'missing':[],{members}}}"
+    )?;
+    fault_of(rt, text.as_str())
+}
+
+fn fault_of(rt: &(impl Abort + AllocGlobal), payload: &str) -> Result<Option<UnsealFault>, Fail> {
+    let mut bytes = Vec::new(rt.alloc());
+    for byte in payload.as_bytes() {
+        bytes.push(if *byte == b'\'' { b'"' } else { *byte })?;
+    }
+    let json = read(rt.alloc(), bytes.as_slice()).ok().ok_or("json")?;
+    let mut ring = KeyedRing::derived();
+    let alph = platform(rt, "ALPH");
+    let text = compose(rt.alloc(), &mut ring, alph, &json, 65_536)
+        .ok()
+        .ok_or("composed")?;
+    Ok(unseal(rt.alloc(), &ring, text.0.as_slice(), alph).err())
+}
+
+#[test]
+fn absent_members(rt: HostRuntime) -> Result<(), Fail> {
+    for (payload, field) in [
+        ("[]", ResponseField::ResponseCode),
+        ("{}", ResponseField::ResponseCode),
+        ("{'responseCode':'RECE'}", ResponseField::Standing),
+        (
+            "{'responseCode':'RECE','standing':true}",
+            ResponseField::Missing,
+        ),
+    ] {
+        assert_eq!(rt;
+            fault_of(&rt, payload)?,
+            Some(UnsealFault::Form(field)),
+            "{payload}"
+        );
+    }
+    assert_eq!(rt; fault_with(&rt, "'further':null")?, None);
+    Ok(())
+}
+
+#[test]
+fn codes_and_truth_values(rt: HostRuntime) -> Result<(), Fail> {
+    for members in ["'responseCode':null", "'responseCode':'rece'"] {
+        let fault = UnsealFault::Form(ResponseField::ResponseCode);
+        assert_eq!(rt; fault_with(&rt, members)?, Some(fault), "{members}");
+    }
+    for members in ["'standing':null", "'standing':'true'", "'standing':0"] {
+        let fault = UnsealFault::Form(ResponseField::Standing);
+        assert_eq!(rt; fault_with(&rt, members)?, Some(fault), "{members}");
+    }
+    Ok(())
+}
+
+#[test]
+fn names(rt: HostRuntime) -> Result<(), Fail> {
+    for (members, field) in [
+        ("'bill':null", ResponseField::Bill),
+        ("'bill':'ba7816bf'", ResponseField::Bill),
+        ("'last':null", ResponseField::Last),
+        ("'last':1", ResponseField::Last),
+        ("'missing':{}", ResponseField::Missing),
+        ("'missing':[null]", ResponseField::Missing),
+    ] {
+        let fault = UnsealFault::Form(field);
+        assert_eq!(rt; fault_with(&rt, members)?, Some(fault), "{members}");
+    }
+    Ok(())
+}
+
+#[test]
+fn reasons(rt: HostRuntime) -> Result<(), Fail> {
+    for members in [
+        "'reason':null",
+        "'reason':'body'",
+        "'reason':'PARTS'",
+        "'reason':'SIGNATURE','index':0",
+    ] {
+        let fault = UnsealFault::Form(ResponseField::Reason);
+        assert_eq!(rt; fault_with(&rt, members)?, Some(fault), "{members}");
+    }
+    Ok(())
+}
+
+#[test]
+fn indexes(rt: HostRuntime) -> Result<(), Fail> {
+    for members in [
+        "'reason':'FOLD'",
+        "'reason':'FOLD','index':64",
+        "'reason':'FOLD','index':-1",
+        "'reason':'FOLD','index':'1'",
+        "'reason':'BODY','index':0",
+        "'reason':'BODY','index':null",
+        "'index':0",
+    ] {
+        let fault = UnsealFault::Form(ResponseField::Index);
+        assert_eq!(rt; fault_with(&rt, members)?, Some(fault), "{members}");
+    }
+    assert_eq!(rt; fault_with(&rt, "'reason':'FOLD','index':63")?, None);
+    Ok(())
+}
+
+#[test]
+fn evidence(rt: HostRuntime) -> Result<(), Fail> {
+    for (members, field) in [
+        ("'own':null", ResponseField::Own),
+        ("'own':'e30.e30'", ResponseField::Own),
+        ("'own':'e30.e30.AA='", ResponseField::Own),
+        ("'theirs':1", ResponseField::Theirs),
+        ("'theirs':'e30.e31.AA'", ResponseField::Theirs),
+    ] {
+        let fault = UnsealFault::Form(field);
+        assert_eq!(rt; fault_with(&rt, members)?, Some(fault), "{members}");
+    }
+    assert_eq!(rt;
+        fault_with(&rt, "'own':'e30.e30.AA','theirs':'..AA'")?,
+        None
+    );
+    Ok(())
+}
+
+#[test]
+fn first_wrong_member(rt: HostRuntime) -> Result<(), Fail> {
+    for (members, field) in [
+        ("'last':1,'bill':1", ResponseField::Bill),
+        ("'reason':1,'standing':1,'last':1", ResponseField::Last),
+        ("'index':1,'reason':1", ResponseField::Reason),
+        ("'theirs':1,'own':1,'missing':1", ResponseField::Missing),
+        ("'theirs':1,'own':1", ResponseField::Own),
+    ] {
+        let fault = UnsealFault::Form(field);
+        assert_eq!(rt; fault_with(&rt, members)?, Some(fault), "{members}");
+    }
+    Ok(())
+}
