@@ -19,6 +19,10 @@ pub record IsSettled (file : List ℕ) (may_leave : List ℕ → Type 0) (end : 
   pub place : end ≡ length (front_of h)
   pub durable : Only file may_leave
 
+-- the journal is settled, and these are its contents
+abbrev pub HasContents : {D : Type 0} → (D → List ℕ) → (D → List ℕ → Type 0) → JournalRecord D → List (List ℕ) → Type 0
+HasContents seen may_leave journal h = IsSettled (seen journal.disk) (may_leave journal.disk) journal.end h
+
 -- with one content more, or without it
 abbrev pub WithOrWithout : List (List ℕ) → List ℕ → List ℕ → Type 0
 WithOrWithout h x file = StandsFor file h ⊎ StandsFor file (h ++ x ∷ [])

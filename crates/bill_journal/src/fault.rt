@@ -9,7 +9,8 @@ use std::alloc::AllocError;
 pub enum OpenFault {
     /// The disk failed: its count of faults rose.
     Disk,
-    /// The frame at this place runs past the end; or the disk ends there, where a gate should stand; or, at 0, the version isn't 1.
+    /// The frame at this place runs past the end; or the disk ends there, where a gate should stand; or, at 0, the
+    /// version isn't 1.
     Damaged(u64),
     /// Memory ran out.
     NoMemory,

@@ -22,10 +22,12 @@ pub fn damage_has_one_place()
 
 /// A settled journal has its contents, with a loose one or without it.
 pub fn settled_contents_are_there<D: Disk>()
-    ensures { (disk : D) (end : ℕ) (h : List (List ℕ)) (x : List ℕ) → IsSettled (D.seen disk) (D.may_leave disk) end h → MayHave (D.seen disk) (D.may_leave disk) h x }
+    ensures { (disk : D) (end : ℕ) (h : List (List ℕ)) (x : List ℕ) → IsSettled (D.seen disk) (D.may_leave disk) end h
+        → MayHave (D.seen disk) (D.may_leave disk) h x }
 {}
 
 /// What is read with a loose content or without it is one of the two lists.
 pub fn a_loose_content_is_there_or_not()
-    ensures { (file : List ℕ) (h k : List (List ℕ)) (x : List ℕ) → WithOrWithout h x file → StandsFor file k → (k ≡ h) ⊎ (k ≡ h ++ x ∷ []) }
+    ensures { (file : List ℕ) (h k : List (List ℕ)) (x : List ℕ) → WithOrWithout h x file → StandsFor file k → (k ≡ h)
+        ⊎ (k ≡ h ++ x ∷ []) }
 {}

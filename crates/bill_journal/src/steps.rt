@@ -20,8 +20,10 @@ pub(crate) fn put<D: Disk>(disk: &mut D, place: u64, bytes: &[u8]) -> Result<(),
     ensures done { D.tells disk.old ≡ true → OnOk result (D.seen disk.new ≡ written (D.seen disk.old) place bytes.now) }
     ensures durable { D.tells disk.old ≡ true → OnOk result (Only (D.seen disk.new) (D.may_leave disk.new)) }
     ensures seen { D.tells disk.old ≡ true → Torn place (length bytes.now) (D.seen disk.old) (D.seen disk.new) }
-    ensures crash { D.tells disk.old ≡ true → Follows (Torn place (length bytes.now)) (D.may_leave disk.old) (D.may_leave disk.new) }
-    ensures time { D.tells disk.old ≡ true → LeavesOnly D.moment D.left_since disk.old disk.new (TornFrom place (length bytes.now) (D.may_leave disk.old)) }
+    ensures crash { D.tells disk.old ≡ true → Follows (Torn place (length bytes.now)) (D.may_leave disk.old)
+        (D.may_leave disk.new) }
+    ensures time { D.tells disk.old ≡ true → LeavesOnly D.moment D.left_since disk.old disk.new
+        (TornFrom place (length bytes.now) (D.may_leave disk.old)) }
     ensures cause { HasCause (D.faults disk.old) (D.faults disk.new) result }
 {
     disk.write_at(place, bytes)?;
@@ -35,11 +37,14 @@ pub(crate) fn write_frame<D: Disk>(disk: &mut D, end: u64, bytes: &[u8]) -> Resu
     ensures told { D.tells disk.new ≡ D.tells disk.old }
     ensures seen { D.tells disk.old ≡ true → length (D.seen disk.old) ≤ length (D.seen disk.new) }
     ensures done { D.tells disk.old ≡ true → OnOk result (end + length bytes.now < length (D.seen disk.new)) }
-    ensures appended { (h : List (List ℕ)) (x : List ℕ) → D.tells disk.old ≡ true → IsSettled (D.seen disk.old) (D.may_leave disk.old) end h → IsShort x → bytes.now ≡ framed x
+    ensures appended { (h : List (List ℕ)) (x : List ℕ) → D.tells disk.old ≡ true
+        → IsSettled (D.seen disk.old) (D.may_leave disk.old) end h → IsShort x → bytes.now ≡ framed x
         → OnOk result (IsSettled (D.seen disk.new) (D.may_leave disk.new) (end + length bytes.now) (h ++ x ∷ [])) }
-    ensures loose { (h : List (List ℕ)) (x : List ℕ) → D.tells disk.old ≡ true → IsSettled (D.seen disk.old) (D.may_leave disk.old) end h → IsShort x → bytes.now ≡ framed x
+    ensures loose { (h : List (List ℕ)) (x : List ℕ) → D.tells disk.old ≡ true
+        → IsSettled (D.seen disk.old) (D.may_leave disk.old) end h → IsShort x → bytes.now ≡ framed x
         → MayHave (D.seen disk.new) (D.may_leave disk.new) h x }
-    ensures any_moment { (h : List (List ℕ)) (x : List ℕ) → D.tells disk.old ≡ true → IsSettled (D.seen disk.old) (D.may_leave disk.old) end h → IsShort x → bytes.now ≡ framed x
+    ensures any_moment { (h : List (List ℕ)) (x : List ℕ) → D.tells disk.old ≡ true
+        → IsSettled (D.seen disk.old) (D.may_leave disk.old) end h → IsShort x → bytes.now ≡ framed x
         → LeavesOnly D.moment D.left_since disk.old disk.new (WithOrWithout h x) }
     ensures cause { HasCause (D.faults disk.old) (D.faults disk.new) result }
 {
@@ -75,7 +80,8 @@ pub(crate) fn read_journal<D: Disk>(
     ensures far { IfOk result (λ r. r.1 < 2 ^ 63) }
     ensures within { D.tells disk.old ≡ true → IfOk result (λ r. r.1 < length (D.seen disk.old)) }
     ensures stands { D.tells disk.old ≡ true → IfOk result (λ r. StandsFor (D.seen disk.old) (contents_of r.0)) }
-    ensures damaged { (place : ℕ) → D.tells disk.old ≡ true → IsErrOf result (OpenFault.Damaged place) → IsDamagedAt (D.seen disk.old) place }
+    ensures damaged { (place : ℕ) → D.tells disk.old ≡ true → IsErrOf result (OpenFault.Damaged place)
+        → IsDamagedAt (D.seen disk.old) place }
     ensures looked { D.tells disk.old ≡ true → Looked D.seen D.may_leave D.moment D.left_since disk.old disk.new }
     ensures later { D.faults disk.old ≤ D.faults disk.new }
     ensures failed { IsErrOf result OpenFault.Disk → Rose (D.faults disk.old) (D.faults disk.new) }
@@ -96,10 +102,14 @@ pub(crate) fn read_or_make<D: Disk>(
     ensures within { D.tells disk.old ≡ true → IfOk result (λ r. r.1 < length (D.seen disk.new)) }
     ensures made { D.tells disk.old ≡ true → D.seen disk.old ≡ [] → IfOk result (λ r. r.0 ≡ []) }
     ensures blank { D.tells disk.old ≡ true → D.seen disk.old ≡ [] → OnOk result (D.seen disk.new ≡ 1 ∷ 0 ∷ []) }
-    ensures durable { D.tells disk.old ≡ true → D.seen disk.old ≡ [] → OnOk result (Only (D.seen disk.new) (D.may_leave disk.new)) }
-    ensures stands { D.tells disk.old ≡ true → 0 < length (D.seen disk.old) → IfOk result (λ r. StandsFor (D.seen disk.old) (contents_of r.0)) }
-    ensures damaged { (place : ℕ) → D.tells disk.old ≡ true → IsErrOf result (OpenFault.Damaged place) → (0 < length (D.seen disk.old)) × IsDamagedAt (D.seen disk.old) place }
-    ensures looked { D.tells disk.old ≡ true → 0 < length (D.seen disk.old) → Looked D.seen D.may_leave D.moment D.left_since disk.old disk.new }
+    ensures durable { D.tells disk.old ≡ true → D.seen disk.old ≡ []
+        → OnOk result (Only (D.seen disk.new) (D.may_leave disk.new)) }
+    ensures stands { D.tells disk.old ≡ true → 0 < length (D.seen disk.old)
+        → IfOk result (λ r. StandsFor (D.seen disk.old) (contents_of r.0)) }
+    ensures damaged { (place : ℕ) → D.tells disk.old ≡ true → IsErrOf result (OpenFault.Damaged place)
+        → (0 < length (D.seen disk.old)) × IsDamagedAt (D.seen disk.old) place }
+    ensures looked { D.tells disk.old ≡ true → 0 < length (D.seen disk.old)
+        → Looked D.seen D.may_leave D.moment D.left_since disk.old disk.new }
     ensures later { D.faults disk.old ≤ D.faults disk.new }
     ensures failed { IsErrOf result OpenFault.Disk → Rose (D.faults disk.old) (D.faults disk.new) }
 {
@@ -122,7 +132,8 @@ pub(crate) fn sync_and_read<D: Disk>(
     ensures within { D.tells disk.old ≡ true → IfOk result (λ r. r.1 < length (D.seen disk.new)) }
     ensures durable { D.tells disk.old ≡ true → OnOk result (Only (D.seen disk.new) (D.may_leave disk.new)) }
     ensures stands { D.tells disk.old ≡ true → IfOk result (λ r. StandsFor (D.seen disk.old) (contents_of r.0)) }
-    ensures damaged { (place : ℕ) → D.tells disk.old ≡ true → IsErrOf result (OpenFault.Damaged place) → IsDamagedAt (D.seen disk.old) place }
+    ensures damaged { (place : ℕ) → D.tells disk.old ≡ true → IsErrOf result (OpenFault.Damaged place)
+        → IsDamagedAt (D.seen disk.old) place }
     ensures looked { D.tells disk.old ≡ true → Looked D.seen D.may_leave D.moment D.left_since disk.old disk.new }
     ensures later { D.faults disk.old ≤ D.faults disk.new }
     ensures failed { IsErrOf result OpenFault.Disk → Rose (D.faults disk.old) (D.faults disk.new) }

@@ -24,47 +24,62 @@ length-events_of (Write p m ∷ marks) bytes = omega (arith, length-events_of ma
 length-events_of (Sync ∷ marks) bytes = omega (arith, length-events_of marks bytes)
 
 pub events_of-write : (marks : List Mark) (bytes piece : List ℕ) (place : ℕ) → marked marks ≡ length bytes
-    → events_of (marks ++ Write place (length piece) ∷ []) (bytes ++ piece) ≡ events_of marks bytes ++ write place piece ∷ []
-events_of-write [] [] piece place whole = ap (λ (l : List ℕ). write place l ∷ []) (take_all (length piece) piece (omega arith))
+    → events_of (marks ++ Write place (length piece) ∷ []) (bytes ++ piece) ≡ events_of marks bytes
+        ++ write place piece ∷ []
+events_of-write [] [] piece place whole = ap (λ (l : List ℕ). write place l ∷ [])
+    (take_all (length piece) piece (omega arith))
 events_of-write [] (b ∷ bytes) piece place whole = absurd (omega arith)
 events_of-write (Write p m ∷ marks) bytes piece place whole =
     let inside : m ≤ length bytes = omega arith in
-    ap (λ (l : List ℕ). write p l ∷ events_of (marks ++ Write place (length piece) ∷ []) (drop m (bytes ++ piece))) (take-append-le m bytes piece inside)
-    ∙ ap (λ (l : List ℕ). write p (take m bytes) ∷ events_of (marks ++ Write place (length piece) ∷ []) l) (drop-append-le m bytes piece inside)
-    ∙ ap (λ (l : List Event). write p (take m bytes) ∷ l) (events_of-write marks (drop m bytes) piece place (omega (arith, length-drop m bytes)))
-events_of-write (Sync ∷ marks) bytes piece place whole = ap (λ (l : List Event). synced ∷ l) (events_of-write marks bytes piece place whole)
+    ap (λ (l : List ℕ). write p l ∷ events_of (marks ++ Write place (length piece) ∷ []) (drop m (bytes ++ piece)))
+        (take-append-le m bytes piece inside)
+    ∙ ap (λ (l : List ℕ). write p (take m bytes) ∷ events_of (marks ++ Write place (length piece) ∷ []) l)
+        (drop-append-le m bytes piece inside)
+    ∙ ap (λ (l : List Event). write p (take m bytes) ∷ l)
+        (events_of-write marks (drop m bytes) piece place (omega (arith, length-drop m bytes)))
+events_of-write (Sync ∷ marks) bytes piece place whole = ap (λ (l : List Event). synced ∷ l)
+    (events_of-write marks bytes piece place whole)
 
-pub events_of-sync : (marks : List Mark) (bytes : List ℕ) → events_of (marks ++ Sync ∷ []) bytes ≡ events_of marks bytes ++ synced ∷ []
+pub events_of-sync : (marks : List Mark) (bytes : List ℕ)
+    → events_of (marks ++ Sync ∷ []) bytes ≡ events_of marks bytes ++ synced ∷ []
 events_of-sync [] bytes = refl
-events_of-sync (Write p m ∷ marks) bytes = ap (λ (l : List Event). write p (take m bytes) ∷ l) (events_of-sync marks (drop m bytes))
+events_of-sync (Write p m ∷ marks) bytes = ap (λ (l : List Event). write p (take m bytes) ∷ l)
+    (events_of-sync marks (drop m bytes))
 events_of-sync (Sync ∷ marks) bytes = ap (λ (l : List Event). synced ∷ l) (events_of-sync marks bytes)
 
 -- the marks stand for all the bytes
-pub bytes_written-events_of : (marks : List Mark) (bytes : List ℕ) → marked marks ≡ length bytes → bytes_written (events_of marks bytes) ≡ length bytes
+pub bytes_written-events_of : (marks : List Mark) (bytes : List ℕ) → marked marks ≡ length bytes
+    → bytes_written (events_of marks bytes) ≡ length bytes
 bytes_written-events_of [] bytes whole = whole
 bytes_written-events_of (Write p m ∷ marks) bytes whole =
-    omega (arith, length-take-le m bytes (omega arith), bytes_written-events_of marks (drop m bytes) (omega (arith, length-drop m bytes)), length-drop m bytes)
+    omega (arith, length-take-le m bytes (omega arith), bytes_written-events_of marks (drop m bytes)
+        (omega (arith, length-drop m bytes)), length-drop m bytes)
 bytes_written-events_of (Sync ∷ marks) bytes whole = bytes_written-events_of marks bytes whole
 
 pub IsKept-start : (start : List ℕ) → IsKept start start [] []
 IsKept-start start = record { whole = refl; replayed = refl; inside = tt }
 
-pub IsKept-write : (start seen bytes piece : List ℕ) (marks : List Mark) (place : ℕ) → IsKept start seen marks bytes → place ≤ length seen
+pub IsKept-write : (start seen bytes piece : List ℕ) (marks : List Mark) (place : ℕ) → IsKept start seen marks bytes
+    → place ≤ length seen
     → IsKept start (written seen place piece) (marks ++ Write place (length piece) ∷ []) (bytes ++ piece)
 IsKept-write start seen bytes piece marks place kept inside =
     let events = events_of-write marks bytes piece place kept.whole in
     record {
       whole = omega (arith, marked-write marks place (length piece), kept.whole, length-append bytes piece);
-      replayed = ap (λ (l : List ℕ). written l place piece) kept.replayed ∙ sym (seen_after-write start (events_of marks bytes) place piece) ∙ ap (seen_after start) (sym events);
+      replayed = ap (λ (l : List ℕ). written l place piece) kept.replayed
+          ∙ sym (seen_after-write start (events_of marks bytes) place piece) ∙ ap (seen_after start) (sym events);
       inside = subst (BeginInside start) (sym events)
-        (BeginInside-write start (events_of marks bytes) place piece kept.inside (subst (λ (l : List ℕ). place ≤ length l) kept.replayed inside));
+        (BeginInside-write start (events_of marks bytes) place piece kept.inside
+            (subst (λ (l : List ℕ). place ≤ length l) kept.replayed inside));
     }
 
-pub IsKept-sync : (start seen bytes : List ℕ) (marks : List Mark) → IsKept start seen marks bytes → IsKept start seen (marks ++ Sync ∷ []) bytes
+pub IsKept-sync : (start seen bytes : List ℕ) (marks : List Mark) → IsKept start seen marks bytes
+    → IsKept start seen (marks ++ Sync ∷ []) bytes
 IsKept-sync start seen bytes marks kept =
     let events = events_of-sync marks bytes in
     record {
       whole = marked-sync marks ∙ kept.whole;
-      replayed = kept.replayed ∙ sym (seen_after-synced start (events_of marks bytes)) ∙ ap (seen_after start) (sym events);
+      replayed = kept.replayed ∙ sym (seen_after-synced start (events_of marks bytes))
+          ∙ ap (seen_after start) (sym events);
       inside = subst (BeginInside start) (sym events) (BeginInside-synced start (events_of marks bytes) kept.inside);
     }

@@ -4,20 +4,24 @@ use Rattle.disk_model.specs.Disk.{NoneNew, Elapses, LeavesOnly, Looked}
 
 module _ {D : Type 0} (moment : D → ℕ) (left_since : D → ℕ → List ℕ → Type 0) where
   -- before the first call
-  pub started : (old : D) (P : List ℕ → Type 0) → ((c : List ℕ) → left_since old (moment old) c → P c) → LeavesOnly moment left_since old old P
+  pub started : (old : D) (P : List ℕ → Type 0) → ((c : List ℕ) → left_since old (moment old) c → P c)
+      → LeavesOnly moment left_since old old P
   started old P here = record { later = omega arith; each = here; before = λ t c le left. inl left }
 
   -- one call more, after which a crash leaves what has P
   pub goes_on : (old mid new : D) (P may_leave : List ℕ → Type 0) → LeavesOnly moment left_since old mid P
-      → Elapses (moment mid) (moment new) (left_since mid) (left_since new) may_leave → ((c : List ℕ) → may_leave c → P c) → LeavesOnly moment left_since old new P
+      → Elapses (moment mid) (moment new) (left_since mid) (left_since new) may_leave
+          → ((c : List ℕ) → may_leave c → P c) → LeavesOnly moment left_since old new P
   goes_on old mid new P may_leave so_far time here = record {
     later = omega (arith, so_far.later, time.later);
     each = λ c left. ⊎_elim (so_far.each c) (here c) (time.nothing_else (moment old) c so_far.later left);
-    before = λ t c le left. ⊎_elim (so_far.before t c le) (λ now. inr (here c now)) (time.nothing_else t c (omega (arith, le, so_far.later)) left);
+    before = λ t c le left. ⊎_elim (so_far.before t c le) (λ now. inr (here c now))
+        (time.nothing_else t c (omega (arith, le, so_far.later)) left);
   }
 
   -- what has P has Q
-  pub LeavesOnly-weaker : (old new : D) (P Q : List ℕ → Type 0) → ((c : List ℕ) → P c → Q c) → LeavesOnly moment left_since old new P → LeavesOnly moment left_since old new Q
+  pub LeavesOnly-weaker : (old new : D) (P Q : List ℕ → Type 0) → ((c : List ℕ) → P c → Q c)
+      → LeavesOnly moment left_since old new P → LeavesOnly moment left_since old new Q
   LeavesOnly-weaker old new P Q weaker run = record {
     later = run.later;
     each = λ c left. weaker c (run.each c left);
@@ -25,29 +29,38 @@ module _ {D : Type 0} (moment : D → ℕ) (left_since : D → ℕ → List ℕ 
   }
 
   -- one run, and then another
-  pub LeavesOnly-trans : (old mid new : D) (P : List ℕ → Type 0) → LeavesOnly moment left_since old mid P → LeavesOnly moment left_since mid new P
+  pub LeavesOnly-trans : (old mid new : D) (P : List ℕ → Type 0) → LeavesOnly moment left_since old mid P
+      → LeavesOnly moment left_since mid new P
       → LeavesOnly moment left_since old new P
   LeavesOnly-trans old mid new P first second = record {
     later = omega (arith, first.later, second.later);
     each = λ c left. ⊎_elim (first.each c) (λ p. p) (second.before (moment old) c first.later left);
-    before = λ t c le left. ⊎_elim (first.before t c le) (λ p. inr p) (second.before t c (omega (arith, le, first.later)) left);
+    before = λ t c le left. ⊎_elim (first.before t c le) (λ p. inr p)
+        (second.before t c (omega (arith, le, first.later)) left);
   }
 
-module _ {D : Type 0} (seen : D → List ℕ) (may_leave : D → List ℕ → Type 0) (moment : D → ℕ) (left_since : D → ℕ → List ℕ → Type 0) where
+module _ {D : Type 0} (seen : D → List ℕ) (may_leave : D → List ℕ → Type 0) (moment : D → ℕ)
+    (left_since : D → ℕ → List ℕ → Type 0) where
   -- no call at all
-  pub Looked-refl : (old : D) → ((c : List ℕ) → left_since old (moment old) c → may_leave old c) → Looked seen may_leave moment left_since old old
-  Looked-refl old only = record { same = refl; crash = λ c left. left; time = started moment left_since old (may_leave old) only }
+  pub Looked-refl : (old : D) → ((c : List ℕ) → left_since old (moment old) c → may_leave old c)
+      → Looked seen may_leave moment left_since old old
+  Looked-refl old only = record { same = refl; crash = λ c left. left;
+      time = started moment left_since old (may_leave old) only }
 
   -- one call that wrote nothing
-  pub Looked-one : (old new : D) → ((c : List ℕ) → left_since old (moment old) c → may_leave old c) → seen new ≡ seen old → NoneNew (may_leave old) (may_leave new)
-      → Elapses (moment old) (moment new) (left_since old) (left_since new) (may_leave new) → Looked seen may_leave moment left_since old new
+  pub Looked-one : (old new : D) → ((c : List ℕ) → left_since old (moment old) c → may_leave old c)
+      → seen new ≡ seen old → NoneNew (may_leave old) (may_leave new)
+      → Elapses (moment old) (moment new) (left_since old) (left_since new) (may_leave new)
+          → Looked seen may_leave moment left_since old new
   Looked-one old new only same crash time = record {
     same = same;
     crash = crash;
-    time = goes_on moment left_since old old new (may_leave old) (may_leave new) (started moment left_since old (may_leave old) only) time crash;
+    time = goes_on moment left_since old old new (may_leave old) (may_leave new)
+        (started moment left_since old (may_leave old) only) time crash;
   }
 
-  pub Looked-trans : (old mid new : D) → Looked seen may_leave moment left_since old mid → Looked seen may_leave moment left_since mid new → Looked seen may_leave moment left_since old new
+  pub Looked-trans : (old mid new : D) → Looked seen may_leave moment left_since old mid
+      → Looked seen may_leave moment left_since mid new → Looked seen may_leave moment left_since old new
   Looked-trans old mid new first second = record {
     same = second.same ∙ first.same;
     crash = λ c left. first.crash c (second.crash c left);

@@ -2,7 +2,7 @@
 use Rattle.std.specs.Prelude.{◌≡◌, ℕ, ◌+◌, ◌≤◌, List, [], ◌∷◌, length, take}
 use Rattle.std.proofs.Common.{sym, subst, arith}
 use Rattle.std.proofs.lemmas.List.{take_all}
-use Rattle.disk_model.specs.Disk.{written, Torn}
+use Rattle.disk_model.specs.Disk.{written, Torn, Elapses}
 
 -- bytes were written from a place on, or all that was written is on the disk
 pub data Event : Type 0 where
@@ -30,6 +30,11 @@ MayLeave start events c = LeftAfter (λ d. d ≡ start) start events c
 abbrev pub LeftSince : List ℕ → List Event → ℕ → List ℕ → Type 0
 LeftSince start events t c = (k : ℕ) × (t ≤ k) × (k ≤ length events) × MayLeave start (take k events) c
 
+-- time goes on from some events to others
+abbrev pub EventsElapse : List ℕ → List Event → List ℕ → List Event → Type 0
+EventsElapse start events start_now now =
+    Elapses (length events) (length now) (LeftSince start events) (LeftSince start_now now) (MayLeave start_now now)
+
 -- each write begins inside the bytes, or at their end
 abbrev pub BeginInside : List ℕ → List Event → Type 0
 BeginInside file [] = Unit {0}
@@ -45,10 +50,13 @@ bytes_written (synced ∷ events) = bytes_written events
 -- ---- laws
 
 -- this moment is one of those since an earlier one
-pub counts_now : (start : List ℕ) (events : List Event) (t : ℕ) (c : List ℕ) → t ≤ length events → MayLeave start events c → LeftSince start events t c
+pub counts_now : (start : List ℕ) (events : List Event) (t : ℕ) (c : List ℕ) → t ≤ length events
+    → MayLeave start events c → LeftSince start events t c
 counts_now start events t c le left =
-    (length events, le, omega arith, subst (λ (l : List Event). MayLeave start l c) (sym (take_all (length events) events (omega arith))) left)
+    (length events, le, omega arith, subst (λ (l : List Event). MayLeave start l c)
+        (sym (take_all (length events) events (omega arith))) left)
 
 -- since this moment there is no other
-pub only_now : (start : List ℕ) (events : List Event) (c : List ℕ) → LeftSince start events (length events) c → MayLeave start events c
+pub only_now : (start : List ℕ) (events : List Event) (c : List ℕ) → LeftSince start events (length events) c
+    → MayLeave start events c
 only_now start events c left = subst (λ (l : List Event). MayLeave start l c) (take_all left.0 events left.1) left.3

@@ -3,7 +3,8 @@ use Rattle.std.specs.Prelude.{ℕ, List}
 use Rattle.ebl_base.specs.Calls.{CallsRecord}
 use Rattle.disk_model.specs.Event.{Event}
 
--- the bytes at the start, what a read gives now, the events between; and for how many bytes of writes and how many events
+-- the bytes at the start, what a read gives now, the events between; and for how many bytes of writes and how many
+-- events
 -- room was taken before
 pub record LogRecord : Type 0 where
   pub start : List ℕ
@@ -12,7 +13,8 @@ pub record LogRecord : Type 0 where
   pub byte_room : ℕ
   pub event_room : ℕ
 
--- a disk with a list of failing calls: as above without room, its calls, and the numbers of the writes whose bytes go in
+-- a disk with a list of failing calls: as above without room, its calls, and the numbers of the writes whose bytes go
+-- in
 -- all the same
 pub record DiskRecord : Type 0 where
   pub start : List ℕ

@@ -10,7 +10,9 @@ use std::os::unix::fs::FileExt;
 
 /// A file as a disk. It tells nothing: no contract says what the system keeps of a file.
 ///
-/// Each error of the system counts as a fault. A call that a signal interrupts is made again, and a read or a write that moved only a part goes on behind that part. A sync waits until the system says that the bytes are on the device (`fdatasync`).
+/// Each error of the system counts as a fault. A call that a signal interrupts is made again, and a read or a write
+/// that moved only a part goes on behind that part. A sync waits until the system says that the bytes are on the
+/// device (`fdatasync`).
 #[derive(Drop)]
 pub struct FileDisk {
     file: File,
@@ -33,7 +35,8 @@ impl FileDisk {
         FileDisk { file, faults: 0 }
     }
 
-    /// The file at a path of a folder as a disk. A file that isn't there is made, blank, and the folder synced, so that a crash doesn't lose its name.
+    /// The file at a path of a folder as a disk. A file that isn't there is made, blank, and the folder synced, so
+    /// that a crash doesn't lose its name.
     ///
     /// Nobody else may write the file while the disk is used: nothing here locks it.
     pub fn open(rt: &HostRuntime, folder: &str, path: &str) -> io::Result<FileDisk>

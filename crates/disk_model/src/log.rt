@@ -1,7 +1,7 @@
 // What a disk in memory keeps: the bytes at the start, those that a read gives now, and each write and sync between.
 ghost use Rattle.std.specs.Prelude.{◌≡◌, ◌↔◌, ◌+◌, ◌≤◌, ◌<◌, ◌++◌, [], ◌∷◌, length, take, drop, vec_len, vec_capacity, IfOk, OnOk, OnErr, IsOk, IsTrue};
-ghost use Rattle.disk_model.specs.Disk.{written, Torn, Follows, NoneNew, Only, Elapses};
-ghost use Rattle.disk_model.specs.Event.{write, synced, bytes_written, seen_after, MayLeave, LeftSince};
+ghost use Rattle.disk_model.specs.Disk.{written, Torn, Follows, NoneNew, Only};
+ghost use Rattle.disk_model.specs.Event.{write, synced, bytes_written, seen_after, MayLeave, EventsElapse};
 
 use crate::mark::Mark;
 use ebl_base::{ByteList, Copied, NoMemory};
@@ -27,9 +27,12 @@ impl Model for DiskLog {
 
     ghost Value = { LogRecord };
 
-    ghost view = { λ s. record { start = s.start; seen = s.seen.items; events = events_of s.marks.items s.written.items; byte_room = s.byte_room; event_room = s.event_room } };
+    ghost view = { λ s. record { start = s.start; seen = s.seen.items;
+        events = events_of s.marks.items s.written.items; byte_room = s.byte_room; event_room = s.event_room } };
 
-    ghost invariant = { λ s. IsKept s.start s.seen.items s.marks.items s.written.items × (s.byte_room ≤ vec_capacity s.seen) × (s.byte_room ≤ vec_capacity s.written) × (s.event_room ≤ vec_capacity s.marks) };
+    ghost invariant = { λ s. IsKept s.start s.seen.items s.marks.items s.written.items
+        × (s.byte_room ≤ vec_capacity s.seen) × (s.byte_room ≤ vec_capacity s.written)
+        × (s.event_room ≤ vec_capacity s.marks) };
 }
 
 impl DiskLog {
@@ -109,10 +112,13 @@ impl DiskLog {
         ensures same_seen { OnErr result (self.new.seen ≡ self.old.seen) }
         ensures byte_room { self.new.byte_room ≡ self.old.byte_room }
         ensures event_room { self.new.event_room ≡ self.old.event_room }
-        ensures fits { place + length piece.now ≤ self.old.byte_room → bytes_written self.old.events + length piece.now ≤ self.old.byte_room → length self.old.events < self.old.event_room → IsOk result }
+        ensures fits { place + length piece.now ≤ self.old.byte_room
+            → bytes_written self.old.events + length piece.now ≤ self.old.byte_room
+            → length self.old.events < self.old.event_room → IsOk result }
         ensures torn { Torn place (length piece.now) self.old.seen self.new.seen }
-        ensures crash { Follows (Torn place (length piece.now)) (MayLeave self.old.start self.old.events) (MayLeave self.new.start self.new.events) }
-        ensures time { Elapses (length self.old.events) (length self.new.events) (LeftSince self.old.start self.old.events) (LeftSince self.new.start self.new.events) (MayLeave self.new.start self.new.events) }
+        ensures crash { Follows (Torn place (length piece.now)) (MayLeave self.old.start self.old.events)
+            (MayLeave self.new.start self.new.events) }
+        ensures time { EventsElapse self.old.start self.old.events self.new.start self.new.events }
     {
         self.note_write(place, piece)
     }
@@ -126,7 +132,9 @@ impl DiskLog {
         ensures same_seen { OnErr result (self.new.seen ≡ self.old.seen) }
         ensures byte_room { self.new.byte_room ≡ self.old.byte_room }
         ensures event_room { self.new.event_room ≡ self.old.event_room }
-        ensures fits { place + length piece.now ≤ self.old.byte_room → bytes_written self.old.events + length piece.now ≤ self.old.byte_room → length self.old.events < self.old.event_room → IsOk result }
+        ensures fits { place + length piece.now ≤ self.old.byte_room
+            → bytes_written self.old.events + length piece.now ≤ self.old.byte_room
+            → length self.old.events < self.old.event_room → IsOk result }
     {
         reserve_over(&mut self.seen, place, piece.len())?;
         self.written.reserve(piece.len())?;
@@ -147,7 +155,7 @@ impl DiskLog {
         ensures fits { length self.old.events < self.old.event_room → IsOk result }
         ensures durable { OnOk result (Only self.old.seen (MayLeave self.new.start self.new.events)) }
         ensures crash { NoneNew (MayLeave self.old.start self.old.events) (MayLeave self.new.start self.new.events) }
-        ensures time { Elapses (length self.old.events) (length self.new.events) (LeftSince self.old.start self.old.events) (LeftSince self.new.start self.new.events) (MayLeave self.new.start self.new.events) }
+        ensures time { EventsElapse self.old.start self.old.events self.new.start self.new.events }
     {
         self.marks.push(Mark::Sync)?;
         Ok(())

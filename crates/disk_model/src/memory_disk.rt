@@ -1,8 +1,8 @@
 ghost use Rattle.std.specs.Prelude.{◌≡◌, ◌↔◌, ◌⊎◌, ◌+◌, ◌≤◌, ◌++◌, [], ◌∷◌, true, length, take, drop, Contains, IfOk, OnOk, OnErr, IsErr, is_err};
 ghost use Rattle.ebl_base.specs.Faults.{HasCause};
 ghost use Rattle.ebl_base.specs.Calls.{after_call};
-ghost use Rattle.disk_model.specs.Disk.{written, Torn, Follows, NoneNew, Only, Elapses};
-ghost use Rattle.disk_model.specs.Event.{write, synced, seen_after, MayLeave, LeftSince};
+ghost use Rattle.disk_model.specs.Disk.{written, Torn, Follows, NoneNew, Only};
+ghost use Rattle.disk_model.specs.Event.{write, synced, seen_after, MayLeave, LeftSince, EventsElapse};
 
 use crate::disk::Disk;
 use crate::log::DiskLog;
@@ -12,7 +12,8 @@ use std::marker::Model;
 
 /// A disk in memory that keeps each write and each sync, so that it can tell what a crash may leave at any moment.
 ///
-/// It fails at the listed calls, and where it finds no memory for a write or for its record. Calls are counted from 0; each `len`, `read`, `write_at` and `sync` is one.
+/// It fails at the listed calls, and where it finds no memory for a write or for its record. Calls are counted from
+/// 0; each `len`, `read`, `write_at` and `sync` is one.
 #[derive(Debug, Drop)]
 pub struct MemoryDisk {
     log: DiskLog,
@@ -25,7 +26,8 @@ impl Model for MemoryDisk {
 
     ghost Value = { DiskRecord };
 
-    ghost view = { λ s. record { start = s.log.start; seen = s.log.seen; events = s.log.events; calls = s.calls; done = s.done } };
+    ghost view = { λ s. record { start = s.log.start; seen = s.log.seen; events = s.log.events; calls = s.calls;
+        done = s.done } };
 }
 
 impl MemoryDisk {
@@ -66,10 +68,12 @@ impl MemoryDisk {
         requires inside { place ≤ length self.old.seen }
         ensures start { self.new.start ≡ self.old.start }
         ensures out { ¬ Contains self.old.done number → self.new.events ≡ self.old.events }
-        ensures in_or_out { (self.new.events ≡ self.old.events ++ write place bytes.now ∷ []) ⊎ (self.new.events ≡ self.old.events) }
+        ensures in_or_out { (self.new.events ≡ self.old.events ++ write place bytes.now ∷ [])
+            ⊎ (self.new.events ≡ self.old.events) }
         ensures torn { Torn place (length bytes.now) self.old.seen self.new.seen }
-        ensures crash { Follows (Torn place (length bytes.now)) (MayLeave self.old.start self.old.events) (MayLeave self.new.start self.new.events) }
-        ensures time { Elapses (length self.old.events) (length self.new.events) (LeftSince self.old.start self.old.events) (LeftSince self.new.start self.new.events) (MayLeave self.new.start self.new.events) }
+        ensures crash { Follows (Torn place (length bytes.now)) (MayLeave self.old.start self.old.events)
+            (MayLeave self.new.start self.new.events) }
+        ensures time { EventsElapse self.old.start self.old.events self.new.start self.new.events }
         ensures calls { self.new.calls ≡ self.old.calls }
         ensures done { self.new.done ≡ self.old.done }
     {
@@ -96,7 +100,7 @@ impl Disk for MemoryDisk {
         ensures length { IfOk result (λ n. n ≡ length self.old.seen) }
         ensures same { self.new ≡ record self.old { calls = after_call (is_err result) self.old.calls } }
         ensures crash { NoneNew (MayLeave self.old.start self.old.events) (MayLeave self.new.start self.new.events) }
-        ensures time { Elapses (length self.old.events) (length self.new.events) (LeftSince self.old.start self.old.events) (LeftSince self.new.start self.new.events) (MayLeave self.new.start self.new.events) }
+        ensures time { EventsElapse self.old.start self.old.events self.new.start self.new.events }
         ensures cause { HasCause self.old.calls.faults self.new.calls.faults result }
         ensures listed { IsErr result ↔ Contains self.old.calls.fails self.old.calls.number }
     {
@@ -111,7 +115,7 @@ impl Disk for MemoryDisk {
         ensures bytes { OnOk result (into.new ≡ take (length into.old) (drop place self.old.seen)) }
         ensures same { self.new ≡ record self.old { calls = after_call (is_err result) self.old.calls } }
         ensures crash { NoneNew (MayLeave self.old.start self.old.events) (MayLeave self.new.start self.new.events) }
-        ensures time { Elapses (length self.old.events) (length self.new.events) (LeftSince self.old.start self.old.events) (LeftSince self.new.start self.new.events) (MayLeave self.new.start self.new.events) }
+        ensures time { EventsElapse self.old.start self.old.events self.new.start self.new.events }
         ensures cause { HasCause self.old.calls.faults self.new.calls.faults result }
         ensures listed { IsErr result ↔ Contains self.old.calls.fails self.old.calls.number }
     {
@@ -127,14 +131,18 @@ impl Disk for MemoryDisk {
         requires inside { place ≤ length self.old.seen }
         ensures bytes { OnOk result (self.new.seen ≡ written self.old.seen place bytes.now) }
         ensures seen { Torn place (length bytes.now) self.old.seen self.new.seen }
-        ensures crash { Follows (Torn place (length bytes.now)) (MayLeave self.old.start self.old.events) (MayLeave self.new.start self.new.events) }
-        ensures time { Elapses (length self.old.events) (length self.new.events) (LeftSince self.old.start self.old.events) (LeftSince self.new.start self.new.events) (MayLeave self.new.start self.new.events) }
+        ensures crash { Follows (Torn place (length bytes.now)) (MayLeave self.old.start self.old.events)
+            (MayLeave self.new.start self.new.events) }
+        ensures time { EventsElapse self.old.start self.old.events self.new.start self.new.events }
         ensures cause { HasCause self.old.calls.faults self.new.calls.faults result }
         ensures start { self.new.start ≡ self.old.start }
         ensures noted { OnOk result (self.new.events ≡ self.old.events ++ write place bytes.now ∷ []) }
-        ensures in_or_out { OnErr result ((self.new.events ≡ self.old.events ++ write place bytes.now ∷ []) ⊎ (self.new.events ≡ self.old.events)) }
-        ensures left_out { OnErr result (¬ Contains self.old.done self.old.calls.number → self.new.events ≡ self.old.events) }
-        ensures unlisted { OnErr result (¬ Contains self.old.calls.fails self.old.calls.number → self.new.events ≡ self.old.events) }
+        ensures in_or_out { OnErr result ((self.new.events ≡ self.old.events ++ write place bytes.now ∷ [])
+            ⊎ (self.new.events ≡ self.old.events)) }
+        ensures left_out { OnErr result
+            (¬ Contains self.old.done self.old.calls.number → self.new.events ≡ self.old.events) }
+        ensures unlisted { OnErr result (¬ Contains self.old.calls.fails self.old.calls.number
+            → self.new.events ≡ self.old.events) }
         ensures listed { Contains self.old.calls.fails self.old.calls.number → IsErr result }
         ensures counted { self.new.calls ≡ after_call (is_err result) self.old.calls }
         ensures done { self.new.done ≡ self.old.done }
@@ -154,7 +162,7 @@ impl Disk for MemoryDisk {
         ensures durable { OnOk result (Only self.old.seen (MayLeave self.new.start self.new.events)) }
         ensures seen { self.new.seen ≡ self.old.seen }
         ensures crash { NoneNew (MayLeave self.old.start self.old.events) (MayLeave self.new.start self.new.events) }
-        ensures time { Elapses (length self.old.events) (length self.new.events) (LeftSince self.old.start self.old.events) (LeftSince self.new.start self.new.events) (MayLeave self.new.start self.new.events) }
+        ensures time { EventsElapse self.old.start self.old.events self.new.start self.new.events }
         ensures cause { HasCause self.old.calls.faults self.new.calls.faults result }
         ensures start { self.new.start ≡ self.old.start }
         ensures noted { OnOk result (self.new.events ≡ self.old.events ++ synced ∷ []) }

@@ -1,7 +1,7 @@
 ghost use Rattle.std.specs.Prelude.{◌≡◌, ◌↔◌, ◌+◌, ◌≤◌, ◌<◌, ◌++◌, [], ◌∷◌, true, length, take, drop, Ok, IfOk, IsOk, IsTrue, OnOk, OnErr, is_err, if◌then◌else◌};
 ghost use Rattle.ebl_base.specs.Faults.{HasCause, risen};
-ghost use Rattle.disk_model.specs.Disk.{written, Torn, Follows, NoneNew, Only, Elapses};
-ghost use Rattle.disk_model.specs.Event.{write, synced, bytes_written, seen_after, MayLeave, LeftSince};
+ghost use Rattle.disk_model.specs.Disk.{written, Torn, Follows, NoneNew, Only};
+ghost use Rattle.disk_model.specs.Event.{write, synced, bytes_written, seen_after, MayLeave, LeftSince, EventsElapse};
 
 use crate::disk::Disk;
 use crate::log::DiskLog;
@@ -9,7 +9,8 @@ use ebl_base::{Copied, Failed, NoMemory, count_fault};
 use std::alloc::Global;
 use std::marker::Model;
 
-/// A disk in memory that was taken before. It fails exactly where a write or a sync goes past that room, and does nothing there.
+/// A disk in memory that was taken before. It fails exactly where a write or a sync goes past that room, and does
+/// nothing there.
 ///
 /// It keeps each write and each sync, so that it can tell what a crash may leave at any moment. Reads take no room.
 #[derive(Debug, Drop)]
@@ -63,7 +64,8 @@ impl RoomyDisk {
     // Whether there is room for a write of so many bytes, or for a sync, which has none.
     fn has_room(&self, len: usize) -> bool
         ensures within { length self.now.log.seen ≤ bytes_written self.now.log.events }
-        ensures room { IsTrue result ↔ ((bytes_written self.now.log.events + len ≤ self.now.log.byte_room) × (length self.now.log.events < self.now.log.event_room)) }
+        ensures room { IsTrue result ↔ ((bytes_written self.now.log.events + len ≤ self.now.log.byte_room)
+            × (length self.now.log.events < self.now.log.event_room)) }
     {
         let (room, written) = (self.log.byte_room(), self.log.bytes_written());
         written <= room && len <= room - written && self.log.has_event_room()
@@ -86,8 +88,9 @@ impl Disk for RoomyDisk {
     fn len(&mut self) -> Result<u64, Failed>
         ensures length { result ≡ Ok (length self.old.log.seen) }
         ensures same { self.new ≡ self.old }
-        ensures crash { NoneNew (MayLeave self.old.log.start self.old.log.events) (MayLeave self.new.log.start self.new.log.events) }
-        ensures time { Elapses (length self.old.log.events) (length self.new.log.events) (LeftSince self.old.log.start self.old.log.events) (LeftSince self.new.log.start self.new.log.events) (MayLeave self.new.log.start self.new.log.events) }
+        ensures crash { NoneNew (MayLeave self.old.log.start self.old.log.events)
+            (MayLeave self.new.log.start self.new.log.events) }
+        ensures time { EventsElapse self.old.log.start self.old.log.events self.new.log.start self.new.log.events }
     {
         Ok(self.log.seen().len() as u64)
     }
@@ -97,8 +100,9 @@ impl Disk for RoomyDisk {
         ensures bytes { into.new ≡ take (length into.old) (drop place self.old.log.seen) }
         ensures ok { IsOk result }
         ensures same { self.new ≡ self.old }
-        ensures crash { NoneNew (MayLeave self.old.log.start self.old.log.events) (MayLeave self.new.log.start self.new.log.events) }
-        ensures time { Elapses (length self.old.log.events) (length self.new.log.events) (LeftSince self.old.log.start self.old.log.events) (LeftSince self.new.log.start self.new.log.events) (MayLeave self.new.log.start self.new.log.events) }
+        ensures crash { NoneNew (MayLeave self.old.log.start self.old.log.events)
+            (MayLeave self.new.log.start self.new.log.events) }
+        ensures time { EventsElapse self.old.log.start self.old.log.events self.new.log.start self.new.log.events }
     {
         let from = place as usize;
         into.copy_from_slice(&self.log.seen()[from..from + into.len()]);
@@ -109,14 +113,17 @@ impl Disk for RoomyDisk {
         requires inside { place ≤ length self.old.log.seen }
         ensures bytes { OnOk result (self.new.log.seen ≡ written self.old.log.seen place bytes.now) }
         ensures kept { OnErr result (self.new.log ≡ self.old.log) }
-        ensures fits { IsOk result ↔ ((bytes_written self.old.log.events + length bytes.now ≤ self.old.log.byte_room) × (length self.old.log.events < self.old.log.event_room)) }
+        ensures fits { IsOk result ↔ ((bytes_written self.old.log.events + length bytes.now ≤ self.old.log.byte_room)
+            × (length self.old.log.events < self.old.log.event_room)) }
         ensures noted { OnOk result (self.new.log.events ≡ self.old.log.events ++ write place bytes.now ∷ []) }
         ensures seen { Torn place (length bytes.now) self.old.log.seen self.new.log.seen }
-        ensures crash { Follows (Torn place (length bytes.now)) (MayLeave self.old.log.start self.old.log.events) (MayLeave self.new.log.start self.new.log.events) }
-        ensures time { Elapses (length self.old.log.events) (length self.new.log.events) (LeftSince self.old.log.start self.old.log.events) (LeftSince self.new.log.start self.new.log.events) (MayLeave self.new.log.start self.new.log.events) }
+        ensures crash { Follows (Torn place (length bytes.now)) (MayLeave self.old.log.start self.old.log.events)
+            (MayLeave self.new.log.start self.new.log.events) }
+        ensures time { EventsElapse self.old.log.start self.old.log.events self.new.log.start self.new.log.events }
         ensures cause { HasCause self.old.faults self.new.faults result }
         ensures counted { self.new.faults ≡ (if is_err result then risen self.old.faults else self.old.faults) }
-        ensures room { (self.new.log.byte_room ≡ self.old.log.byte_room) × (self.new.log.event_room ≡ self.old.log.event_room) }
+        ensures room { (self.new.log.byte_room ≡ self.old.log.byte_room)
+            × (self.new.log.event_room ≡ self.old.log.event_room) }
     {
         if !self.has_room(bytes.len()) {
             return Err(count_fault(&mut self.faults));
@@ -133,11 +140,13 @@ impl Disk for RoomyDisk {
         ensures fits { IsOk result ↔ (length self.old.log.events < self.old.log.event_room) }
         ensures noted { OnOk result (self.new.log.events ≡ self.old.log.events ++ synced ∷ []) }
         ensures seen { self.new.log.seen ≡ self.old.log.seen }
-        ensures crash { NoneNew (MayLeave self.old.log.start self.old.log.events) (MayLeave self.new.log.start self.new.log.events) }
-        ensures time { Elapses (length self.old.log.events) (length self.new.log.events) (LeftSince self.old.log.start self.old.log.events) (LeftSince self.new.log.start self.new.log.events) (MayLeave self.new.log.start self.new.log.events) }
+        ensures crash { NoneNew (MayLeave self.old.log.start self.old.log.events)
+            (MayLeave self.new.log.start self.new.log.events) }
+        ensures time { EventsElapse self.old.log.start self.old.log.events self.new.log.start self.new.log.events }
         ensures cause { HasCause self.old.faults self.new.faults result }
         ensures counted { self.new.faults ≡ (if is_err result then risen self.old.faults else self.old.faults) }
-        ensures room { (self.new.log.byte_room ≡ self.old.log.byte_room) × (self.new.log.event_room ≡ self.old.log.event_room) }
+        ensures room { (self.new.log.byte_room ≡ self.old.log.byte_room)
+            × (self.new.log.event_room ≡ self.old.log.event_room) }
     {
         if !self.log.has_event_room() {
             return Err(count_fault(&mut self.faults));

@@ -5,7 +5,8 @@ use Rattle.bill_journal.specs.declared.reading.Ahead.TheVariants.{Frame}
 use Rattle.bill_journal.proofs.reading.look_ahead.Goals as goal
 
 -- a gate 1, four bytes that tell n, and n bytes more
-frame_ahead : (tail : List ℕ) (n : ℕ) → get_or tail 0 0 ≡ 1 → 5 ≤ length tail → length_bytes n ≡ get_or tail 1 0 ∷ get_or tail 2 0 ∷ get_or tail 3 0 ∷ get_or tail 4 0 ∷ []
+frame_ahead : (tail : List ℕ) (n : ℕ) → get_or tail 0 0 ≡ 1 → 5 ≤ length tail
+    → length_bytes n ≡ get_or tail 1 0 ∷ get_or tail 2 0 ∷ get_or tail 3 0 ∷ get_or tail 4 0 ∷ []
     → 5 + n ≤ length tail → n < 2 ^ 32 → IsFrame n tail
 frame_ahead (g ∷ a ∷ b ∷ c ∷ d ∷ rest) n opened long four fits short =
     let inside : n ≤ length rest = omega (arith, fits) in
@@ -17,7 +18,8 @@ frame_ahead (g ∷ a ∷ b ∷ c ∷ d ∷ rest) n opened long four fits short =
           ∙ ap (λ (l : List ℕ). 1 ∷ (l ++ rest)) (sym four)
           ∙ ap (λ (l : List ℕ). 1 ∷ (length_bytes n ++ l)) (sym (take-append-drop n rest))
           ∙ ap (λ (m : ℕ). 1 ∷ (length_bytes m ++ (take n rest ++ drop n rest))) (sym size)
-          ∙ ap (λ (l : List ℕ). 1 ∷ l) (sym (append_assoc (length_bytes (length (take n rest))) (take n rest) (drop n rest)));
+          ∙ ap (λ (l : List ℕ). 1 ∷ l)
+          (sym (append_assoc (length_bytes (length (take n rest))) (take n rest) (drop n rest)));
       size = size;
       short = short;
     }
@@ -27,7 +29,8 @@ frame_ahead (g ∷ a ∷ []) n opened long four fits short = absurd (omega arith
 frame_ahead (g ∷ a ∷ b ∷ []) n opened long four fits short = absurd (omega arith)
 frame_ahead (g ∷ a ∷ b ∷ c ∷ []) n opened long four fits short = absurd (omega arith)
 
-room : (tail : List ℕ) (n : ℕ) → 5 ≤ length tail → n ≤ length (take (length tail - 5) (drop 5 tail)) → 5 + n ≤ length tail
+room : (tail : List ℕ) (n : ℕ) → 5 ≤ length tail → n ≤ length (take (length tail - 5) (drop 5 tail))
+    → 5 + n ≤ length tail
 room tail n long inside = omega (arith, inside, length-take (length tail - 5) (drop 5 tail), length-drop 5 tail, long)
 
 pub returns-then-len-rest-clause-frame : goal.returns-then-len-rest-clause-frame
@@ -35,9 +38,11 @@ returns-then-len-rest-clause-frame c n is =
     let same : c.length_of-len.result ≡ n = cc in
     let fits = room c.args.tail.now c.length_of-len.result c.in-1.len_at_least c.if-len-rest.true in
     subst (λ (m : ℕ). IsFrame m c.args.tail.now) same
-    (frame_ahead c.args.tail.now c.length_of-len.result (search rules) c.in-1.len_at_least c.length_of-len.ensures.bytes fits c.length_of-len.ensures.short)
+    (frame_ahead c.args.tail.now c.length_of-len.result
+    (search rules) c.in-1.len_at_least c.length_of-len.ensures.bytes fits c.length_of-len.ensures.short)
 
 pub returns-then-len-rest-clause-fits : goal.returns-then-len-rest-clause-fits
 returns-then-len-rest-clause-fits c n is =
     let same : c.length_of-len.result ≡ n = cc in
-    subst (λ (m : ℕ). 5 + m ≤ length c.args.tail.now) same (room c.args.tail.now c.length_of-len.result c.in-1.len_at_least c.if-len-rest.true)
+    subst (λ (m : ℕ). 5 + m ≤ length c.args.tail.now) same
+    (room c.args.tail.now c.length_of-len.result c.in-1.len_at_least c.if-len-rest.true)

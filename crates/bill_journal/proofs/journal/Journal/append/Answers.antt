@@ -10,15 +10,18 @@ at_ok (Err e) P ok p = absurd (let clash : true ≡ false = ok in cc)
 pub returns-then-is_err-clause-any_moment : goal.returns-then-is_err-clause-any_moment
 returns-then-is_err-clause-any_moment g c =
     let short : length c.args.frame.now < 2 ^ 32 = omega (arith, c.bytes-bytes.ensures.short) in
-    rw (← c.self.view_is) (λ h told settled. c.write_frame.ensures.any_moment h c.args.frame.now told settled short c.bytes-bytes.ensures.bytes)
+    rw (← c.self.view_is)
+    (λ h told settled. c.write_frame.ensures.any_moment h c.args.frame.now told settled short c.bytes-bytes.ensures.bytes)
 
 pub returns-clause-appended : goal.returns-clause-appended
 returns-clause-appended g c =
     let short : length c.args.frame.now < 2 ^ 32 = omega (arith, c.bytes-bytes.ensures.short) in
     rw (← c.self.view_is) (λ h told settled.
-    at_ok c.write_frame.result _ (sym c.is_err.ensures.value ∙ c.if-is_err.false) (c.write_frame.ensures.appended h c.args.frame.now told settled short c.bytes-bytes.ensures.bytes))
+    at_ok c.write_frame.result _ (sym c.is_err.ensures.value ∙ c.if-is_err.false)
+    (c.write_frame.ensures.appended h c.args.frame.now told settled short c.bytes-bytes.ensures.bytes))
 
 pub returns-clause-any_moment : goal.returns-clause-any_moment
 returns-clause-any_moment g c =
     let short : length c.args.frame.now < 2 ^ 32 = omega (arith, c.bytes-bytes.ensures.short) in
-    rw (← c.self.view_is) (λ h told settled. c.write_frame.ensures.any_moment h c.args.frame.now told settled short c.bytes-bytes.ensures.bytes)
+    rw (← c.self.view_is)
+    (λ h told settled. c.write_frame.ensures.any_moment h c.args.frame.now told settled short c.bytes-bytes.ensures.bytes)

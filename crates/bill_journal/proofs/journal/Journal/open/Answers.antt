@@ -4,7 +4,8 @@ use Rattle.bill_journal.proofs.FrameLemmas.{never_both, breaks_once}
 use Rattle.bill_journal.proofs.journal.Journal.open.Goals as goal
 
 pub returns-in-Ok-clause-nowhere_else : goal.returns-in-Ok-clause-nowhere_else
-returns-in-Ok-clause-nowhere_else g c place other told some damaged = never_both _ _ place (c.in-Ok.ensures.stands told some) damaged
+returns-in-Ok-clause-nowhere_else g c place other told some damaged = never_both _ _ place
+    (c.in-Ok.ensures.stands told some) damaged
 
 pub returns-in-Err-clause-damaged : goal.returns-in-Err-clause-damaged
 returns-in-Err-clause-damaged g c place told is = c.in-Err.ensures.damaged place told (ap (λ e. Err e) is)
