@@ -11,7 +11,7 @@ use Rattle.ebl_base.specs.declared.checksum.Checksum.{Checksum}
 use Rattle.document_checksum.specs.Digest.{IsChecksum}
 use Rattle.document_checksum.specs.Text.{checksum_of_text}
 use Rattle.document_checksum.proofs.ReadTexts.{IsChecksum-checksum_of_text}
-use Rattle.json_forms.specs.Reading.{needed, number_in}
+use Rattle.json_forms.specs.Reading.{number_in, needed}
 use Rattle.json_forms.proofs.RoundTrips.{kept, number_in-within}
 use Rattle.envelope_manifest.specs.Piece.{is_plain_text, plain_text}
 

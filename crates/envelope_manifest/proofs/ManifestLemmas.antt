@@ -8,7 +8,7 @@ use Rattle.canonical_json.specs.Lawful.{IsLawful, are_lawful, HasTexts, HaveText
 use Rattle.document_checksum.specs.Text.{checksum_text, checksum_of_text}
 use Rattle.document_checksum.proofs.Texts.{checksum_of_text-checksum_text}
 use Rattle.document_checksum.proofs.ReadTexts.{IsUtf8-checksum_text}
-use Rattle.json_forms.specs.Reading.{needed, number_in, all_of, with_more, count_of}
+use Rattle.json_forms.specs.Reading.{number_in, all_of, with_more, count_of, needed}
 use Rattle.json_forms.specs.Writing.{each_written}
 use Rattle.json_forms.proofs.RoundTrips.{count_of-each_written}
 use Rattle.ebl_base.specs.declared.checksum.Checksum.{Checksum}

@@ -1,6 +1,5 @@
 -- The documents that a manifest lists, one and several.
-use Rattle.std.proofs.Common.{◌≡◌, ℕ, ◌+◌, ◌≤◌, ◌<◌, ◌^◌, nat_lt, List, [], ◌∷◌, ◌++◌, length, true, false, ◌&&◌, not, nat_le, IsTrue, Option, Some, None, get_or, ap, ◌∙◌, arith}
-use Rattle.std.proofs.Common.{Result, Ok, map, take, subst}
+use Rattle.std.proofs.Common.{◌≡◌, ℕ, ◌+◌, ◌≤◌, ◌<◌, ◌^◌, nat_lt, List, [], ◌∷◌, ◌++◌, length, true, false, ◌&&◌, not, nat_le, IsTrue, Option, Some, None, get_or, ap, ◌∙◌, arith, Result, Ok, map, take, subst}
 use Rattle.std.specs.Prelude.{option_and_then}
 use Rattle.std.specs.Result.{result_unwrap_or}
 use Rattle.std.proofs.lemmas.Bool.{and_parts}

@@ -6,7 +6,7 @@ use Rattle.canonical_json.specs.Value.{Value, depth, values_depth}
 use Rattle.canonical_json.specs.Name.{name_cmp}
 use Rattle.canonical_json.specs.Lawful.{IsLawful, is_lawful, are_lawful, HasTexts, HaveTexts}
 use Rattle.canonical_json.proofs.Parts.{Reads_once}
-use Rattle.json_forms.specs.Reading.{needed, all_of, with_more}
+use Rattle.json_forms.specs.Reading.{all_of, with_more, needed}
 use Rattle.json_forms.specs.Writing.{each_written}
 use Rattle.ebl_base.specs.declared.signed_text.SignedText.{SignedText}
 use Rattle.envelope_manifest.specs.declared.fault.BodyField.{BodyField}

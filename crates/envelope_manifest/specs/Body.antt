@@ -6,7 +6,7 @@ use Rattle.canonical_json.specs.View.{view}
 use Rattle.canonical_json.specs.Field.{as_text, as_list, under}
 use Rattle.canonical_json.specs.Lawful.{IsLawful, HasTexts}
 use Rattle.canonical_json.specs.Reading.{Reads}
-use Rattle.json_forms.specs.Reading.{needed, all_of}
+use Rattle.json_forms.specs.Reading.{all_of, needed}
 use Rattle.json_forms.specs.Writing.{each_written}
 use Rattle.ebl_base.specs.declared.signed_text.SignedText.{SignedText}
 use Rattle.envelope_manifest.specs.declared.body.Body.{Body}

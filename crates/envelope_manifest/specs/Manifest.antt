@@ -3,7 +3,7 @@ use Rattle.std.specs.Prelude.{◌≡◌, ℕ, ◌≤◌, List, [], ◌∷◌, Bo
 use Rattle.std.specs.Set.{is_member}
 use Rattle.canonical_json.specs.Value.{Value, Values, list, object, no_members, member}
 use Rattle.document_checksum.specs.Digest.{IsChecksum}
-use Rattle.json_forms.specs.Reading.{needed, checksum_under, items_under, all_of}
+use Rattle.json_forms.specs.Reading.{checksum_under, items_under, all_of, needed}
 use Rattle.json_forms.specs.Writing.{checksum_value, each_written}
 use Rattle.ebl_base.specs.Checksum.{checksum_eq}
 use Rattle.ebl_base.specs.declared.checksum.Checksum.{Checksum}

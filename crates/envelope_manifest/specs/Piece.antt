@@ -5,7 +5,7 @@ use Rattle.std.specs.Str.{IsUtf8, chars}
 use Rattle.canonical_json.specs.Value.{Value, text, object, no_members, member}
 use Rattle.canonical_json.specs.Field.{text_of}
 use Rattle.document_checksum.specs.Digest.{IsChecksum}
-use Rattle.json_forms.specs.Reading.{needed, number_under, checksum_under}
+use Rattle.json_forms.specs.Reading.{number_under, checksum_under, needed}
 use Rattle.json_forms.specs.Writing.{number_value, checksum_value}
 use Rattle.ebl_base.specs.declared.checksum.Checksum.{Checksum}
 use Rattle.envelope_manifest.specs.declared.fault.ManifestField.{ManifestField}

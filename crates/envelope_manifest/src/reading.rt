@@ -4,7 +4,7 @@ ghost use Rattle.std.specs.Str.{IsUtf8};
 ghost use Rattle.canonical_json.specs.View.{view, items_view};
 ghost use Rattle.std.specs.Set.{is_member};
 ghost use Rattle.ebl_base.specs.Checksum.{checksum_eq};
-ghost use Rattle.json_forms.specs.Reading.{needed, all_of};
+ghost use Rattle.json_forms.specs.Reading.{all_of, needed};
 ghost use Rattle.envelope_manifest.specs.Piece.{IsPiece, has_no_control, is_control, is_plain_text, piece_in, piece_of, plain_text, plain_text_under};
 ghost use Rattle.envelope_manifest.specs.Manifest.{AreDocuments, ArePieces, IsFault, IsManifest, are_distinct, checksums_of, go_together, manifest_of, pieces_in, pieces_under, total_size};
 ghost use Rattle.envelope_manifest.specs.declared.fault.ManifestField.TheVariants.{Documents};

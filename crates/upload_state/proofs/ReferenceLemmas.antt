@@ -1,11 +1,10 @@
 -- References beside their texts.
-use Rattle.std.proofs.Common.{◌≡◌, ℕ, ◌+◌, ◌*◌, ◌<◌, List, length, get_or, slice_index, Bool, true, false, ◌&&◌, cond, Option, Some, None, option_map, refl, sym, ap, subst, arith, inl}
+use Rattle.std.proofs.Common.{◌≡◌, ℕ, ◌+◌, ◌*◌, ◌<◌, List, length, get_or, slice_index, Bool, true, false, ◌&&◌, cond, Option, Some, None, option_map, refl, sym, ap, subst, arith, inl, IsUtf8, nat_eq, take, drop}
 use Rattle.std.specs.List.{list_all}
 use Rattle.std.proofs.lemmas.Bool.{and_parts}
 use Rattle.std.proofs.lemmas.Bool.Decides.{nat_tests}
 use Rattle.std.proofs.lemmas.List.Sums.{AllPass-from_list_all}
 use Rattle.std.proofs.lemmas.Str.{IsUtf8-from_ascii}
-use Rattle.std.proofs.Common.{IsUtf8, nat_eq, take, drop}
 use Rattle.uuid.specs.Text.{lower, by_index, is_hex_digit, value_of, byte_of_digits, digits_of, has_hyphens, has_urn_prefix, parsed, parsed_simple, parsed_hyphenated, parsed_braced, parsed_urn, open_brace, close_brace}
 use Rattle.uuid.proofs.TextLemmas.{by_index_length, by_index_at, all_fit, hyphenated_ascii}
 use Rattle.uuid.proofs.RoundTrips.{parses_hyphenated}

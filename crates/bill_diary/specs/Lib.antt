@@ -1,0 +1,10 @@
+pub mod History
+pub mod Known
+pub mod Place
+pub mod Standing
+pub mod Growth
+pub mod Pieces
+pub mod Receiving
+pub mod Texts
+pub mod Told
+pub mod Sound

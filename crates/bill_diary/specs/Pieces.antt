@@ -1,0 +1,43 @@
+-- The additional documents of a bill: those listed for it, and those whose bytes are there.
+use Rattle.std.specs.Prelude.{◌≡◌, Bool, false, not, ℕ, List, [], ◌∷◌, ◌++◌, length, map, filter}
+use Rattle.std.specs.List.{list_any}
+use Rattle.std.specs.Option.{option_map_or}
+use Rattle.ebl_base.specs.Checksum.{checksum_eq}
+use Rattle.ebl_base.specs.declared.checksum.Checksum.{Checksum}
+use Rattle.document_checksum.specs.Digest.{checksum_of}
+use Rattle.envelope_manifest.specs.declared.piece.Piece.{Piece}
+use Rattle.envelope_manifest.specs.declared.manifest.Manifest.{Manifest}
+use Rattle.bill_diary.specs.declared.record.Record.{Record}
+use Rattle.bill_diary.specs.declared.record.Record.TheVariants.{Attached, Stored, Taken}
+use Rattle.bill_diary.specs.Known.{last_begun}
+
+-- the bytes are those of a listed document: size and checksum agree
+pub record Fits (piece : Piece) (bytes : List ℕ) : Type 0 where
+  pub size : piece.size ≡ length bytes
+  pub checksum : piece.checksum ≡ checksum_of bytes
+
+-- the documents of a bill: those of the manifest of its last Taken, followed by those attached since
+abbrev pub pieces_of : List Record → List Piece
+pieces_of [] = []
+pieces_of (Attached bill piece bytes ∷ h) = pieces_of h ++ piece ∷ []
+pieces_of (Taken bill entry ∷ h) = option_map_or (λ came. came.manifest.documents) (last_begun entry h) []
+pieces_of (r ∷ h) = pieces_of h
+
+-- whether a document with this checksum is among some that are listed
+abbrev pub lists : List Piece → Checksum → Bool
+lists pieces checksum = list_any (λ piece. checksum_eq piece.checksum checksum) pieces
+
+-- whether a record brought the bytes of this checksum
+abbrev pub brings : Checksum → Record → Bool
+brings checksum (Attached bill piece bytes) = checksum_eq piece.checksum checksum
+brings checksum (Stored bill entry other bytes) = checksum_eq other checksum
+brings checksum r = false
+
+-- whether the bytes of this checksum are there for the bill: attached, or stored
+abbrev pub is_there : List Record → Checksum → Bool
+is_there h checksum = list_any (brings checksum) h
+
+-- the checksums of a manifest's documents that aren't there, in its order
+abbrev pub missing_of : Manifest → List Record → List Checksum
+missing_of manifest h =
+    filter (λ checksum. not (is_there h checksum)) (map (λ piece. piece.checksum) manifest.documents)

@@ -1,0 +1,48 @@
+//! What came with a Begun.
+ghost use Rattle.std.specs.Prelude.{◌≡◌, MatchOption, None, Some, option_copied};
+ghost use Rattle.title_fold.specs.Chain.{ends_in, last_of};
+ghost use Rattle.bill_diary.specs.Known.{last_begun};
+
+use crate::record::Record;
+use crate::walk::History;
+use ebl_base::{Chain, ChainLink, Checksum};
+use envelope_manifest::Manifest;
+
+/// A chain that came, with its manifest.
+#[derive(Clone, Copy)]
+pub(crate) struct Came<'a> {
+    pub(crate) chain: &'a Chain,
+    pub(crate) manifest: &'a Manifest,
+}
+
+/// What came with the last Begun of a chain that ends in this entry.
+pub(crate) fn last_begun<'a>(mut h: History<'a>, entry: Checksum) -> Option<Came<'a>>
+    ensures { MatchOption result (last_begun entry h.entry ≡ None)
+        (λ came. last_begun entry h.entry ≡ Some (record { chain = came.chain.now; manifest = came.manifest.now })) }
+{
+    while let Some(record) = h.next() {
+        if let Record::Begun { chain, manifest, .. } = record {
+            if ends_in(chain, entry) {
+                return Some(Came { chain, manifest });
+            }
+        }
+    }
+    None
+}
+
+// Whether this is the name of a chain's last entry.
+pub(crate) fn ends_in(chain: &Chain, name: Checksum) -> bool
+    ensures { result ≡ ends_in name chain.now }
+{
+    match last_of(chain) {
+        Some(link) => link.name == name,
+        None => false,
+    }
+}
+
+/// The last link of a chain.
+pub(crate) fn last_of(chain: &Chain) -> Option<&ChainLink>
+    ensures { option_copied result ≡ last_of chain.now }
+{
+    chain.as_slice().last()
+}

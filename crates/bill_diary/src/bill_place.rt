@@ -1,0 +1,98 @@
+//! Where a bill stands on a platform.
+ghost use Rattle.std.specs.Prelude.{◌≡◌, IfOk, Some};
+ghost use Rattle.bill_diary.specs.History.{history};
+ghost use Rattle.bill_diary.specs.Known.{known};
+ghost use Rattle.bill_diary.specs.Place.{is_left, place_of};
+
+use crate::begun::last_of;
+use crate::frame::{Diary, Frame};
+use crate::known::known;
+use crate::parting::{is_settled, parting};
+use crate::since::since;
+use crate::walk::History;
+use ebl_base::{Chain, ChainLink, Checksum, Copied, NoMemory, TransactionList};
+use std::alloc::Global;
+
+/// Where a bill stands on a platform, with what the platform knows of it.
+#[derive(Debug, Drop)]
+pub enum BillPlace {
+    /// The platform doesn't know the bill.
+    Absent,
+    /// The platform holds the bill: its possessor may act there.
+    Held {
+        /// The chain by which the bill came here; empty where it began here.
+        known: Chain,
+        /// The transactions made here since.
+        since: TransactionList,
+    },
+    /// The platform has sent the bill to another one, which hasn't answered for good.
+    Parting {
+        known: Chain,
+        /// The entry that was sent.
+        entry: ChainLink,
+    },
+    /// Another platform has received the bill from this one: its entry is the last of the chain.
+    Gone {
+        known: Chain,
+    },
+}
+
+/// The place of a bill by a diary.
+///
+/// It goes over the diary several times, and copies the known chain. For each Taken of the bill it looks for a Begun.
+pub fn place(alloc: Global, d: &Diary, bill: Checksum) -> Result<BillPlace, NoMemory>
+    ensures { IfOk result (λ place. place ≡ place_of (history bill d.now)) }
+{
+    let frames = d.as_slice();
+    let Some(chain) = known(alloc, History::of(frames, bill))? else {
+        return Ok(BillPlace::Absent);
+    };
+    place_with(alloc, frames, bill, chain)
+}
+
+// The place of a bill whose known chain this is.
+fn place_with(alloc: Global, frames: &[Frame], bill: Checksum, chain: Chain) -> Result<BillPlace, NoMemory>
+    requires { known (history bill frames.now) ≡ Some chain }
+    ensures { IfOk result (λ place. place ≡ place_of (history bill frames.now)) }
+{
+    if let Some(link) = parting(History::of(frames, bill)) {
+        return Ok(BillPlace::Parting {
+            known: chain,
+            entry: link.copy(alloc)?,
+        });
+    }
+    if is_left(&chain, History::of(frames, bill)) {
+        return Ok(BillPlace::Gone { known: chain });
+    }
+    Ok(BillPlace::Held {
+        known: chain,
+        since: since(alloc, History::of(frames, bill))?,
+    })
+}
+
+// Whether a Settled names the last entry of a chain.
+fn is_left(chain: &Chain, h: History) -> bool
+    ensures { result ≡ is_left chain.now h.entry }
+{
+    match last_of(chain) {
+        Some(link) => is_settled(h, link.name),
+        None => false,
+    }
+}
+
+impl Copied for BillPlace {
+    fn copy(&self, alloc: Global) -> Result<Self, NoMemory> {
+        match self {
+            BillPlace::Absent => Ok(BillPlace::Absent),
+            BillPlace::Held { known, since } => Ok(BillPlace::Held {
+                known: known.copy(alloc)?,
+                since: since.copy(alloc)?,
+            }),
+            BillPlace::Parting { known, entry } => Ok(BillPlace::Parting {
+                known: known.copy(alloc)?,
+                entry: entry.copy(alloc)?,
+            }),
+            BillPlace::Gone { known } => Ok(BillPlace::Gone { known: known.copy(alloc)? }),
+        }
+    }
+}

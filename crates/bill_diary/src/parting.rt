@@ -1,0 +1,89 @@
+//! Which entry of a bill is parting: sent to another platform that hasn't answered for good.
+ghost use Rattle.std.specs.Prelude.{◌≡◌, option_copied};
+ghost use Rattle.std.specs.List.{list_any};
+ghost use Rattle.title_fold.specs.Chain.{has_entry};
+ghost use Rattle.bill_diary.specs.Known.{last_begun};
+ghost use Rattle.bill_diary.specs.Place.{is_settled, is_regained, is_over, last_parted, parting, taken_chains};
+
+use crate::begun::{Came, last_begun};
+use crate::record::Record;
+use crate::walk::History;
+use ebl_base::{Chain, ChainLink, Checksum};
+
+/// The entry of the last Parted, where its parting isn't over.
+pub(crate) fn parting<'a>(h: History<'a>) -> Option<&'a ChainLink>
+    ensures { option_copied result ≡ parting h.entry }
+{
+    let link = last_parted(h.again())?;
+    if is_over(h, link.name) { None } else { Some(link) }
+}
+
+// The entry of the last Parted.
+fn last_parted<'a>(mut h: History<'a>) -> Option<&'a ChainLink>
+    ensures { option_copied result ≡ last_parted h.entry }
+{
+    while let Some(record) = h.next() {
+        if let Record::Parted { link, .. } = record {
+            return Some(link);
+        }
+    }
+    None
+}
+
+// Whether the parting of an entry is over: it is settled or regained, or a chain with it was taken.
+fn is_over(h: History, entry: Checksum) -> bool
+    ensures { result ≡ is_over entry h.entry }
+{
+    is_settled(h.again(), entry) || is_regained(h.again(), entry) || is_taken_along(h, entry)
+}
+
+/// Whether an entry is settled.
+pub(crate) fn is_settled(mut h: History, entry: Checksum) -> bool
+    ensures { result ≡ is_settled entry h.entry }
+{
+    while let Some(record) = h.next() {
+        if let Record::Settled { entry: other, .. } = record {
+            if *other == entry {
+                return true;
+            }
+        }
+    }
+    false
+}
+
+// Whether an entry is regained.
+fn is_regained(mut h: History, entry: Checksum) -> bool
+    ensures { result ≡ is_regained entry h.entry }
+{
+    while let Some(record) = h.next() {
+        if let Record::Regained { entry: other, .. } = record {
+            if *other == entry {
+                return true;
+            }
+        }
+    }
+    false
+}
+
+// Whether a chain with the entry was taken.
+fn is_taken_along(mut h: History, entry: Checksum) -> bool
+    ensures { result ≡ list_any (has_entry entry) (taken_chains h.entry) }
+{
+    while let Some(record) = h.next() {
+        if let Record::Taken { entry: last, .. } = record {
+            if let Some(came) = last_begun(h.again(), *last) {
+                if has_entry(came.chain, entry) {
+                    return true;
+                }
+            }
+        }
+    }
+    false
+}
+
+// Whether a chain has an entry of this name.
+fn has_entry(chain: &Chain, name: Checksum) -> bool
+    ensures { result ≡ has_entry name chain.now }
+{
+    chain.as_slice().iter().any(|link| link.name == name)
+}

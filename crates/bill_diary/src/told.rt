@@ -1,0 +1,185 @@
+//! The chains that the records of a bill tell, in one pass from the oldest record on.
+ghost use Rattle.std.specs.Prelude.{◌≡◌, ◌∷◌, [], ◌++◌, Some, None, IfOk, IfSome, OnOk, List, find, length, nat_lt, false, map, option_copied, option_map, reverse, MatchOption};
+ghost use Rattle.bill_diary.specs.declared.record.Record.{Record};
+ghost use Rattle.std.specs.Option.{option_map_or};
+ghost use Rattle.ebl_base.specs.Checksum.{checksum_eq};
+ghost use Rattle.title_fold.specs.Chain.{ends_in};
+ghost use Rattle.bill_diary.specs.Known.{longer};
+ghost use Rattle.bill_diary.specs.Told.{IsToldBy, known_with, settled_among};
+
+use crate::begun::ends_in;
+use crate::links::Links;
+use crate::record::Record;
+use ebl_base::{Chain, ChainLink, Checksum, NoMemory};
+use std::alloc::Global;
+
+/// An entry that was parted, with the chain that its Settled would tell.
+#[derive(Drop)]
+pub(crate) struct Departure<'a> {
+    entry: Checksum,
+    chain: Option<Links<'a>>,
+}
+
+/// What the records so far tell: the known chain, the chains that came, and the entries that were parted, each list
+/// with the newest at its end.
+#[derive(Drop)]
+pub(crate) struct Told<'a> {
+    known: Option<Links<'a>>,
+    begun: Vec<&'a Chain>,
+    parted: Vec<Departure<'a>>,
+}
+
+impl<'a> Told<'a> {
+    /// No record tells nothing.
+    pub(crate) fn nothing(alloc: Global) -> Self
+        ensures { IsToldBy [] result }
+    {
+        Told {
+            known: None,
+            begun: Vec::new(alloc),
+            parted: Vec::new(alloc),
+        }
+    }
+
+    /// The known chain, with copies of its links.
+    pub(crate) fn known(&self, alloc: Global) -> Result<Option<Chain>, NoMemory>
+        ensures { IfOk result (λ chain. chain ≡ self.now.known) }
+    {
+        match &self.known {
+            Some(links) => Ok(Some(links.chain(alloc)?)),
+            None => Ok(None),
+        }
+    }
+
+    // One chain more is told, if any is: the known one stays where it is longer.
+    fn tell(&mut self, more: Option<Links<'a>>)
+        ensures known { self.new.known ≡ known_with more.entry self.old.known }
+        ensures begun { self.new.begun ≡ self.old.begun }
+        ensures parted { self.new.parted ≡ self.old.parted }
+    {
+        if let Some(links) = more {
+            if !is_longer(&self.known, &links) {
+                self.known = Some(links);
+            }
+        }
+    }
+
+    // The chain of a Taken.
+    fn taken(&self, entry: Checksum) -> Option<&'a Chain>
+        ensures { option_copied result ≡ option_copied (find (λ chain. ends_in entry chain.now) (reverse self.now.begun.items)) }
+    {
+        self.begun
+            .iter()
+            .rev()
+            .find(|chain| ends_in(chain, entry))
+            .copied()
+    }
+
+    // The chain of a Settled.
+    fn settled(&self, alloc: Global, entry: Checksum) -> Result<Option<Links<'a>>, NoMemory>
+        ensures { IfOk result (λ chain. chain ≡ settled_among entry self.now.parted.items) }
+    {
+        match self.departure(entry) {
+            Some(departure) => again(alloc, &departure.chain),
+            None => Ok(None),
+        }
+    }
+
+    // The last Parted of an entry.
+    fn departure(&self, entry: Checksum) -> Option<&Departure<'a>>
+        ensures { option_copied result ≡ find (λ d. checksum_eq d.entry entry) (reverse self.now.parted.items) }
+    {
+        self.parted.iter().rev().find(|d| d.entry == entry)
+    }
+
+    // A Parted: what its Settled would tell.
+    fn part(&mut self, alloc: Global, link: &'a ChainLink) -> Result<(), NoMemory>
+        ensures known { self.new.known ≡ self.old.known }
+        ensures begun { self.new.begun ≡ self.old.begun }
+        ensures parted { OnOk result (self.new.parted.items ≡ self.old.parted.items
+            ++ record { entry = link.now.name; chain = option_map (λ c. c ++ link.now ∷ []) self.old.known } ∷ []) }
+    {
+        let chain = followed(alloc, &self.known, link)?;
+        self.parted.push(Departure {
+            entry: link.name,
+            chain,
+        })?;
+        Ok(())
+    }
+
+    /// One record more. Where memory runs out, what was kept is of no use any more.
+    pub(crate) fn add(&mut self, alloc: Global, next: &'a Record) -> Result<(), NoMemory>
+        ensures { (h : List Record) → IsToldBy h self.old → OnOk result (IsToldBy (next.now ∷ h) self.new) }
+    {
+        match next {
+            Record::Signed { .. } => {
+                self.tell(Some(Links::new(alloc)));
+                Ok(())
+            }
+            Record::Begun { chain, .. } => {
+                self.begun.push(chain)?;
+                Ok(())
+            }
+            Record::Taken { entry, .. } => {
+                let more = links_of(alloc, self.taken(*entry))?;
+                self.tell(more);
+                Ok(())
+            }
+            Record::Parted { link, .. } => self.part(alloc, link),
+            Record::Settled { entry, .. } => {
+                let more = self.settled(alloc, *entry)?;
+                self.tell(more);
+                Ok(())
+            }
+            _ => Ok(()),
+        }
+    }
+}
+
+// Whether there are links, and more of them than the others.
+fn is_longer(links: &Option<Links>, other: &Links) -> bool
+    ensures { result ≡ option_map_or (λ l. nat_lt (length other.now) (length l)) links.now false }
+{
+    match links {
+        Some(links) => other.len() < links.len(),
+        None => false,
+    }
+}
+
+// The links of a chain, if there is one.
+fn links_of<'a>(alloc: Global, chain: Option<&'a Chain>) -> Result<Option<Links<'a>>, NoMemory>
+    ensures { IfOk result (λ links. links ≡ option_copied chain.entry) }
+{
+    match chain {
+        Some(chain) => Ok(Some(Links::of(alloc, chain.as_slice())?)),
+        None => Ok(None),
+    }
+}
+
+// The same links once more, if there are any.
+fn again<'a>(alloc: Global, links: &Option<Links<'a>>) -> Result<Option<Links<'a>>, NoMemory>
+    ensures { IfOk result (λ same. same ≡ links.now) }
+{
+    match links {
+        Some(links) => Ok(Some(links.again(alloc)?)),
+        None => Ok(None),
+    }
+}
+
+// The links of a chain, if there is one, followed by one link more.
+fn followed<'a>(
+    alloc: Global,
+    links: &Option<Links<'a>>,
+    link: &'a ChainLink,
+) -> Result<Option<Links<'a>>, NoMemory>
+    ensures { IfOk result (λ whole. whole ≡ option_map (λ c. c ++ link.now ∷ []) links.now) }
+{
+    match links {
+        Some(links) => {
+            let mut links = links.again(alloc)?;
+            links.push(link)?;
+            Ok(Some(links))
+        }
+        None => Ok(None),
+    }
+}

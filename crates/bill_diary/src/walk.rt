@@ -1,0 +1,112 @@
+//! The records of a diary, from the newest to the oldest.
+ghost use Rattle.std.specs.Prelude.{◌≡◌, [], ◌∷◌, MatchOption};
+ghost use Rattle.bill_diary.specs.History.{newest_first, history};
+
+use crate::frame::Frame;
+use crate::record::Record;
+use ebl_base::Checksum;
+use std::marker::Model;
+
+/// What is left of a diary's records, newest first.
+#[derive(Drop)]
+pub(crate) struct Newest<'a> {
+    frames: &'a [Frame],
+    // The Begun of a frame whose Taken was handed out.
+    begun: Option<&'a Record>,
+}
+
+impl<'a> Model for Newest<'a> {
+    ghost use Rattle.std.specs.Prelude.{List};
+    ghost use Rattle.std.specs.List.{cons_option};
+    ghost use Rattle.std.specs.Option.{option_copied};
+    ghost use Rattle.bill_diary.specs.declared.record.Record.{Record};
+    ghost use Rattle.bill_diary.specs.History.{newest_first};
+
+    ghost Value = { List Record };
+
+    ghost view = { λ s. cons_option (option_copied s.begun) (newest_first s.frames.now) };
+}
+
+impl<'a> Newest<'a> {
+    pub(crate) fn of(frames: &'a [Frame]) -> Self
+        ensures { result ≡ newest_first frames.now }
+    {
+        Newest {
+            frames,
+            begun: None,
+        }
+    }
+
+    /// The newest record that is left.
+    pub(crate) fn next(&mut self) -> Option<&'a Record>
+        ensures { MatchOption result (self.old ≡ []) (λ «record». self.old ≡ «record».now ∷ self.new) }
+    {
+        if let Some(record) = self.begun {
+            self.begun = None;
+            return Some(record);
+        }
+        let (frame, before) = self.frames.split_last()?;
+        self.frames = before;
+        match frame {
+            Frame::One(record) => Some(record),
+            Frame::BegunTaken { begun, taken } => {
+                self.begun = Some(begun);
+                Some(taken)
+            }
+        }
+    }
+}
+
+/// What is left of a bill's history, newest first.
+#[derive(Drop)]
+pub(crate) struct History<'a> {
+    records: Newest<'a>,
+    bill: Checksum,
+}
+
+impl<'a> Model for History<'a> {
+    ghost use Rattle.std.specs.Prelude.{List};
+    ghost use Rattle.bill_diary.specs.declared.record.Record.{Record};
+    ghost use Rattle.bill_diary.specs.History.{of_bill};
+
+    ghost Value = { List Record };
+
+    ghost view = { λ s. of_bill s.bill s.records };
+}
+
+impl<'a> History<'a> {
+    /// The whole history of a bill.
+    pub(crate) fn of(frames: &'a [Frame], bill: Checksum) -> Self
+        ensures { result ≡ history bill frames.now }
+    {
+        History {
+            records: Newest::of(frames),
+            bill,
+        }
+    }
+
+    /// The newest record that is left.
+    pub(crate) fn next(&mut self) -> Option<&'a Record>
+        ensures { MatchOption result (self.old ≡ []) (λ «record». self.old ≡ «record».now ∷ self.new) }
+    {
+        while let Some(record) = self.records.next() {
+            if record.bill() == self.bill {
+                return Some(record);
+            }
+        }
+        None
+    }
+
+    /// The same records once more, for a search that goes its own way.
+    pub(crate) fn again(&self) -> History<'a>
+        ensures { result ≡ self.now }
+    {
+        History {
+            records: Newest {
+                frames: self.records.frames,
+                begun: self.records.begun,
+            },
+            bill: self.bill,
+        }
+    }
+}

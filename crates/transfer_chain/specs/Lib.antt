@@ -1,0 +1,5 @@
+pub mod Checked
+pub mod GoodChain
+pub mod Refusal
+pub mod Meeting
+pub mod Steps

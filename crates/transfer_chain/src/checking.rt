@@ -1,0 +1,50 @@
+//! Which texts are a good chain.
+ghost use Rattle.std.specs.Prelude.{IfOk, IfErr};
+ghost use Rattle.transfer_chain.specs.GoodChain.{IsGoodChain};
+ghost use Rattle.transfer_chain.specs.Refusal.{IsRefused};
+
+use crate::fault::ChainRefusal;
+use crate::linking::links_of;
+use crate::passing::pass;
+use ebl_base::{Chain, TextList};
+use party_roster::Roster;
+use signed_envelope::KeyRing;
+use std::alloc::Global;
+use transport_document::Document;
+
+/// The most texts of a chain.
+const MOST: usize = 64;
+
+/// The good chain that the texts are for the document's bill: 1 to 64 entries, each signed by its platform, of that
+/// bill and after the one before it; the transactions of all begin with the roster's carrier of the document and fold;
+/// each entry is of the platform that has possession then, and its last transaction alone moves possession to another.
+///
+/// The first [`ChainRefusal`] that fits is answered. Each signature is verified once, each text named and read once,
+/// each transaction folded once.
+pub fn check<G: KeyRing>(
+    alloc: Global,
+    roster: &Roster,
+    ring: &G,
+    document: &Document,
+    texts: &TextList,
+) -> Result<Chain, ChainRefusal>
+    ensures ok { IfOk result (IsGoodChain roster.now (G.keys ring.now) document.now texts.now) }
+    ensures err { IfErr result (IsRefused roster.now (G.keys ring.now) document.now texts.now) }
+{
+    let texts = texts.as_slice();
+    if texts.is_empty() {
+        return Err(ChainRefusal::Empty);
+    }
+    if texts.len() > MOST {
+        return Err(ChainRefusal::TooLong);
+    }
+    let links = match links_of(alloc, ring, texts) {
+        Ok(links) => links,
+        Err(refusal) => return Err(refusal),
+    };
+    let carrier = roster.carrier(document.provider(), document.code());
+    match pass(carrier, document.bill(), links.as_slice()) {
+        Ok(_) => Ok(Chain::from_vec(links)),
+        Err(refusal) => Err(refusal),
+    }
+}

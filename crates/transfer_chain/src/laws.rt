@@ -1,0 +1,79 @@
+//! What holds of every good chain. The functions do nothing: their contracts are the laws.
+ghost use Rattle.std.specs.Prelude.{◌≡◌, ◌≢◌, ◌≤◌, List, [], ◌∷◌, ◌++◌, Some, Ok, length};
+ghost use Rattle.canonical_json.specs.Value.{Value};
+ghost use Rattle.chain_entry.specs.Reading.{entry_of};
+ghost use Rattle.ebl_base.specs.declared.chain.ChainLink.{ChainLink};
+ghost use Rattle.ebl_base.specs.declared.signed_text.SignedText.{SignedText};
+ghost use Rattle.party_roster.specs.RosterRecord.{RosterRecord};
+ghost use Rattle.signed_envelope.specs.KeyRing.{Keys};
+ghost use Rattle.signed_envelope.specs.SignedText.{IsSigned};
+ghost use Rattle.title_fold.specs.Chain.{destination, last_name, names_of};
+ghost use Rattle.transport_document.specs.DocumentRecord.{DocumentRecord};
+ghost use Rattle.transfer_chain.specs.Checked.{IsChecked, texts_of};
+ghost use Rattle.transfer_chain.specs.GoodChain.{HaveDistinctNames, HaveOwnNames, IsGoodChain};
+ghost use Rattle.transfer_chain.specs.Meeting.{Meet};
+ghost use Rattle.transfer_chain.specs.Refusal.{IsRefused};
+ghost use Rattle.transfer_chain.specs.declared.fault.ChainRefusal.TheVariants.{NoMemory};
+
+use crate::fault::ChainRefusal;
+use crate::meeting::Meeting;
+
+/// A front of a good chain is a good chain of its texts, if it has an entry.
+pub fn front_of_good_chain_is_good()
+    ensures { (roster : RosterRecord) (keys : Keys) (document : DocumentRecord) (texts : List SignedText)
+        (front rest : List ChainLink) → IsGoodChain roster keys document texts (front ++ rest)
+        → 1 ≤ length front → IsGoodChain roster keys document (texts_of front) front }
+{}
+
+/// A good chain is checked: it has a destination.
+pub fn good_chain_is_checked()
+    ensures { (roster : RosterRecord) (keys : Keys) (document : DocumentRecord) (texts : List SignedText)
+        (chain : List ChainLink) → IsGoodChain roster keys document texts chain → IsChecked chain }
+{}
+
+/// Each entry of a good chain is signed by its platform, moves possession to another, and the next entry names it and
+/// is of that other platform.
+pub fn entries_of_good_chain_hand_over()
+    ensures signed { (roster : RosterRecord) (keys : Keys) (document : DocumentRecord) (texts : List SignedText)
+        (front : List ChainLink) (a : ChainLink) (rest : List ChainLink)
+        → IsGoodChain roster keys document texts (front ++ a ∷ rest)
+        → (value : Value) × IsSigned keys 16384 a.text.0 a.entry.platform value × (entry_of value ≡ Ok a.entry) }
+    ensures moves { (roster : RosterRecord) (keys : Keys) (document : DocumentRecord) (texts : List SignedText)
+        (front : List ChainLink) (a : ChainLink) (rest : List ChainLink)
+        → IsGoodChain roster keys document texts (front ++ a ∷ rest)
+        → destination (front ++ a ∷ []) ≢ Some a.entry.platform }
+    ensures names { (roster : RosterRecord) (keys : Keys) (document : DocumentRecord) (texts : List SignedText)
+        (front : List ChainLink) (a b : ChainLink) (rest : List ChainLink)
+        → IsGoodChain roster keys document texts (front ++ a ∷ b ∷ rest)
+        → b.entry.previous ≡ Some a.name }
+    ensures receives { (roster : RosterRecord) (keys : Keys) (document : DocumentRecord) (texts : List SignedText)
+        (front : List ChainLink) (a b : ChainLink) (rest : List ChainLink)
+        → IsGoodChain roster keys document texts (front ++ a ∷ b ∷ rest)
+        → destination (front ++ a ∷ []) ≡ Some b.entry.platform }
+{}
+
+/// Texts that are refused, but for want of memory, are no good chain; and texts are one good chain at most.
+pub fn refused_texts_are_no_good_chain()
+    ensures refused { (roster : RosterRecord) (keys : Keys) (document : DocumentRecord) (texts : List SignedText)
+        (chain : List ChainLink) (refusal : ChainRefusal) → IsRefused roster keys document texts refusal
+        → refusal ≢ NoMemory → IsGoodChain roster keys document texts chain → ⊥ }
+    ensures one { (roster : RosterRecord) (keys : Keys) (document : DocumentRecord) (texts : List SignedText)
+        (a b : List ChainLink) → IsGoodChain roster keys document texts a → IsGoodChain roster keys document texts b
+        → a ≡ b }
+{}
+
+/// Where no two different texts have one name, the name of the last entry fixes a whole good chain, whatever the bills
+/// and the rosters are.
+pub fn last_name_determines_the_chain()
+    ensures { (roster other : RosterRecord) (keys : Keys) (document another : DocumentRecord)
+        (texts more : List SignedText) (a b : List ChainLink) → IsGoodChain roster keys document texts a
+        → IsGoodChain other keys another more b → HaveDistinctNames (texts ++ more)
+        → last_name a ≡ last_name b → a ≡ b }
+{}
+
+/// Where no two different texts have one name, two chains meet by their texts as they meet by their names.
+pub fn chains_meet_as_their_texts_do()
+    ensures { (a b : List ChainLink) (meeting : Meeting) → HaveOwnNames a → HaveOwnNames b
+        → HaveDistinctNames (texts_of a ++ texts_of b) → Meet (names_of a) (names_of b) meeting
+        → Meet (texts_of a) (texts_of b) meeting }
+{}
