@@ -61,14 +61,14 @@ goes_on_once me (Signed bill document t) h sound =
 goes_on_once me (Settled bill entry) h sound =
     let settles = sound.0 in
     let where1 : WhereParting h settles.known settles.link =
-        stands h (Parting settles.known settles.link) settles.parting in
+    stands h (Parting settles.known settles.link) settles.parting in
     let tells = settled_tells me bill entry h sound ∙ settled_is_told bill entry h settles (tells_known me h sound.1) in
     subst (λ k. GoesOnIn k (known (Settled bill entry ∷ h))) (sym where1.known_is)
     (subst (GoesOnIn (Some settles.known)) (sym tells) (goes_on_with settles.known (settles.link ∷ [])))
 goes_on_once me (Taken bill entry) h sound =
     let chain = sound.0.begun.chain in
     let tells : known (Taken bill entry ∷ h) ≡ Some chain =
-        taken_tells me bill entry h sound ∙ ap (option_map (λ came. came.chain)) sound.0.begun_is in
+    taken_tells me bill entry h sound ∙ ap (option_map (λ came. came.chain)) sound.0.begun_is in
     subst (GoesOnIn (known h)) (sym tells)
     (goes_on_in_what_continues h (known h) (parting h) chain sound.0.receives.continues_place)
 goes_on_once me (Acted bill t) h sound = goes_on_same (known h)

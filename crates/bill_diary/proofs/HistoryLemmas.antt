@@ -83,9 +83,11 @@ alone_on : (me : PlatformCode) (bill : Checksum) (records : List Record) (r : Re
     → MayFollow me records (of_bill (bill_of r) records) r
     → IsSoundHistory me (of_bill bill records)
     → IsSoundHistory me (cond test (r ∷ of_bill bill records) (of_bill bill records))
-alone_on me bill records r true is_of follows sound =
-    (subst (λ b. MayFollow me (of_bill b records) (of_bill b records) r) (is_of refl)
-    (follows_alone me (bill_of r) records (of_bill (bill_of r) records) r follows), sound)
+alone_on me bill records r true is_of follows sound = (
+  subst (λ b. MayFollow me (of_bill b records) (of_bill b records) r) (is_of refl)
+      (follows_alone me (bill_of r) records (of_bill (bill_of r) records) r follows),
+  sound,
+)
 alone_on me bill records r false is_of follows sound = sound
 
 -- the records of one bill among sound ones

@@ -50,7 +50,7 @@ newest_is_longest : (told1 : Option (List ChainLink)) (chains : List (List Chain
     → longest (option_to_list told1 ++ chains) ≡ newest (option_to_list told1 ++ chains)
 newest_is_longest told1 chains chain is keeps =
     let P : Option (List ChainLink) → Type 0 =
-        λ o. longest (option_to_list o ++ chains) ≡ newest (option_to_list o ++ chains) in
+    λ o. longest (option_to_list o ++ chains) ≡ newest (option_to_list o ++ chains) in
     subst P (sym is) (ap Some keeps)
 
 told_is_known : (told1 : Option (List ChainLink)) (chains : List (List ChainLink)) (chain : List ChainLink)
@@ -97,19 +97,19 @@ no_more_parting : (entry : Checksum) (h : List Record) (chain : List ChainLink) 
 no_more_parting entry h chain link bill tells goes parted is =
     let (last, not_over) = parting_is_last (Taken bill entry ∷ h) link is in
     let (not_answered, not_taken) =
-        or_parts (is_settled link.name h || is_regained link.name h)
-        (list_any (has_entry link.name) (option_to_list (taken_chain entry h) ++ taken_chains h)) not_over in
+    or_parts (is_settled link.name h || is_regained link.name h)
+    (list_any (has_entry link.name) (option_to_list (taken_chain entry h) ++ taken_chains h)) not_over in
     let P : Option (List ChainLink) → Type 0 =
-        λ o. list_any (has_entry link.name) (option_to_list o ++ taken_chains h) ≡ false in
+    λ o. list_any (has_entry link.name) (option_to_list o ++ taken_chains h) ≡ false in
     let (not_here, not_before) =
-        or_parts (has_entry link.name chain) (list_any (has_entry link.name) (taken_chains h)) (subst P tells not_taken) in
+    or_parts (has_entry link.name chain) (list_any (has_entry link.name) (taken_chains h)) (subst P tells not_taken) in
     let open1 : is_over link.name h ≡ false =
-        or_from (is_settled link.name h || is_regained link.name h) (list_any (has_entry link.name) (taken_chains h))
-        not_answered not_before in
+    or_from (is_settled link.name h || is_regained link.name h) (list_any (has_entry link.name) (taken_chains h))
+    not_answered not_before in
     let parting_is : parting h ≡ Some link = last_is_parting h link last open1 in
     let Q : Option ChainLink → Type 0 = λ p. continues (place_with (known h) p h) chain ≡ true in
     let has : has_entry link.name chain ≡ true =
-        continues_has h (known h) link chain (parted link last) (subst Q parting_is goes) in
+    continues_has h (known h) link chain (parted link last) (subst Q parting_is goes) in
     cc
 
 second_is_true : (a b c : Bool) → b ≡ true → ((a || b) || c) ≡ true
@@ -148,8 +148,8 @@ told_again me (Parted bill link manifest manifest_text) h parts before =
           let last = (parting_is_last (Parted bill link manifest manifest_text ∷ h) other is).0 in
           let same : link ≡ other = cc in
           let P : ChainLink → Type 0 =
-              λ l. cond (checksum_eq link.name l.name) chain_of (settled_chain l.name h)
-              ≡ option_map (λ chain. chain ++ l ∷ []) (known h) in
+          λ l. cond (checksum_eq link.name l.name) chain_of (settled_chain l.name h)
+          ≡ option_map (λ chain. chain ++ l ∷ []) (known h) in
           subst P same (ap (λ b. cond b chain_of (settled_chain link.name h)) ((checksum_eq-Decides link.name link.name).1 refl));
       parted = λ other last no. let some = held.known_is in cc;
     }
@@ -161,10 +161,10 @@ told_again me (Settled bill entry) h settles before =
     let tells : settled_chain entry h ≡ Some chain = settled_is_told bill entry h settles before in
     let grows : length settles.known ≤ length chain = omega (arith, length-append settles.known (link ∷ [])) in
     let keeps : longer chain (longest (told h)) ≡ chain =
-        ap (longer chain) where1.known_is ∙ longer_is chain settles.known grows in
+    ap (longer chain) where1.known_is ∙ longer_is chain settles.known grows in
     let over : is_over link.name (Settled bill entry ∷ h) ≡ true =
-        ap (λ b. (b || is_settled link.name h) || is_regained link.name h || list_any (has_entry link.name) (taken_chains h))
-        ((checksum_eq-Decides entry link.name).1 (sym settles.names)) in
+    ap (λ b. (b || is_settled link.name h) || is_regained link.name h || list_any (has_entry link.name) (taken_chains h))
+    ((checksum_eq-Decides entry link.name).1 (sym settles.names)) in
     record {
       newest_is = newest_is_longest (settled_chain entry h) (told h) chain tells keeps;
       at_parting = λ other is. let none : parting (Settled bill entry ∷ h) ≡ None = over_is_not_parting (Settled bill entry ∷ h) link last over in cc;
@@ -175,9 +175,9 @@ told_again me (Regained bill entry) h regains before =
     let link = regains.link in
     let last = (parting_is_last h link where1.parting_is).0 in
     let over : is_over link.name (Regained bill entry ∷ h) ≡ true =
-        second_is_true (is_settled link.name h) (checksum_eq entry link.name || is_regained link.name h)
-        (list_any (has_entry link.name) (taken_chains h))
-        (ap (λ b. b || is_regained link.name h) ((checksum_eq-Decides entry link.name).1 (sym regains.names))) in
+    second_is_true (is_settled link.name h) (checksum_eq entry link.name || is_regained link.name h)
+    (list_any (has_entry link.name) (taken_chains h))
+    (ap (λ b. b || is_regained link.name h) ((checksum_eq-Decides entry link.name).1 (sym regains.names))) in
     record {
       newest_is = before.newest_is;
       at_parting = λ other is. let none : parting (Regained bill entry ∷ h) ≡ None = over_is_not_parting (Regained bill entry ∷ h) link last over in cc;

@@ -94,8 +94,8 @@ pub taken_more : (bill entry : Checksum) (h : List Record) (before after : Told)
     → IsToldBy (Taken bill entry ∷ h) after
 taken_more bill entry h before after more is found known_is begun_is parted_is =
     let tells : taken_chain entry h ≡ more =
-        sym (taken-begun entry h) ∙ ap (find (ends_in entry)) (sym is.begun_is)
-        ∙ sym (found_behind (ends_in entry) (reverse before.begun.items)) ∙ found in
+    sym (taken-begun entry h) ∙ ap (find (ends_in entry)) (sym is.begun_is)
+    ∙ sym (found_behind (ends_in entry) (reverse before.begun.items)) ∙ found in
     record {
       known_is = known_is ∙ ap (known_with more) is.known_is ∙ ap (λ m. known_with m (known h)) (sym tells)
           ∙ sym (known-told (taken_chain entry h) (told h));
@@ -111,9 +111,9 @@ pub settled_more : (bill entry : Checksum) (h : List Record) (before after : Tol
     → IsToldBy (Settled bill entry ∷ h) after
 settled_more bill entry h before after more is found known_is begun_is parted_is =
     let tells : settled_chain entry h ≡ more =
-        sym (settled-departures entry h)
-        ∙ ap (λ ds. option_and_then (λ d. d.chain) (find (λ d. checksum_eq d.entry entry) ds)) (sym is.parted_is)
-        ∙ found in
+    sym (settled-departures entry h)
+    ∙ ap (λ ds. option_and_then (λ d. d.chain) (find (λ d. checksum_eq d.entry entry) ds)) (sym is.parted_is)
+    ∙ found in
     record {
       known_is = known_is ∙ ap (known_with more) is.known_is ∙ ap (λ m. known_with m (known h)) (sym tells)
           ∙ sym (known-told (settled_chain entry h) (told h));

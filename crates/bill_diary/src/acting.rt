@@ -5,8 +5,8 @@ ghost use Rattle.title_fold.specs.Fold.{fold};
 ghost use Rattle.bill_diary.specs.History.{history};
 ghost use Rattle.bill_diary.specs.Place.{is_ended, may_act_by};
 
-use crate::frame::Diary;
 use crate::bill_place::{BillPlace, place};
+use crate::frame::Diary;
 use ebl_base::{Chain, Checksum, NoMemory, TransactionList};
 use std::alloc::Global;
 use title_fold::{Title, fold};

@@ -21,7 +21,12 @@ pub(crate) fn last_begun<'a>(mut h: History<'a>, entry: Checksum) -> Option<Came
         (λ came. last_begun entry h.entry ≡ Some (record { chain = came.chain.now; manifest = came.manifest.now })) }
 {
     while let Some(record) = h.next() {
-        if let Record::Begun { chain, manifest, .. } = record {
+        if let Record::Begun {
+            chain,
+            manifest,
+            ..
+        } = record
+        {
             if ends_in(chain, entry) {
                 return Some(Came { chain, manifest });
             }

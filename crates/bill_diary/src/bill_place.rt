@@ -51,7 +51,12 @@ pub fn place(alloc: Global, d: &Diary, bill: Checksum) -> Result<BillPlace, NoMe
 }
 
 // The place of a bill whose known chain this is.
-fn place_with(alloc: Global, frames: &[Frame], bill: Checksum, chain: Chain) -> Result<BillPlace, NoMemory>
+fn place_with(
+    alloc: Global,
+    frames: &[Frame],
+    bill: Checksum,
+    chain: Chain,
+) -> Result<BillPlace, NoMemory>
     requires { known (history bill frames.now) ≡ Some chain }
     ensures { IfOk result (λ place. place ≡ place_of (history bill frames.now)) }
 {
@@ -92,7 +97,9 @@ impl Copied for BillPlace {
                 known: known.copy(alloc)?,
                 entry: entry.copy(alloc)?,
             }),
-            BillPlace::Gone { known } => Ok(BillPlace::Gone { known: known.copy(alloc)? }),
+            BillPlace::Gone { known } => Ok(BillPlace::Gone {
+                known: known.copy(alloc)?,
+            }),
         }
     }
 }

@@ -16,11 +16,12 @@ mod told;
 mod walk;
 
 pub use acting::may_act;
-pub use frame::{Diary, Frame};
 pub use bill_place::{BillPlace, place};
+pub use frame::{Diary, Frame};
 pub use laws::{
-    front_of_sound_diary_is_sound, frames_of_other_bills_change_nothing, history_of_sound_diary_is_sound,
-    known_chain_only_grows, place_is_what_stands, possessor_acts_where_held_and_not_ended,
+    frames_of_other_bills_change_nothing, front_of_sound_diary_is_sound,
+    history_of_sound_diary_is_sound, known_chain_only_grows, place_is_what_stands,
+    possessor_acts_where_held_and_not_ended,
 };
 pub use look_ups::{Declination, has_bytes, is_taken, last_declined};
 pub use record::Record;

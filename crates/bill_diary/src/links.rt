@@ -25,7 +25,9 @@ impl<'a> Links<'a> {
     pub(crate) fn new(alloc: Global) -> Self
         ensures { result ≡ [] }
     {
-        Links { links: Vec::new(alloc) }
+        Links {
+            links: Vec::new(alloc),
+        }
     }
 
     pub(crate) fn len(&self) -> usize

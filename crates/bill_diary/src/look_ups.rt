@@ -46,7 +46,8 @@ pub fn last_declined(d: &Diary, entry: Checksum) -> Option<Declination<'_>>
             reason,
             evidence,
             ..
-        } = record {
+        } = record
+        {
             if *other == entry {
                 return Some(Declination {
                     code: *code,
@@ -78,7 +79,10 @@ fn brings(one: &Record, checksum: Checksum) -> bool
 {
     match one {
         Record::Attached { piece, .. } => piece.checksum == checksum,
-        Record::Stored { checksum: other, .. } => *other == checksum,
+        Record::Stored {
+            checksum: other,
+            ..
+        } => *other == checksum,
         _ => false,
     }
 }

@@ -15,7 +15,11 @@ pub(crate) fn parting<'a>(h: History<'a>) -> Option<&'a ChainLink>
     ensures { option_copied result ≡ parting h.entry }
 {
     let link = last_parted(h.again())?;
-    if is_over(h, link.name) { None } else { Some(link) }
+    if is_over(h, link.name) {
+        None
+    } else {
+        Some(link)
+    }
 }
 
 // The entry of the last Parted.

@@ -14,7 +14,8 @@ pub(crate) fn since(alloc: Global, mut h: History) -> Result<TransactionList, No
     let mut newest_first = Vec::new(alloc);
     while let Some(record) = h.next() {
         match record {
-            Record::Signed { transaction, .. } | Record::Acted { transaction, .. } => newest_first.push(*transaction)?,
+            Record::Signed { transaction, .. } | Record::Acted { transaction, .. } =>
+                newest_first.push(*transaction)?,
             Record::Taken { .. } => break,
             _ => {}
         }

@@ -8,8 +8,12 @@ use Rattle.disk_model.specs.Event.{Event, write, synced, seen_after, LeftAfter, 
 pub length-written : (old : List ℕ) (place : ℕ) (bytes : List ℕ) → place ≤ length old
     → length (written old place bytes) ≡ place + (length bytes + length (drop (place + length bytes) old))
 length-written old place bytes le =
-    omega (arith, length-take-le place old le, length-append (take place old) bytes,
-        length-append (take place old ++ bytes) (drop (place + length bytes) old))
+    omega (
+      arith,
+      length-take-le place old le,
+      length-append (take place old) bytes,
+      length-append (take place old ++ bytes) (drop (place + length bytes) old),
+    )
 
 -- nothing was done
 pub Torn-same : (place n : ℕ) (old : List ℕ) → Torn place n old old
@@ -22,7 +26,7 @@ Torn-written old place bytes le =
     let rest = drop (place + length bytes) old in
     let front : length (take place old) ≡ place = length-take-le place old le in
     let through : length (take place old ++ bytes) ≡ place + length bytes = omega
-        (arith, front, length-append (take place old) bytes) in
+    (arith, front, length-append (take place old) bytes) in
     record {
       before = ap (take place) (append_assoc (take place old) bytes rest)
           ∙ take_at (take place old) (bytes ++ rest) place front;
@@ -69,8 +73,12 @@ pub length-seen_after : (file : List ℕ) (events : List Event) → BeginInside 
     → length (seen_after file events) ≤ length file + bytes_written events
 length-seen_after file [] in_order = omega arith
 length-seen_after file (write p b ∷ events) in_order =
-    omega (arith, length-seen_after (written file p b) events in_order.1, length-written file p b in_order.0,
-        length-drop (p + length b) file)
+    omega (
+      arith,
+      length-seen_after (written file p b) events in_order.1,
+      length-written file p b in_order.0,
+      length-drop (p + length b) file,
+    )
 length-seen_after file (synced ∷ events) in_order = length-seen_after file events in_order
 
 -- a write more may tear what was left before
@@ -97,7 +105,7 @@ LeftAfter-seen : (P : List ℕ → Type 0) (file : List ℕ) (events : List Even
 LeftAfter-seen P file [] here in_order = here
 LeftAfter-seen P file (write p b ∷ events) here in_order =
     LeftAfter-seen (λ d. (e : List ℕ) × P e × Torn p (length b) e d) (written file p b) events
-        (file, here, Torn-written file p b in_order.0) in_order.1
+    (file, here, Torn-written file p b in_order.0) in_order.1
 LeftAfter-seen P file (synced ∷ events) here in_order = LeftAfter-seen (λ d. d ≡ file) file events refl in_order
 
 -- ---- the clauses of a disk
@@ -107,13 +115,16 @@ pub Follows-write : (start : List ℕ) (events after : List Event) (place n : �
     → Follows (Torn place n) (MayLeave start events) (MayLeave start after)
 Follows-write start events after place n bytes len is c left =
     let last = LeftAfter-write (λ d. d ≡ start) start events place bytes c
-        (subst (λ (l : List Event). MayLeave start l c) is left) in
+    (subst (λ (l : List Event). MayLeave start l c) is left) in
     (last.0, last.1, subst (λ (m : ℕ). Torn place m last.0 c) len last.2)
 
 pub Follows-same : (start : List ℕ) (events after : List Event) (place n : ℕ) → after ≡ events
     → Follows (Torn place n) (MayLeave start events) (MayLeave start after)
-Follows-same start events after place n is c left = (c, subst (λ (l : List Event). MayLeave start l c) is left,
-    Torn-same place n c)
+Follows-same start events after place n is c left = (
+  c,
+  subst (λ (l : List Event). MayLeave start l c) is left,
+  Torn-same place n c,
+)
 
 pub NoneNew-same : (start : List ℕ) (events after : List Event) → after ≡ events
     → NoneNew (MayLeave start events) (MayLeave start after)
@@ -129,24 +140,28 @@ pub NoneNew-synced : (start : List ℕ) (events after : List Event) → BeginIns
 NoneNew-synced start events after in_order is c left =
     let same = Only-synced start events after is c left in
     subst (λ (l : List ℕ). MayLeave start events l) (sym same)
-        (LeftAfter-seen (λ d. d ≡ start) start events refl in_order)
+    (LeftAfter-seen (λ d. d ≡ start) start events refl in_order)
 
 pub Elapses-same : (start : List ℕ) (events after : List Event) → after ≡ events
     → Elapses (length events) (length after) (LeftSince start events) (LeftSince start after) (MayLeave start after)
 Elapses-same start events after is =
     subst (λ (l : List Event). Elapses (length events) (length l) (LeftSince start events) (LeftSince start l)
-        (MayLeave start l)) (sym is)
-      record { later = omega arith; nothing_else = λ t c le left. inl left; keeps = λ t c le left. left }
+    (MayLeave start l)) (sym is)
+    record { later = omega arith; nothing_else = λ t c le left. inl left; keeps = λ t c le left. left }
 
 Elapses-one : (start : List ℕ) (events : List Event) (e : Event)
     → Elapses (length events) (length (events ++ e ∷ [])) (LeftSince start events)
-        (LeftSince start (events ++ e ∷ [])) (MayLeave start (events ++ e ∷ []))
+    (LeftSince start (events ++ e ∷ [])) (MayLeave start (events ++ e ∷ []))
 Elapses-one start events e = record {
   later = omega (arith, long);
   nothing_else = λ t c le left. was t c left (cases_lt (length events) (left.0));
-  keeps = λ t c le left.
-      (left.0, left.1, omega (arith, long, left.2), subst (λ (l : List Event). MayLeave start l c)
-      (sym (take-append-le left.0 events (e ∷ []) left.2)) left.3);
+  keeps = λ t c le left. (
+    left.0,
+    left.1,
+    omega (arith, long, left.2),
+    subst (λ (l : List Event). MayLeave start l c)
+        (sym (take-append-le left.0 events (e ∷ []) left.2)) left.3,
+  );
 }
   where
     long : length (events ++ e ∷ []) ≡ length events + 1
@@ -154,19 +169,23 @@ Elapses-one start events e = record {
 
     was : (t : ℕ) (c : List ℕ) (left : LeftSince start (events ++ e ∷ []) t c) → (length events < left.0)
         ⊎ (left.0 ≤ length events)
-      → LeftSince start events t c ⊎ MayLeave start (events ++ e ∷ []) c
+        → LeftSince start events t c ⊎ MayLeave start (events ++ e ∷ []) c
     was t c left (inl last) = inr
         (subst (λ (l : List Event). MayLeave start l c)
         (take_all left.0 (events ++ e ∷ []) (omega (arith, long, last))) left.3)
-    was t c left (inr past) = inl
-        (left.0, left.1, past, subst (λ (l : List Event). MayLeave start l c)
-        (take-append-le left.0 events (e ∷ []) past) left.3)
+    was t c left (inr past) = inl (
+      left.0,
+      left.1,
+      past,
+      subst (λ (l : List Event). MayLeave start l c)
+          (take-append-le left.0 events (e ∷ []) past) left.3,
+    )
 
 pub Elapses-push : (start : List ℕ) (events after : List Event) (e : Event) → after ≡ events ++ e ∷ []
     → Elapses (length events) (length after) (LeftSince start events) (LeftSince start after) (MayLeave start after)
 Elapses-push start events after e is =
     subst (λ (l : List Event). Elapses (length events) (length l) (LeftSince start events) (LeftSince start l)
-        (MayLeave start l)) (sym is) (Elapses-one start events e)
+    (MayLeave start l)) (sym is) (Elapses-one start events e)
 
 -- ---- a write that was done or not, by its answer
 

@@ -25,18 +25,18 @@ length-events_of (Sync ∷ marks) bytes = omega (arith, length-events_of marks b
 
 pub events_of-write : (marks : List Mark) (bytes piece : List ℕ) (place : ℕ) → marked marks ≡ length bytes
     → events_of (marks ++ Write place (length piece) ∷ []) (bytes ++ piece) ≡ events_of marks bytes
-        ++ write place piece ∷ []
+    ++ write place piece ∷ []
 events_of-write [] [] piece place whole = ap (λ (l : List ℕ). write place l ∷ [])
     (take_all (length piece) piece (omega arith))
 events_of-write [] (b ∷ bytes) piece place whole = absurd (omega arith)
 events_of-write (Write p m ∷ marks) bytes piece place whole =
     let inside : m ≤ length bytes = omega arith in
     ap (λ (l : List ℕ). write p l ∷ events_of (marks ++ Write place (length piece) ∷ []) (drop m (bytes ++ piece)))
-        (take-append-le m bytes piece inside)
+    (take-append-le m bytes piece inside)
     ∙ ap (λ (l : List ℕ). write p (take m bytes) ∷ events_of (marks ++ Write place (length piece) ∷ []) l)
-        (drop-append-le m bytes piece inside)
+    (drop-append-le m bytes piece inside)
     ∙ ap (λ (l : List Event). write p (take m bytes) ∷ l)
-        (events_of-write marks (drop m bytes) piece place (omega (arith, length-drop m bytes)))
+    (events_of-write marks (drop m bytes) piece place (omega (arith, length-drop m bytes)))
 events_of-write (Sync ∷ marks) bytes piece place whole = ap (λ (l : List Event). synced ∷ l)
     (events_of-write marks bytes piece place whole)
 
@@ -52,8 +52,13 @@ pub bytes_written-events_of : (marks : List Mark) (bytes : List ℕ) → marked 
     → bytes_written (events_of marks bytes) ≡ length bytes
 bytes_written-events_of [] bytes whole = whole
 bytes_written-events_of (Write p m ∷ marks) bytes whole =
-    omega (arith, length-take-le m bytes (omega arith), bytes_written-events_of marks (drop m bytes)
-        (omega (arith, length-drop m bytes)), length-drop m bytes)
+    omega (
+      arith,
+      length-take-le m bytes (omega arith),
+      bytes_written-events_of marks (drop m bytes)
+          (omega (arith, length-drop m bytes)),
+      length-drop m bytes,
+    )
 bytes_written-events_of (Sync ∷ marks) bytes whole = bytes_written-events_of marks bytes whole
 
 pub IsKept-start : (start : List ℕ) → IsKept start start [] []
@@ -69,8 +74,8 @@ IsKept-write start seen bytes piece marks place kept inside =
       replayed = ap (λ (l : List ℕ). written l place piece) kept.replayed
           ∙ sym (seen_after-write start (events_of marks bytes) place piece) ∙ ap (seen_after start) (sym events);
       inside = subst (BeginInside start) (sym events)
-        (BeginInside-write start (events_of marks bytes) place piece kept.inside
-            (subst (λ (l : List ℕ). place ≤ length l) kept.replayed inside));
+          (BeginInside-write start (events_of marks bytes) place piece kept.inside
+          (subst (λ (l : List ℕ). place ≤ length l) kept.replayed inside));
     }
 
 pub IsKept-sync : (start seen bytes : List ℕ) (marks : List Mark) → IsKept start seen marks bytes

@@ -11,7 +11,7 @@ module _ {D : Type 0} (moment : D → ℕ) (left_since : D → ℕ → List ℕ 
   -- one call more, after which a crash leaves what has P
   pub goes_on : (old mid new : D) (P may_leave : List ℕ → Type 0) → LeavesOnly moment left_since old mid P
       → Elapses (moment mid) (moment new) (left_since mid) (left_since new) may_leave
-          → ((c : List ℕ) → may_leave c → P c) → LeavesOnly moment left_since old new P
+      → ((c : List ℕ) → may_leave c → P c) → LeavesOnly moment left_since old new P
   goes_on old mid new P may_leave so_far time here = record {
     later = omega (arith, so_far.later, time.later);
     each = λ c left. ⊎_elim (so_far.each c) (here c) (time.nothing_else (moment old) c so_far.later left);
@@ -44,14 +44,17 @@ module _ {D : Type 0} (seen : D → List ℕ) (may_leave : D → List ℕ → Ty
   -- no call at all
   pub Looked-refl : (old : D) → ((c : List ℕ) → left_since old (moment old) c → may_leave old c)
       → Looked seen may_leave moment left_since old old
-  Looked-refl old only = record { same = refl; crash = λ c left. left;
-      time = started moment left_since old (may_leave old) only }
+  Looked-refl old only = record {
+    same = refl;
+    crash = λ c left. left;
+    time = started moment left_since old (may_leave old) only;
+  }
 
   -- one call that wrote nothing
   pub Looked-one : (old new : D) → ((c : List ℕ) → left_since old (moment old) c → may_leave old c)
       → seen new ≡ seen old → NoneNew (may_leave old) (may_leave new)
       → Elapses (moment old) (moment new) (left_since old) (left_since new) (may_leave new)
-          → Looked seen may_leave moment left_since old new
+      → Looked seen may_leave moment left_since old new
   Looked-one old new only same crash time = record {
     same = same;
     crash = crash;
@@ -65,5 +68,5 @@ module _ {D : Type 0} (seen : D → List ℕ) (may_leave : D → List ℕ → Ty
     same = second.same ∙ first.same;
     crash = λ c left. first.crash c (second.crash c left);
     time = LeavesOnly-trans moment left_since old mid new (may_leave old) first.time
-      (LeavesOnly-weaker moment left_since mid new (may_leave mid) (may_leave old) first.crash second.time);
+        (LeavesOnly-weaker moment left_since mid new (may_leave mid) (may_leave old) first.crash second.time);
   }

@@ -52,9 +52,13 @@ bytes_written (synced ∷ events) = bytes_written events
 -- this moment is one of those since an earlier one
 pub counts_now : (start : List ℕ) (events : List Event) (t : ℕ) (c : List ℕ) → t ≤ length events
     → MayLeave start events c → LeftSince start events t c
-counts_now start events t c le left =
-    (length events, le, omega arith, subst (λ (l : List Event). MayLeave start l c)
-        (sym (take_all (length events) events (omega arith))) left)
+counts_now start events t c le left = (
+  length events,
+  le,
+  omega arith,
+  subst (λ (l : List Event). MayLeave start l c)
+      (sym (take_all (length events) events (omega arith))) left,
+)
 
 -- since this moment there is no other
 pub only_now : (start : List ℕ) (events : List Event) (c : List ℕ) → LeftSince start events (length events) c

@@ -27,8 +27,13 @@ impl Model for DiskLog {
 
     ghost Value = { LogRecord };
 
-    ghost view = { λ s. record { start = s.start; seen = s.seen.items;
-        events = events_of s.marks.items s.written.items; byte_room = s.byte_room; event_room = s.event_room } };
+    ghost view = { λ s. record {
+      start = s.start;
+      seen = s.seen.items;
+      events = events_of s.marks.items s.written.items;
+      byte_room = s.byte_room;
+      event_room = s.event_room;
+    } };
 
     ghost invariant = { λ s. IsKept s.start s.seen.items s.marks.items s.written.items
         × (s.byte_room ≤ vec_capacity s.seen) × (s.byte_room ≤ vec_capacity s.written)

@@ -26,15 +26,25 @@ impl Model for MemoryDisk {
 
     ghost Value = { DiskRecord };
 
-    ghost view = { λ s. record { start = s.log.start; seen = s.log.seen; events = s.log.events; calls = s.calls;
-        done = s.done } };
+    ghost view = { λ s. record {
+      start = s.log.start;
+      seen = s.log.seen;
+      events = s.log.events;
+      calls = s.calls;
+      done = s.done;
+    } };
 }
 
 impl MemoryDisk {
     /// A disk with these bytes, all of them on it, whose calls of the numbers in `fails` fail.
     ///
     /// Such a write leaves its bytes out, or where its number stands in `done` too, writes them before it fails.
-    pub fn new(alloc: Global, bytes: ByteList, fails: CallList, done: CallList) -> Result<Self, NoMemory>
+    pub fn new(
+        alloc: Global,
+        bytes: ByteList,
+        fails: CallList,
+        done: CallList,
+    ) -> Result<Self, NoMemory>
         ensures bytes { IfOk result (λ disk. disk.seen ≡ bytes) }
         ensures start { IfOk result (λ disk. disk.start ≡ bytes) }
         ensures events { IfOk result (λ disk. disk.events ≡ []) }

@@ -11,7 +11,9 @@ use crate::answer::{Answer, View};
 use crate::bill::Bill;
 use canonical_json::{Json, Member, write};
 use ebl_base::{ByteList, NoMemory, PlatformCode};
-use json_forms::{list_json, member, number_member, object_json, party_member, text_json, text_member};
+use json_forms::{
+    list_json, member, number_member, object_json, party_member, text_json, text_member,
+};
 use std::alloc::Global;
 use title_fold::{FoldRefusal, Title, possessor, title_holder};
 

@@ -9,9 +9,9 @@ returns-clause-torn c =
 pub returns-clause-crash : goal.returns-clause-crash
 returns-clause-crash c =
     rw c.note_write.ensures.start
-        (Follows-written _ _ _ c.args.place c.args.piece.now c.note_write.result c.note_write.ensures.events c.note_write.ensures.same_events)
+    (Follows-written _ _ _ c.args.place c.args.piece.now c.note_write.result c.note_write.ensures.events c.note_write.ensures.same_events)
 
 pub returns-clause-time : goal.returns-clause-time
 returns-clause-time c =
     rw c.note_write.ensures.start
-        (Elapses-written _ _ _ c.args.place c.args.piece.now c.note_write.result c.note_write.ensures.events c.note_write.ensures.same_events)
+    (Elapses-written _ _ _ c.args.place c.args.piece.now c.note_write.result c.note_write.ensures.events c.note_write.ensures.same_events)
