@@ -1,10 +1,10 @@
 -- A list of bytes is a journal of one list of contents at most, or it is damaged at one place.
-use Rattle.std.proofs.Common.{◌≡◌, ◌≢◌, inl, inr, ◌⊎◌, ℕ, ◌+◌, ◌<◌, ◌≤◌, ◌^◌, List, [], ◌∷◌, ◌++◌, ◌-◌, ⊎_elim, length, take, drop, refl, sym, ◌∙◌, ap, subst, arith, append_assoc, length-append, length-drop}
-use Rattle.std.proofs.lemmas.List.{append-nil, append_cancel_left, take_at, drop_at, take-append-le, length-take-le}
+use Rattle.std.proofs.Common.{◌≡◌, ◌≢◌, inl, inr, ◌⊎◌, ℕ, ◌+◌, ◌<◌, ◌≤◌, ◌^◌, List, [], ◌∷◌, ◌++◌, ◌-◌, ⊎_elim, length, take, drop, refl, sym, ◌∙◌, ap, subst, arith, append_assoc, length-append}
+use Rattle.std.proofs.lemmas.List.{append-nil, take_at, drop_at}
 use Rattle.std.proofs.lemmas.Nat.{from_be_bytes-to_be_bytes_4}
 use Rattle.std.specs.Int.{w32, from_be_bytes}
 use Rattle.bill_journal.specs.Framed.{content, IsFramed}
-use Rattle.bill_journal.specs.Frames.{length_bytes, frame_text, framed, gated, front_of, IsShort, AreShort, StandsFor, RunsPast, HasNoVersion, BreaksAt, IsDamagedAt}
+use Rattle.bill_journal.specs.Frames.{length_bytes, frame_text, framed, gated, front_of, IsShort, AreShort, StandsFor, RunsPast, HasNoVersion, IsDamagedAt}
 
 pub length-length_bytes : (n : ℕ) → length (length_bytes n) ≡ 4
 unfolding length_bytes

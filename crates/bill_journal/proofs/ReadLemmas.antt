@@ -1,8 +1,8 @@
 -- One frame more that was read.
-use Rattle.std.proofs.Common.{◌≡◌, ℕ, ◌+◌, ◌≤◌, List, [], ◌∷◌, ◌++◌, map, length, take, drop, refl, sym, ◌∙◌, ap, subst, arith, append_assoc, length-append, length-drop}
-use Rattle.std.proofs.lemmas.List.{append-nil, take_at, drop_at, drop-drop, length-take-le}
+use Rattle.std.proofs.Common.{◌≡◌, ℕ, ◌+◌, ◌≤◌, List, [], ◌∷◌, ◌++◌, length, take, drop, refl, sym, ◌∙◌, ap, subst, arith, append_assoc, length-append, length-drop}
+use Rattle.std.proofs.lemmas.List.{take_at, drop_at, drop-drop}
 use Rattle.bill_journal.specs.declared.frame_at.FrameAt.{FrameAt}
-use Rattle.bill_journal.specs.Frames.{length_bytes, frame_text, gated, front_of, IsShort, AreShort, IsFrame}
+use Rattle.bill_journal.specs.Frames.{length_bytes, frame_text, gated, front_of, AreShort, IsFrame}
 use Rattle.bill_journal.specs.Places.{contents_of, frames_from}
 use Rattle.bill_journal.proofs.FrameLemmas.{length-length_bytes, length-frame_text, front_of-push, length-front_of-push, AreShort-push}
 

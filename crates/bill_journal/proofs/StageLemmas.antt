@@ -1,9 +1,9 @@
 -- What the disk stands for in each of the two steps of an append: the frame behind the shut gate, and then the gate.
-use Rattle.std.proofs.Common.{◌≡◌, ◌≢◌, inl, inr, ◌⊎◌, ℕ, ◌+◌, ◌<◌, ◌≤◌, ◌^◌, List, [], ◌∷◌, ◌++◌, Result, Ok, Err, OnOk, get_or, length, take, drop, refl, sym, ◌∙◌, ap, subst, arith, append_assoc, length-append, take-append-drop}
+use Rattle.std.proofs.Common.{◌≡◌, ◌≢◌, inl, inr, ◌⊎◌, ℕ, ◌+◌, ◌<◌, List, [], ◌∷◌, ◌++◌, Result, Ok, Err, OnOk, get_or, length, take, drop, sym, ◌∙◌, ap, subst, arith, append_assoc, length-append, take-append-drop}
 use Rattle.std.proofs.lemmas.Bool.{cases_eq}
-use Rattle.std.proofs.lemmas.List.{append-nil, take_at, drop_at, drop_more, drop-drop, take-append-le, drop-append-le, take_all}
-use Rattle.disk_model.specs.Disk.{written, Torn, Follows, Only}
-use Rattle.bill_journal.specs.Frames.{frame_text, framed, gated, front_of, IsShort, AreShort, StandsFor}
+use Rattle.std.proofs.lemmas.List.{take_at, drop_at, drop_more}
+use Rattle.disk_model.specs.Disk.{written, Torn, Only}
+use Rattle.bill_journal.specs.Frames.{frame_text, framed, front_of, IsShort, AreShort, StandsFor}
 use Rattle.bill_journal.specs.Journal.{IsSettled, WithOrWithout, MayHave, TornFrom}
 use Rattle.bill_journal.proofs.FrameLemmas.{front_of-push, length-front_of-push, length-framed, AreShort-push, stands_once}
 

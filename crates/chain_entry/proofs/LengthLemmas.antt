@@ -1,8 +1,7 @@
 -- How long the canonical texts of entries are.
-use Rattle.std.proofs.Common.{◌≡◌, ◌≤◌, ◌<◌, ◌+◌, ◌*◌, ◌^◌, ℕ, suc, pos, Bool, true, false, ◌&&◌, ◌||◌, ◌==◌, nat_le, List, [], ◌∷◌, ◌++◌, Option, Some, None, codes, cond, length, refl, sym, ap, ◌∙◌, subst, arith, map}
+use Rattle.std.proofs.Common.{◌≡◌, ◌≤◌, ◌+◌, ◌*◌, ℕ, Bool, true, false, ◌&&◌, ◌||◌, ◌==◌, nat_le, List, [], ◌∷◌, ◌++◌, Option, Some, None, codes, cond, length, refl, sym, ap, ◌∙◌, subst, arith}
 use Rattle.std.specs.Prelude.{All, IfSome, IsSome}
-use Rattle.std.specs.Fmt.{decimal}
-use Rattle.std.specs.List.{list_all, take_while}
+use Rattle.std.specs.List.{list_all}
 use Rattle.std.proofs.lemmas.Bool.{and_parts}
 use Rattle.std.proofs.lemmas.Bool.Decides.{nat_tests}
 use Rattle.std.proofs.lemmas.Fmt.{length-decimal-le}
@@ -14,7 +13,6 @@ use Rattle.canonical_json.specs.Canon.{canon, comma_if, members_text, values_tex
 use Rattle.canonical_json.specs.Value.{Value, Members, no_members, member}
 use Rattle.document_checksum.specs.Text.{checksum_of_text, checksum_text, is_lower_digit}
 use Rattle.document_checksum.proofs.Texts.{form_of_read}
-use Rattle.ebl_base.specs.Kind.{kind_text}
 use Rattle.ebl_base.specs.Moment.{moment_number}
 use Rattle.ebl_base.specs.Name35.{name_of, name_text, is_name, is_name_character}
 use Rattle.ebl_base.specs.Party.{party_at, party_of, party_text}

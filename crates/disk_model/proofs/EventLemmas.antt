@@ -1,7 +1,7 @@
 -- One event more, and what a crash may leave then.
 use Rattle.std.proofs.Common.{◌≡◌, inl, inr, ◌⊎◌, ℕ, ◌+◌, ◌<◌, ◌≤◌, List, [], ◌∷◌, ◌++◌, Result, Ok, Err, OnOk, OnErr, length, take, drop, refl, sym, ◌∙◌, ap, subst, arith, append_assoc, length-append, length-drop}
 use Rattle.std.proofs.lemmas.Bool.{cases_lt}
-use Rattle.std.proofs.lemmas.List.{take_at, drop_at, take-append-le, take_all, length-take, length-take-le}
+use Rattle.std.proofs.lemmas.List.{take_at, drop_at, take-append-le, take_all, length-take-le}
 use Rattle.disk_model.specs.Disk.{written, Torn, Follows, NoneNew, Only, Elapses}
 use Rattle.disk_model.specs.Event.{Event, write, synced, seen_after, LeftAfter, MayLeave, LeftSince, BeginInside, bytes_written}
 

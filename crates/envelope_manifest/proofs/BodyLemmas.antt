@@ -55,8 +55,10 @@ pub parts-no_manifest : (ms first : Members) (document : Value)
     → None ≡ option_and_then signed_in (under (codes "manifest") first)
     → parts_of ms ≡ Err fields.Manifest
 parts-no_manifest ms first document found taken none =
-    ap (λ d. parts_with d (option_and_then signed_in (under (codes "manifest") ms)) (option_and_then all_signed_in (under (codes "chain") ms))) (sym found)
-    ∙ ap (λ m. parts_with (Some document) (option_and_then signed_in m) (option_and_then all_signed_in (under (codes "chain") ms))) (sym (manifest_there ms first taken))
+    ap (λ d. parts_with d (option_and_then signed_in (under (codes "manifest") ms))
+    (option_and_then all_signed_in (under (codes "chain") ms))) (sym found)
+    ∙ ap (λ m. parts_with (Some document) (option_and_then signed_in m)
+    (option_and_then all_signed_in (under (codes "chain") ms))) (sym (manifest_there ms first taken))
     ∙ ap (λ m. parts_with (Some document) m (option_and_then all_signed_in (under (codes "chain") ms))) (sym none)
 
 -- there are a document and a manifest
@@ -65,12 +67,16 @@ three : (ms first second : Members) (document : Value) (manifest : SignedText)
     → first ≡ without (codes "document") ms
     → Some manifest ≡ option_and_then signed_in (under (codes "manifest") first)
     → second ≡ without (codes "manifest") first
-    → parts_of ms ≡ parts_with (Some document) (Some manifest) (option_and_then all_signed_in (under (codes "chain") second))
+    → parts_of ms ≡ parts_with (Some document) (Some manifest)
+    (option_and_then all_signed_in (under (codes "chain") second))
 three ms first second document manifest found taken next then_taken =
-    ap (λ d. parts_with d (option_and_then signed_in (under (codes "manifest") ms)) (option_and_then all_signed_in (under (codes "chain") ms))) (sym found)
-    ∙ ap (λ m. parts_with (Some document) (option_and_then signed_in m) (option_and_then all_signed_in (under (codes "chain") ms))) (sym (manifest_there ms first taken))
+    ap (λ d. parts_with d (option_and_then signed_in (under (codes "manifest") ms))
+    (option_and_then all_signed_in (under (codes "chain") ms))) (sym found)
+    ∙ ap (λ m. parts_with (Some document) (option_and_then signed_in m)
+    (option_and_then all_signed_in (under (codes "chain") ms))) (sym (manifest_there ms first taken))
     ∙ ap (λ m. parts_with (Some document) m (option_and_then all_signed_in (under (codes "chain") ms))) (sym next)
-    ∙ ap (λ c. parts_with (Some document) (Some manifest) (option_and_then all_signed_in c)) (sym (chain_there ms first second taken then_taken))
+    ∙ ap (λ c. parts_with (Some document) (Some manifest) (option_and_then all_signed_in c))
+    (sym (chain_there ms first second taken then_taken))
 
 pub parts-no_chain : (ms first second : Members) (document : Value) (manifest : SignedText)
     → Some document ≡ option_and_then object_in (under (codes "document") ms)
@@ -109,5 +115,7 @@ pub joined : (a b c d e f g : List ℕ) (to_a to_b to_c to_d to_e to_f to_g : Li
     → to_g ≡ to_f ++ g
     → to_g ≡ a ++ (b ++ (c ++ (d ++ (e ++ (f ++ g)))))
 joined a b c d e f g to_a to_b to_c to_d to_e to_f to_g ha hb hc hd he hf hg =
-    hg ∙ ap (λ x. x ++ g) (hf ∙ ap (λ x. x ++ f) (he ∙ ap (λ x. x ++ e) (hd ∙ ap (λ x. x ++ d) (hc ∙ ap (λ x. x ++ c) (hb ∙ ap (λ x. x ++ b) ha)))))
+    hg ∙ ap (λ x. x ++ g) (hf
+    ∙ ap (λ x. x ++ f) (he
+    ∙ ap (λ x. x ++ e) (hd ∙ ap (λ x. x ++ d) (hc ∙ ap (λ x. x ++ c) (hb ∙ ap (λ x. x ++ b) ha)))))
     ∙ simp append_assoc

@@ -8,7 +8,7 @@ use Rattle.canonical_json.specs.Lawful.{IsLawful, are_lawful, HasTexts, HaveText
 use Rattle.document_checksum.specs.Text.{checksum_text, checksum_of_text}
 use Rattle.document_checksum.proofs.Texts.{checksum_of_text-checksum_text}
 use Rattle.document_checksum.proofs.ReadTexts.{IsUtf8-checksum_text}
-use Rattle.json_forms.specs.Reading.{number_in, all_of, with_more, count_of, needed}
+use Rattle.json_forms.specs.Reading.{needed, number_in, all_of, with_more, count_of}
 use Rattle.json_forms.specs.Writing.{each_written}
 use Rattle.json_forms.proofs.RoundTrips.{count_of-each_written}
 use Rattle.ebl_base.specs.declared.checksum.Checksum.{Checksum}
@@ -34,8 +34,10 @@ piece_in-piece_value piece h =
     let media : plain_text 64 piece.media ≡ Some piece.media = ap (λ b. cond b (Some piece.media) None) h.media in
     let size = number_in-most 2097152 piece.size h.size in
     let checksum = checksum_of_text-checksum_text piece.checksum h.checksum in
-    ap (λ n. piece_with n (plain_text 64 piece.media) (number_in 0 2097152 (pos piece.size)) (checksum_of_text (checksum_text piece.checksum))) name
-    ∙ ap (λ m. piece_with (Some piece.name) m (number_in 0 2097152 (pos piece.size)) (checksum_of_text (checksum_text piece.checksum))) media
+    ap (λ n. piece_with n (plain_text 64 piece.media) (number_in 0 2097152 (pos piece.size))
+    (checksum_of_text (checksum_text piece.checksum))) name
+    ∙ ap (λ m. piece_with (Some piece.name) m (number_in 0 2097152 (pos piece.size))
+    (checksum_of_text (checksum_text piece.checksum))) media
     ∙ ap (λ s. piece_with (Some piece.name) (Some piece.media) s (checksum_of_text (checksum_text piece.checksum))) size
     ∙ ap (λ c. piece_with (Some piece.name) (Some piece.media) (Some piece.size) c) checksum
 
@@ -58,16 +60,19 @@ HasTexts-piece piece h = (
 
 -- ---- several
 
-pub all_of-written : (pieces : List Piece) → ArePieces pieces → all_of piece_in (each_written piece_value pieces) ≡ Some pieces
+pub all_of-written : (pieces : List Piece) → ArePieces pieces
+    → all_of piece_in (each_written piece_value pieces) ≡ Some pieces
 all_of-written [] h = refl
 all_of-written (piece ∷ pieces) h =
     ap (λ p. with_more p (all_of piece_in (each_written piece_value pieces))) (piece_in-piece_value piece h.0)
     ∙ ap (with_more (Some piece)) (all_of-written pieces h.1)
 
-pub are_lawful-written : (pieces : List Piece) → ArePieces pieces → IsTrue (are_lawful (each_written piece_value pieces))
+pub are_lawful-written : (pieces : List Piece) → ArePieces pieces
+    → IsTrue (are_lawful (each_written piece_value pieces))
 are_lawful-written [] h = refl
 are_lawful-written (piece ∷ pieces) h =
-    ap (λ b. b && are_lawful (each_written piece_value pieces)) (IsLawful-piece piece h.0) ∙ are_lawful-written pieces h.1
+    ap (λ b. b && are_lawful (each_written piece_value pieces)) (IsLawful-piece piece h.0)
+    ∙ are_lawful-written pieces h.1
 
 pub HaveTexts-written : (pieces : List Piece) → ArePieces pieces → HaveTexts (each_written piece_value pieces)
 HaveTexts-written [] h = tt
@@ -92,15 +97,20 @@ pieces_under-manifest_value manifest h =
     ∙ ap (option_and_then together) (all_of-written manifest.documents h.each)
     ∙ ap (λ b. cond b (Some manifest.documents) None) h.together
 
-pub manifest_of-manifest_value : (manifest : Manifest) → IsManifest manifest → manifest_of (manifest_value manifest) ≡ Ok manifest
+pub manifest_of-manifest_value : (manifest : Manifest) → IsManifest manifest
+    → manifest_of (manifest_value manifest) ≡ Ok manifest
 manifest_of-manifest_value manifest h =
     let bill = checksum_of_text-checksum_text manifest.bill h.bill in
     let last = checksum_of_text-checksum_text manifest.last h.last in
     let documents = pieces_under-manifest_value manifest h.documents in
-    with_parts (checksum_of_text (checksum_text manifest.bill)) (checksum_of_text (checksum_text manifest.last)) (pieces_under (manifest_value manifest)) bill last documents
+    with_parts (checksum_of_text (checksum_text manifest.bill)) (checksum_of_text (checksum_text manifest.last))
+    (pieces_under (manifest_value manifest)) bill last documents
   where
-    with_parts : (b l : Option Checksum) (d : Option (List Piece)) → b ≡ Some manifest.bill → l ≡ Some manifest.last → d ≡ Some manifest.documents
-        → needed Bill b (λ bill. needed Last l (λ last. needed Documents d (λ documents. Ok (record { bill = bill; last = last; documents = documents })))) ≡ Ok manifest
+    with_parts : (b l : Option Checksum) (d : Option (List Piece)) → b ≡ Some manifest.bill
+        → l ≡ Some manifest.last → d ≡ Some manifest.documents
+        → needed Bill b (λ bill. needed Last l
+        (λ last. needed Documents d
+        (λ documents. Ok (record { bill = bill; last = last; documents = documents })))) ≡ Ok manifest
     with_parts b l d hb hl hd = rw (hb, hl, hd) refl
 
 pub IsLawful-manifest : (manifest : Manifest) → IsManifest manifest → IsLawful (manifest_value manifest)

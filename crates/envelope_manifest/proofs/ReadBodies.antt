@@ -44,7 +44,8 @@ signed_utf8 : (w : Value) (t : SignedText) → HasTexts w → signed_in w ≡ So
 signed_utf8 null t texts h = cc
 signed_utf8 (flag b) t texts h = cc
 signed_utf8 (int z) t texts h = cc
-signed_utf8 (text s) t texts h = let same : s ≡ t.0 = ap (λ (o : Option SignedText). text_in o s) h in subst IsUtf8 same texts
+signed_utf8 (text s) t texts h = let same : s ≡ t.0 = ap (λ (o : Option SignedText). text_in o s) h in subst IsUtf8
+    same texts
   where
     text_in : Option SignedText → List ℕ → List ℕ
     text_in None s = s
@@ -76,11 +77,13 @@ list_utf8 (list vs) texts have h = all_utf8 vs texts have h
 list_utf8 (object ms) texts have h = cc
 
 -- members that are a body
-IsBody-parts_of : (ms : Members) (body : BodyRecord) → IsLawful (object ms) → MembersHaveTexts ms → parts_of ms ≡ Ok body
+IsBody-parts_of : (ms : Members) (body : BodyRecord) → IsLawful (object ms) → MembersHaveTexts ms
+    → parts_of ms ≡ Ok body
     → IsBody body
 IsBody-parts_of ms body lawful texts h =
     let first = needed-parts fields.Document (option_and_then object_in (under (codes "document") ms)) _ body h in
-    let second = needed-parts fields.Manifest (option_and_then signed_in (under (codes "manifest") ms)) _ body first.2 in
+    let second = needed-parts fields.Manifest (option_and_then signed_in (under (codes "manifest") ms)) _ body
+    first.2 in
     let third = needed-parts fields.Chain (option_and_then all_signed_in (under (codes "chain") ms)) _ body second.2 in
     let document = made_of object_in (under (codes "document") ms) first.0 first.1 in
     let manifest = made_of signed_in (under (codes "manifest") ms) second.0 second.1 in
@@ -92,7 +95,8 @@ IsBody-parts_of ms body lawful texts h =
       object = ap object_in (sym same) ∙ document.2;
       lawful = subst IsLawful same (is_lawful-member_of (codes "document") (object ms) document.0 lawful document.1);
       texts = subst HasTexts same (HasTexts-under (codes "document") ms document.0 texts document.1);
-      manifest = signed_utf8 manifest.0 second.0 (HasTexts-under (codes "manifest") ms manifest.0 texts manifest.1) manifest.2;
+      manifest = signed_utf8 manifest.0 second.0 (HasTexts-under (codes "manifest") ms manifest.0 texts manifest.1)
+          manifest.2;
       chain = list_utf8 chain.0 third.0 (HasTexts-under (codes "chain") ms chain.0 texts chain.1) chain.2;
     })
 

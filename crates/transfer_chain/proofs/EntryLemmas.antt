@@ -2,8 +2,6 @@
 use Rattle.std.proofs.Common.{◌≡◌, ◌≤◌, ℕ, Bool, true, false, not, List, [], ◌∷◌, Option, Some, None, Result, Ok, Err, cond, length, refl, sym, ap, ◌∙◌, subst, arith}
 use Rattle.std.specs.Prelude.{option_map, slice_get}
 use Rattle.std.specs.Bool.{Decides}
-use Rattle.std.proofs.lemmas.Bool.Decides.{Decides-like}
-use Rattle.std.proofs.lemmas.Slice.Eq.{bytes_eq-Decides}
 use Rattle.ebl_base.specs.Checksum.{checksum_eq}
 use Rattle.ebl_base.specs.declared.chain.ChainLink.{ChainLink}
 use Rattle.ebl_base.specs.declared.checksum.Checksum.{Checksum}
@@ -11,6 +9,7 @@ use Rattle.ebl_base.specs.declared.entry.Entry.{Entry}
 use Rattle.ebl_base.specs.declared.party.Party.{Party}
 use Rattle.ebl_base.specs.declared.platform_code.PlatformCode.{PlatformCode}
 use Rattle.ebl_base.specs.declared.transaction.Transaction.{Transaction}
+use Rattle.ebl_base.proofs.ChecksumLemmas.{checksum_eq-Decides}
 use Rattle.ebl_base.proofs.SameLemmas.{code_eq-Decides, party_eq-Decides}
 use Rattle.party_roster.specs.RosterRecord.{RosterRecord, carrier}
 use Rattle.transport_document.specs.DocumentRecord.{DocumentRecord, bill_of}
@@ -39,17 +38,12 @@ pub record Stands (front : List ChainLink) (previous : Option Checksum) (before 
 
 -- ---- tests
 
-pub checksum_eq-tells : (a b : Checksum) → Decides (checksum_eq a b) (a ≡ b)
-checksum_eq-tells a b =
-    let checksum : List ℕ → Checksum = λ bytes. record { 0 = bytes } in
-    Decides-like (checksum_eq a b) (ap checksum) (ap (λ (c : Checksum). c.0)) (bytes_eq-Decides a.0 b.0)
-
 same_name-tells : (a b : Option Checksum) → Decides (same_name a b) (a ≡ b)
 same_name-tells None None = (λ t. refl, λ e. refl)
 same_name-tells None (Some b) = (λ t. cc, λ e. cc)
 same_name-tells (Some a) None = (λ t. cc, λ e. cc)
 same_name-tells (Some a) (Some b) =
-    (λ t. ap Some ((checksum_eq-tells a b).0 t), λ e. let same : a ≡ b = cc in (checksum_eq-tells a b).1 same)
+    (λ t. ap Some ((checksum_eq-Decides a b).0 t), λ e. let same : a ≡ b = cc in (checksum_eq-Decides a b).1 same)
 
 -- parties that are there and are one
 abbrev SameParty : Option Party → Option Party → Type 0
@@ -224,8 +218,8 @@ judged-tells roster document front previous title place entry stands some =
         (cond (not b) (Err (WrongBill place))
         (cond (not (is_by_carrier party title ts)) (Err Carrier)
         (cond (not (is_turn (turn_of title ts) entry.platform)) (Err (WrongPlatform place)) (after_run place (run ts title true 0)))))
-    of_bill j false e = (refl, j, not_false (checksum_eq entry.bill bill) (checksum_eq-tells entry.bill bill) e)
-    of_bill j true e = by_the_carrier j ((checksum_eq-tells entry.bill bill).0 e) (is_by_carrier party title ts) refl
+    of_bill j false e = (refl, j, not_false (checksum_eq entry.bill bill) (checksum_eq-Decides entry.bill bill) e)
+    of_bill j true e = by_the_carrier j ((checksum_eq-Decides entry.bill bill).0 e) (is_by_carrier party title ts) refl
 
     joined : (b : Bool) → same_name entry.previous previous ≡ b
         → Judged roster document front entry place title

@@ -1,7 +1,6 @@
 -- Texts that are refused are no good chain.
-use Rattle.std.proofs.Common.{◌≡◌, ◌≢◌, ◌≤◌, ◌<◌, ℕ, List, [], ◌∷◌, ◌++◌, Option, Some, None, Result, Ok, Err, inl, inr, length, refl, sym, ap, ◌∙◌, subst, arith}
+use Rattle.std.proofs.Common.{◌≡◌, ◌≢◌, ◌≤◌, ℕ, List, [], ◌∷◌, ◌++◌, Option, Some, None, Ok, Err, inl, inr, length, refl, sym, ap, ◌∙◌, subst, arith}
 use Rattle.std.specs.Prelude.{◌⊎◌}
-use Rattle.canonical_json.specs.Value.{Value}
 use Rattle.chain_entry.specs.Reading.{entry_of}
 use Rattle.chain_entry.specs.declared.fault.EntryField.{EntryField}
 use Rattle.ebl_base.specs.declared.chain.ChainLink.{ChainLink}
@@ -20,8 +19,8 @@ use Rattle.title_fold.specs.declared.title.Title.{Title}
 use Rattle.title_fold.specs.Chain.{transactions_of, title_after_chain, MovesAtItsEnd, FollowsChain}
 use Rattle.title_fold.specs.Fold.{Folded, fold_from}
 use Rattle.transport_document.specs.DocumentRecord.{DocumentRecord, bill_of}
-use Rattle.transfer_chain.specs.GoodChain.{first_actor, IsLink, AreLinks, IsBegunByCarrier, IsGoodChain}
-use Rattle.transfer_chain.specs.Refusal.{IsBadlySigned, HasNoEntry, IsOfAnother, IsTextWrong, IsTextRefused, IsEntryWrong, IsByCarrier, IsFoldRefused, IsMoveRefused, IsChainRefused, IsRefusedAt, IsRefused}
+use Rattle.transfer_chain.specs.GoodChain.{first_actor, IsLink, AreLinks, IsGoodChain}
+use Rattle.transfer_chain.specs.Refusal.{IsBadlySigned, HasNoEntry, IsOfAnother, IsTextWrong, IsTextRefused, IsByCarrier, IsFoldRefused, IsMoveRefused, IsChainRefused, IsRefusedAt, IsRefused}
 use Rattle.transfer_chain.specs.declared.fault.ChainRefusal.{ChainRefusal}
 use Rattle.transfer_chain.specs.declared.fault.ChainRefusal.TheVariants.{Empty, TooLong, BadSignature, EntryForm, WrongSigner, BrokenLink, WrongBill, Carrier, WrongPlatform, Fold, Move, NoMemory}
 use Rattle.transfer_chain.proofs.LinkLemmas.{link_form}
@@ -30,7 +29,7 @@ use Rattle.transfer_chain.proofs.GoodChainLemmas.{same_links, ends-folds, good-f
 -- ---- texts
 
 -- the link of the text at a place
-link_there : (keys : Keys) (front : List SignedText) (text : SignedText) (rest : List SignedText) (chain : List ChainLink)
+pub link_there : (keys : Keys) (front : List SignedText) (text : SignedText) (rest : List SignedText) (chain : List ChainLink)
     → AreLinks keys (front ++ text ∷ rest) chain → (link : ChainLink) × IsLink keys text link
 link_there keys [] text rest [] are = absurd are
 link_there keys [] text rest (link ∷ chain) are = (link, are.0)
@@ -38,19 +37,19 @@ link_there keys (first ∷ front) text rest [] are = absurd are
 link_there keys (first ∷ front) text rest (link ∷ chain) are = link_there keys front text rest chain are.1
 
 -- a text with a link is not wrong
-not_badly_signed : (keys : Keys) (why : BadSigned) (text : SignedText) (link : ChainLink) → IsLink keys text link
+pub not_badly_signed : (keys : Keys) (why : BadSigned) (text : SignedText) (link : ChainLink) → IsLink keys text link
     → IsBadlySigned keys why text → ⊥
 not_badly_signed keys why text link is wrong =
     refused_or_signed keys 16384 None text.0 why link.entry.platform is.value wrong.1 wrong.0 is.signed refl
 
-has_entry : (keys : Keys) (field : EntryField) (text : SignedText) (link : ChainLink) → IsLink keys text link
+pub has_entry : (keys : Keys) (field : EntryField) (text : SignedText) (link : ChainLink) → IsLink keys text link
     → HasNoEntry keys field text → ⊥
 has_entry keys field text link is wrong =
     let same = same_signed keys 16384 text.0 link.entry.platform wrong.0 is.value wrong.1 is.signed wrong.2 in
     let no : Ok link.entry ≡ Err field = sym is.entry ∙ ap entry_of same.1 ∙ wrong.3 in
     cc
 
-not_of_another : (keys : Keys) (text : SignedText) (link : ChainLink) → IsLink keys text link → IsOfAnother keys text → ⊥
+pub not_of_another : (keys : Keys) (text : SignedText) (link : ChainLink) → IsLink keys text link → IsOfAnother keys text → ⊥
 not_of_another keys text link is wrong =
     let same = same_signed keys 16384 text.0 link.entry.platform wrong.0 is.value wrong.1 is.signed wrong.3 in
     let both : Ok link.entry ≡ Ok wrong.2 = sym is.entry ∙ ap entry_of same.1 ∙ wrong.4 in
@@ -64,7 +63,7 @@ text_right keys texts at P chain are never wrong =
     let there = link_there keys wrong.front wrong.text wrong.rest chain (subst (λ ts. AreLinks keys ts chain) wrong.parts are) in
     never wrong.text there.0 there.1 wrong.is_wrong
 
-texts_right : (keys : Keys) (texts : List SignedText) (chain : List ChainLink) (refusal : ChainRefusal)
+pub texts_right : (keys : Keys) (texts : List SignedText) (chain : List ChainLink) (refusal : ChainRefusal)
     → AreLinks keys texts chain → refusal ≢ NoMemory → IsTextRefused keys texts refusal → ⊥
 texts_right keys texts chain (BadSignature i why) are memory wrong =
     text_right keys texts i (IsBadlySigned keys why) chain are (not_badly_signed keys why) wrong
@@ -84,7 +83,7 @@ texts_right keys texts chain (Move i) are memory wrong = wrong
 
 -- ---- entries
 
-one_title : (front : List ChainLink) (a b : Option Title) → title_after_chain front ≡ Ok a → title_after_chain front ≡ Ok b
+pub one_title : (front : List ChainLink) (a b : Option Title) → title_after_chain front ≡ Ok a → title_after_chain front ≡ Ok b
     → a ≡ b
 one_title front a b first second =
     let both : Ok a ≡ Ok b = sym first ∙ second in cc
@@ -98,19 +97,19 @@ stopped at = Err at
 not_both : (title : Option Title) (at : FoldAt) → folded title ≡ stopped at → ⊥
 not_both title at h = cc
 
-fold_taken : (front : List ChainLink) (entry : Entry) (place : ℕ) (rule : FoldRefusal) (bill : Checksum)
+pub fold_taken : (front : List ChainLink) (entry : Entry) (place : ℕ) (rule : FoldRefusal) (bill : Checksum)
     → FollowsChain bill front entry → IsFoldRefused place rule front entry → ⊥
 fold_taken front entry place rule bill f wrong =
     let title = one_title front f.before wrong.0 f.title wrong.1 in
     not_both (Some f.moves.after) (record { place = place; rule = rule })
     (sym (ends-folds entry.transactions f.before f.moves) ∙ ap (λ t. fold_from entry.transactions t 0) title ∙ wrong.2)
 
-move_taken : (front : List ChainLink) (entry : Entry) (bill : Checksum)
+pub move_taken : (front : List ChainLink) (entry : Entry) (bill : Checksum)
     → FollowsChain bill front entry → IsMoveRefused front entry → ⊥
 move_taken front entry bill f wrong =
     wrong.4 (subst (λ t. MovesAtItsEnd t entry.transactions) (one_title front f.before wrong.0 f.title wrong.2) f.moves)
 
-first_of : (ts more : List Transaction) (party : Party) → 1 ≤ length ts → first_actor (ts ++ more) ≡ Some party
+pub first_of : (ts more : List Transaction) (party : Party) → 1 ≤ length ts → first_actor (ts ++ more) ≡ Some party
     → first_actor ts ≡ Some party
 first_of [] more party some h = absurd (omega arith)
 first_of (t ∷ ts) more party some h = h

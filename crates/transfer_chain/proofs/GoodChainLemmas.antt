@@ -1,9 +1,7 @@
 -- What a good chain has: fronts that are good, a title, entries that hand over, one chain of its texts.
-use Rattle.std.proofs.Common.{◌≡◌, ◌≢◌, ◌≤◌, ℕ, suc, ◌+◌, Bool, true, false, not, List, [], ◌∷◌, ◌++◌, Option, Some, None, Result, Ok, Err, length, refl, sym, ap, ◌∙◌, subst, arith, append_assoc, append-nil}
-use Rattle.std.specs.Prelude.{IfOk, map, option_map, slice_get}
+use Rattle.std.proofs.Common.{◌≡◌, ◌≢◌, ◌≤◌, suc, Bool, true, false, not, List, [], ◌∷◌, ◌++◌, Option, Some, None, Result, Ok, Err, length, refl, sym, ap, ◌∙◌, subst, arith, append_assoc, append-nil}
+use Rattle.std.specs.Prelude.{IfOk, option_map, slice_get}
 use Rattle.std.proofs.lemmas.List.{length-append}
-use Rattle.std.proofs.lemmas.List.Elements.{All-head}
-use Rattle.canonical_json.specs.Value.{Value}
 use Rattle.chain_entry.specs.Reading.{entry_of}
 use Rattle.ebl_base.specs.PlatformCode.{code_eq}
 use Rattle.ebl_base.proofs.SameLemmas.{code_eq-Decides}
@@ -16,20 +14,17 @@ use Rattle.ebl_base.specs.declared.signed_text.SignedText.{SignedText}
 use Rattle.ebl_base.specs.declared.transaction.Transaction.{Transaction}
 use Rattle.party_roster.specs.RosterRecord.{RosterRecord}
 use Rattle.signed_envelope.specs.KeyRing.{Keys}
-use Rattle.signed_envelope.specs.SignedText.{IsSigned}
 use Rattle.signed_envelope.proofs.Readings.{same_signed}
 use Rattle.title_fold.specs.declared.title.Title.{Title}
 use Rattle.title_fold.specs.declared.title.Title.TheVariants.{Signed}
-use Rattle.title_fold.specs.Chain.{last_name, transactions_of, title_after_chain, platform_with, destination, platform_at_turn, Stays, MovesAtItsEnd, FollowsChain, FollowEachOther}
+use Rattle.title_fold.specs.Chain.{transactions_of, title_after_chain, platform_with, destination, platform_at_turn, Stays, MovesAtItsEnd, FollowsChain, FollowEachOther}
 use Rattle.title_fold.specs.Fold.{fold_from}
 use Rattle.title_fold.specs.Movement.{moves}
-use Rattle.title_fold.specs.Step.{step_title}
 use Rattle.title_fold.specs.Title.{possessor}
 use Rattle.title_fold.proofs.TitleLaws.{begins_as_signed}
 use Rattle.transport_document.specs.DocumentRecord.{DocumentRecord, bill_of}
-use Rattle.transfer_chain.specs.Checked.{texts_of, HaveTransactions, IsChecked}
+use Rattle.transfer_chain.specs.Checked.{texts_of, IsChecked}
 use Rattle.transfer_chain.specs.GoodChain.{first_actor, IsLink, AreLinks, IsBegunByCarrier, IsGoodChain}
-use Rattle.transfer_chain.specs.declared.passing.Ran.{Ran}
 use Rattle.transfer_chain.proofs.LinkLemmas.{link_form, links_have_transactions}
 use Rattle.transfer_chain.proofs.PassLemmas.{last_name-push, title-push}
 use Rattle.transfer_chain.proofs.RunLemmas.{run-folds, ends-run}

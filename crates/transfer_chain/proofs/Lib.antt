@@ -8,3 +8,4 @@ mod CheckLemmas
 pub mod GoodChainLemmas
 pub mod NameLemmas
 mod ExclusionLemmas
+pub mod OneRefusal

@@ -1,5 +1,5 @@
 -- Texts and their links.
-use Rattle.std.proofs.Common.{◌≡◌, ◌≤◌, ◌<◌, ◌+◌, ℕ, zero, suc, ◌==◌, Bool, true, false, not, List, [], ◌∷◌, ◌++◌, Ok, length, take, drop, get_or, refl, sym, ap, ◌∙◌, subst, arith}
+use Rattle.std.proofs.Common.{◌≡◌, ◌≤◌, ◌<◌, ◌+◌, ℕ, zero, suc, ◌==◌, false, List, [], ◌∷◌, ◌++◌, Ok, length, take, drop, get_or, refl, sym, ap, ◌∙◌, subst, arith}
 use Rattle.std.proofs.lemmas.List.{take_more, take-append-drop, length-take-le}
 use Rattle.std.proofs.lemmas.List.Elements.{All-nil, All-cons}
 use Rattle.std.proofs.Math.Seq.{drop-cons}
@@ -7,8 +7,6 @@ use Rattle.canonical_json.specs.Value.{Value}
 use Rattle.chain_entry.specs.Form.{IsEntry}
 use Rattle.chain_entry.specs.Reading.{entry_of}
 use Rattle.chain_entry.proofs.RoundTrips.{entry_form}
-use Rattle.ebl_base.specs.PlatformCode.{code_eq}
-use Rattle.ebl_base.proofs.SameLemmas.{code_eq-Decides}
 use Rattle.ebl_base.specs.declared.chain.ChainLink.{ChainLink}
 use Rattle.ebl_base.specs.declared.checksum.Checksum.{Checksum}
 use Rattle.ebl_base.specs.declared.entry.Entry.{Entry}
@@ -117,14 +115,6 @@ link_is keys t seen named copy name entry who value is_seen is_named is_copy is_
           (subst (λ bytes. IsSigned keys 16384 bytes who value) is_seen signed);
       entry = reads;
     }
-
--- two codes that don't differ are one
-pub same_code : (a b : PlatformCode) → false ≡ not (code_eq a b) → a ≡ b
-same_code a b h = (code_eq-Decides a b).0 (by_test (code_eq a b) h)
-  where
-    by_test : (t : Bool) → false ≡ not t → t ≡ true
-    by_test true e = refl
-    by_test false e = cc
 
 -- what isn't empty has an item
 pub not_empty : (n : ℕ) → false ≡ (n == 0) → 1 ≤ n

@@ -6,7 +6,7 @@ use Rattle.ebl_base.specs.declared.chain.ChainLink.{ChainLink}
 use Rattle.ebl_base.specs.declared.checksum.Checksum.{Checksum}
 use Rattle.title_fold.specs.Chain.{names_of}
 use Rattle.transfer_chain.specs.Meeting.{IsFront, PartAt}
-use Rattle.transfer_chain.proofs.EntryLemmas.{checksum_eq-tells}
+use Rattle.ebl_base.proofs.ChecksumLemmas.{checksum_eq-Decides}
 
 -- both begin with these names, and this is what is left of each
 pub record BothBegin (a b first second : List ChainLink) (place : ℕ) : Type 0 where
@@ -103,7 +103,7 @@ they_part a b first second x y xs ys place begin is_first is_second differ =
 
 -- two names that don't differ are one
 pub same_checksum : (a b : Checksum) → false ≡ not (checksum_eq a b) → a ≡ b
-same_checksum a b h = (checksum_eq-tells a b).0 (by_test (checksum_eq a b) h)
+same_checksum a b h = (checksum_eq-Decides a b).0 (by_test (checksum_eq a b) h)
   where
     by_test : (t : Bool) → false ≡ not t → t ≡ true
     by_test true e = refl

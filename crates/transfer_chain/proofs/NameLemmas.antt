@@ -1,8 +1,8 @@
 -- Under distinct names: the last name fixes the chain, and chains meet as their texts do.
-use Rattle.std.proofs.Common.{◌≡◌, ◌≢◌, ◌≤◌, ◌<◌, ℕ, zero, suc, ◌+◌, List, [], ◌∷◌, ◌++◌, Option, Some, None, length, refl, sym, ap, ◌∙◌, subst, arith, append_assoc}
-use Rattle.std.specs.Prelude.{map, All, Contains}
+use Rattle.std.proofs.Common.{◌≡◌, ◌≢◌, ◌≤◌, ℕ, zero, suc, List, [], ◌∷◌, ◌++◌, Some, None, length, refl, sym, ap, ◌∙◌, subst, arith, append_assoc}
+use Rattle.std.specs.Prelude.{Contains}
 use Rattle.std.proofs.lemmas.List.{length-append}
-use Rattle.std.proofs.lemmas.List.Elements.{All-nil, All-cons, All-head, All-tail, Contains-append_left, Contains-append_right}
+use Rattle.std.proofs.lemmas.List.Elements.{All-head, All-tail, Contains-append_left, Contains-append_right}
 use Rattle.document_checksum.specs.Digest.{checksum_of}
 use Rattle.ebl_base.specs.declared.chain.ChainLink.{ChainLink}
 use Rattle.ebl_base.specs.declared.checksum.Checksum.{Checksum}
@@ -16,7 +16,6 @@ use Rattle.transfer_chain.specs.GoodChain.{IsLink, AreLinks, IsGoodChain, HaveDi
 use Rattle.transfer_chain.specs.Meeting.{IsFront, PartAt, Meet}
 use Rattle.transfer_chain.specs.declared.meeting.Meeting.{Meeting}
 use Rattle.transfer_chain.specs.declared.meeting.Meeting.TheVariants.{Equal, FirstIsPrefix, SecondIsPrefix, Parts}
-use Rattle.transfer_chain.proofs.LinkLemmas.{texts-links}
 use Rattle.transfer_chain.proofs.PassLemmas.{last_name-push}
 use Rattle.transfer_chain.proofs.GoodChainLemmas.{link_in, same_link, follow-front, follows_at}
 

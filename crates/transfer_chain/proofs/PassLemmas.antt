@@ -1,6 +1,5 @@
 -- What the pass over all entries says of a chain.
 use Rattle.std.proofs.Common.{◌≡◌, ◌≤◌, ◌+◌, ℕ, List, [], ◌∷◌, ◌++◌, Option, Some, None, Result, Ok, Err, length, refl, sym, ap, ◌∙◌, subst, arith, append_assoc, append-nil}
-use Rattle.std.specs.Option.{option_or}
 use Rattle.std.specs.Prelude.{option_map}
 use Rattle.std.proofs.lemmas.List.{length-append}
 use Rattle.std.proofs.lemmas.List.Concat.{flat_map-append}
@@ -18,6 +17,7 @@ use Rattle.title_fold.specs.Chain as chains
 use Rattle.title_fold.specs.Chain.{last_of, last_name, transactions_of, title_after_chain, FollowsChain, FollowEachOther}
 use Rattle.title_fold.specs.Fold.{fold, fold_from, fold_on, goes_on}
 use Rattle.title_fold.specs.Step.{step_title}
+use Rattle.title_fold.proofs.ChainLemmas.{last_of-push}
 use Rattle.title_fold.proofs.FoldLemmas.{fold-append, fold_from-elsewhere}
 use Rattle.transfer_chain.specs.Checked.{HaveTransactions}
 use Rattle.transfer_chain.specs.GoodChain.{first_actor}
@@ -32,10 +32,6 @@ use Rattle.transfer_chain.proofs.EntryLemmas.{IsBegun, Stands, EntryWrong, Entry
 -- the last name is that of the last link
 pub last_name-push : (front : List ChainLink) (link : ChainLink) → last_name (front ++ link ∷ []) ≡ Some link.name
 last_name-push front link = ap (λ last. option_map (λ (l : ChainLink). l.name) last) (last_of-push front link)
-  where
-    last_of-push : (front : List ChainLink) (link : ChainLink) → last_of (front ++ link ∷ []) ≡ Some link
-    last_of-push [] link = refl
-    last_of-push (first ∷ rest) link = ap (λ last. option_or last (Some first)) (last_of-push rest link)
 
 -- the transactions of a chain and one link more
 pub transactions_of-push : (front : List ChainLink) (link : ChainLink)

@@ -1,5 +1,5 @@
 -- The good chain: signed texts of entries, each of which may follow those before it, and begun by the carrier.
-use Rattle.std.specs.Prelude.{◌≡◌, ◌≤◌, List, [], ◌∷◌, ◌++◌, Option, Some, None, Ok, All, Contains, length}
+use Rattle.std.specs.Prelude.{◌≡◌, ◌≤◌, List, [], ◌∷◌, Option, Some, None, Ok, All, Contains, length}
 use Rattle.canonical_json.specs.Value.{Value}
 use Rattle.document_checksum.specs.Digest.{checksum_of}
 use Rattle.signed_envelope.specs.KeyRing.{Keys}

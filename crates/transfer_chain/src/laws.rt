@@ -62,6 +62,14 @@ pub fn refused_texts_are_no_good_chain()
         → a ≡ b }
 {}
 
+/// Texts have one refusal at most, but for want of memory: so each refusal of [`check`](crate::check) comes exactly
+/// where it fits first.
+pub fn refused_texts_have_one_refusal()
+    ensures { (roster : RosterRecord) (keys : Keys) (document : DocumentRecord) (texts : List SignedText)
+        (one other : ChainRefusal) → IsRefused roster keys document texts one
+        → IsRefused roster keys document texts other → one ≢ NoMemory → other ≢ NoMemory → one ≡ other }
+{}
+
 /// Where no two different texts have one name, the name of the last entry fixes a whole good chain, whatever the bills
 /// and the rosters are.
 pub fn last_name_determines_the_chain()

@@ -17,5 +17,6 @@ pub use fault::ChainRefusal;
 pub use laws::{
     chains_meet_as_their_texts_do, entries_of_good_chain_hand_over, front_of_good_chain_is_good,
     good_chain_is_checked, last_name_determines_the_chain, refused_texts_are_no_good_chain,
+    refused_texts_have_one_refusal,
 };
 pub use meeting::{Meeting, meet};

@@ -107,8 +107,10 @@ started_of-started_value s h =
     let most = h.most in
     let low : nat_le 1 (count_of written) ≡ true = grind (arith, nat_tests, count, least) in
     let high : nat_le (count_of written) 16 ≡ true = grind (arith, nat_tests, count, most) in
-    ap (λ r. started_with r (option_and_then (all_of checksum_in) (within 1 16 written))) (reference_in-reference_text s.reference h.reference)
-    ∙ ap (λ b. started_with (Some s.reference) (option_and_then (all_of checksum_in) (cond (b && nat_le (count_of written) 16) (Some written) None))) low
+    ap (λ r. started_with r (option_and_then (all_of checksum_in) (within 1 16 written)))
+    (reference_in-reference_text s.reference h.reference)
+    ∙ ap (λ b. started_with (Some s.reference)
+    (option_and_then (all_of checksum_in) (cond (b && nat_le (count_of written) 16) (Some written) None))) low
     ∙ ap (λ b. started_with (Some s.reference) (option_and_then (all_of checksum_in) (cond b (Some written) None))) high
     ∙ ap (started_with (Some s.reference)) (all_of-written s.missing h.missing)
 

@@ -104,7 +104,8 @@ listed-wanted old new k list next rest updates wanted is =
     ap (λ xs. xs ++ filter (has new) (each_once rest)) is
     ∙ append_assoc list (k ∷ []) (filter (has new) (each_once rest))
     ∙ ap (λ xs. list ++ (k ∷ xs)) (left old new k (each_once rest) updates)
-    ∙ ap (λ b. list ++ cond b (k ∷ filter (has old) (filter (λ c. not (checksum_eq c k)) (each_once rest))) (filter (has old) (filter (λ c. not (checksum_eq c k)) (each_once rest)))) (sym wanted)
+    ∙ ap (λ b. list ++ cond b (k ∷ filter (has old) (filter (λ c. not (checksum_eq c k)) (each_once rest)))
+    (filter (has old) (filter (λ c. not (checksum_eq c k)) (each_once rest)))) (sym wanted)
 
 -- another is left out
 pub listed-other : (old new : BTreeSet Checksum) (k : Checksum) (list next rest : List Checksum)
@@ -114,7 +115,8 @@ pub listed-other : (old new : BTreeSet Checksum) (k : Checksum) (list next rest 
 listed-other old new k list next rest updates other is =
     ap (λ xs. xs ++ filter (has new) (each_once rest)) is
     ∙ ap (λ xs. list ++ xs) (left old new k (each_once rest) updates)
-    ∙ ap (λ b. list ++ cond b (k ∷ filter (has old) (filter (λ c. not (checksum_eq c k)) (each_once rest))) (filter (has old) (filter (λ c. not (checksum_eq c k)) (each_once rest)))) (sym other)
+    ∙ ap (λ b. list ++ cond b (k ∷ filter (has old) (filter (λ c. not (checksum_eq c k)) (each_once rest)))
+    (filter (has old) (filter (λ c. not (checksum_eq c k)) (each_once rest)))) (sym other)
 
 -- a test that all members of a list pass selects nothing
 all_pass : (f g : Checksum → Bool) (xs : List Checksum)
@@ -128,10 +130,12 @@ all_pass f g (x ∷ xs) pass =
     pass c (ap (λ b. checksum_eq c x || b) h ∙ or-true (checksum_eq c x)) in
     let rest : filter (λ c. g c && f c) (filter keep (each_once xs)) ≡ filter f (filter keep (each_once xs)) =
     filter-filter (λ c. g c && f c) keep (each_once xs)
-    ∙ filter-same (λ c. keep c && (g c && f c)) (λ c. g c && (keep c && f c)) (λ c. swapped (keep c) (g c) (f c)) (each_once xs)
+    ∙ filter-same (λ c. keep c && (g c && f c)) (λ c. g c && (keep c && f c)) (λ c. swapped (keep c) (g c) (f c))
+    (each_once xs)
     ∙ all_pass (λ c. keep c && f c) g xs later
     ∙ sym (filter-filter f keep (each_once xs)) in
-    ap (λ b. cond (b && f x) (x ∷ filter (λ c. g c && f c) (filter keep (each_once xs))) (filter (λ c. g c && f c) (filter keep (each_once xs)))) here
+    ap (λ b. cond (b && f x) (x ∷ filter (λ c. g c && f c) (filter keep (each_once xs)))
+    (filter (λ c. g c && f c) (filter keep (each_once xs)))) here
     ∙ ap (λ ys. cond (f x) (x ∷ ys) ys) rest
   where
     or-true : (b : Bool) → (b || true) ≡ true
@@ -156,7 +160,8 @@ wanted-absent began wanted checksums stored listed removed =
 -- ---- lists that are gone over
 
 -- the checksum here, and then those behind it
-pub checksums_of-drop : (pieces : List Piece) (i : ℕ) (piece : Piece) → i < length pieces → piece ≡ get_or pieces i piece
+pub checksums_of-drop : (pieces : List Piece) (i : ℕ) (piece : Piece) → i < length pieces
+    → piece ≡ get_or pieces i piece
     → checksums_of (drop i pieces) ≡ piece.checksum ∷ checksums_of (drop (i + 1) pieces)
 checksums_of-drop pieces i piece lt is =
     rw add-one (ap checksums_of (drop-cons pieces i piece lt ∙ ap (λ first. first ∷ drop (suc i) pieces) (sym is)))
@@ -165,7 +170,8 @@ checksums_of-drop pieces i piece lt is =
 all_kept : (x : Checksum) (xs : List Checksum) → is_member checksum_eq xs x ≡ false
     → filter (λ c. not (checksum_eq c x)) xs ≡ xs
 all_kept x [] absent = refl
-all_kept x (y ∷ xs) absent = by_tests (all_kept x xs) (checksum_eq x y) (checksum_eq y x) (bytes_eq-turned x.0 y.0) absent
+all_kept x (y ∷ xs) absent = by_tests (all_kept x xs) (checksum_eq x y) (checksum_eq y x)
+    (bytes_eq-turned x.0 y.0) absent
   where
     by_tests : (is_member checksum_eq xs x ≡ false → filter (λ c. not (checksum_eq c x)) xs ≡ xs) → (a b : Bool) → a ≡ b
         → (a || is_member checksum_eq xs x) ≡ false

@@ -1,7 +1,6 @@
 use Rattle.std.proofs.Common.{rules, ◌≡◌, ◌+◌, ◌-◌, ◌≤◌, ◌<◌, ◌^◌, ℕ, List, [], ◌∷◌, ◌++◌, get_or, length, take, drop, ap, sym, ◌∙◌, subst, arith, length-take, length-drop, take-append-drop}
 use Rattle.std.proofs.lemmas.List.{length-take-le, append_assoc}
-use Rattle.bill_journal.specs.Frames.{length_bytes, frame_text, IsFrame}
-use Rattle.bill_journal.specs.declared.reading.Ahead.TheVariants.{Frame}
+use Rattle.bill_journal.specs.Frames.{length_bytes, IsFrame}
 use Rattle.bill_journal.proofs.reading.look_ahead.Goals as goal
 
 -- a gate 1, four bytes that tell n, and n bytes more

@@ -1,4 +1,4 @@
-use Rattle.std.proofs.Common.{◌≡◌, ◌+◌, ◌-◌, ◌≤◌, ℕ, List, length, take, drop, rules, refl, arith, length-take, length-drop}
+use Rattle.std.proofs.Common.{◌+◌, ◌-◌, ◌≤◌, ℕ, List, length, take, drop, rules, refl, arith, length-take, length-drop}
 use Rattle.std.proofs.lemmas.List.{take_all}
 use Rattle.bill_journal.proofs.ReadLemmas.{IsReadTo-push}
 use Rattle.bill_journal.proofs.reading.read_frames.Goals as goal
@@ -37,7 +37,8 @@ loop-frames-preserved c =
     let behind = take_all (length c.args.bytes.now - c.loop-frames.place) (drop c.loop-frames.place c.args.bytes.now)
     (omega (arith, length-drop c.loop-frames.place c.args.bytes.now)) in
     let to = c.loop-frames.invariant in
-    let read = IsReadTo-push c.args.bytes.now _ _ c.loop-frames.frames c.push_frame.new.frames c.loop-frames.place c.in-Frame.len _
+    let read =
+    IsReadTo-push c.args.bytes.now _ _ c.loop-frames.frames c.push_frame.new.frames c.loop-frames.place c.in-Frame.len _
     (record { split = to.split; here = to.here; inside = to.inside; places = to.places; short = to.short })
     behind (c.in-Frame.ensures.frame c.in-Frame.len refl) (c.in-Frame.ensures.fits c.in-Frame.len refl)
     (omega arith) refl c.in_ok-push_frame-in-Frame.ensures in

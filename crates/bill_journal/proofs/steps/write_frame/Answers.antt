@@ -1,8 +1,7 @@
-use Rattle.std.proofs.Common.{◌≡◌, ◌+◌, ◌∙◌, ℕ, List, [], ◌∷◌, inl, inr, length, sym, ap, subst}
-use Rattle.disk_model.specs.Disk.{Torn, written}
+use Rattle.std.proofs.Common.{◌+◌, ◌∙◌, inl, ap}
+use Rattle.disk_model.specs.Disk.{written}
 use Rattle.disk_model.proofs.Moments.{LeavesOnly-weaker, LeavesOnly-trans}
-use Rattle.bill_journal.specs.Frames.{framed}
-use Rattle.bill_journal.specs.Journal.{TornFrom, WithOrWithout}
+use Rattle.bill_journal.specs.Journal.{WithOrWithout}
 use Rattle.bill_journal.proofs.StageLemmas.{torn_behind, torn_gate, staged, first_torn, second_torn, settled_after}
 use Rattle.bill_journal.proofs.steps.write_frame.Goals as goal
 

@@ -5,4 +5,5 @@ use Rattle.envelope_manifest.proofs.laws.bodies_with_one_text_are_one.Goals as g
 pub returns : goal.returns
 returns c a b first second same =
     one_body a b first second
-    (c.equal_texts_have_equal_values.ensures (body_value a) (body_value b) (IsLawful-body a first.lawful) (IsLawful-body b second.lawful) same)
+    (c.equal_texts_have_equal_values.ensures (body_value a) (body_value b) (IsLawful-body a first.lawful)
+    (IsLawful-body b second.lawful) same)

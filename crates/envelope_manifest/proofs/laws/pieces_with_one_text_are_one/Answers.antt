@@ -5,4 +5,5 @@ use Rattle.envelope_manifest.proofs.laws.pieces_with_one_text_are_one.Goals as g
 pub returns : goal.returns
 returns c a b first second same =
     one_piece a b first second
-    (c.equal_texts_have_equal_values.ensures (piece_value a) (piece_value b) (IsLawful-piece a first) (IsLawful-piece b second) same)
+    (c.equal_texts_have_equal_values.ensures (piece_value a) (piece_value b) (IsLawful-piece a first)
+    (IsLawful-piece b second) same)

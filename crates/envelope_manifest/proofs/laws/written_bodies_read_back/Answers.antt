@@ -5,6 +5,7 @@ use Rattle.envelope_manifest.proofs.laws.written_bodies_read_back.Goals as goal
 pub returns : goal.returns
 returns c body h deep = (
   body_value body,
-  c.canonical_reads.ensures (body_value body) (IsLawful-body body h.lawful) (HasTexts-body body h) (depth-body body deep),
+  c.canonical_reads.ensures (body_value body) (IsLawful-body body h.lawful) (HasTexts-body body h)
+      (depth-body body deep),
   body_of-body_value body h.object,
 )

@@ -18,4 +18,5 @@ returns-clause-depth c = depth-manifest
 pub returns-clause-reads : goal.returns-clause-reads
 returns-clause-reads c manifest h =
     let few = depth-manifest manifest in
-    c.canonical_reads.ensures (manifest_value manifest) (IsLawful-manifest manifest h) (HasTexts-manifest manifest h) (omega arith)
+    c.canonical_reads.ensures (manifest_value manifest) (IsLawful-manifest manifest h)
+    (HasTexts-manifest manifest h) (omega arith)

@@ -13,8 +13,10 @@ loop-item-preserved c =
     let i = c.loop-item.item-index in
     record {
       read = ap (λ pieces. gathered pieces (all_of piece_in (items_view (drop (i + 1) items)))) c.in_ok-push.ensures.ok
-          ∙ gathered-item piece_in items i c.item-item.result c.loop-item.pieces c.in_ok-piece.piece c.loop-item-test.true
-          c.item-item.is (sym (piece_in-piece_of (view c.item-item.result) c.in_ok-piece.piece c.in_ok-piece.ensures.ok))
+          ∙ gathered-item piece_in items i c.item-item.result c.loop-item.pieces c.in_ok-piece.piece
+          c.loop-item-test.true
+          c.item-item.is (sym (piece_in-piece_of (view c.item-item.result) c.in_ok-piece.piece
+          c.in_ok-piece.ensures.ok))
           ∙ c.loop-item.invariant.read;
       form = subst ArePieces (sym c.in_ok-push.ensures.ok)
           (ArePieces-push c.loop-item.pieces c.in_ok-piece.piece c.loop-item.invariant.form c.in_ok-piece.ensures.form);

@@ -8,6 +8,7 @@ use Rattle.envelope_manifest.proofs.reading.all_pieces.Given as goal
 
 abbrev pub invariant-loop-item : goal.invariant-loop-item
 invariant-loop-item l = record {
-  read : gathered l.pieces (all_of piece_in (items_view (drop l.item-index l.items))) ≡ all_of piece_in (items_view l.items);
+  read : gathered l.pieces (all_of piece_in (items_view (drop l.item-index l.items))) ≡ all_of piece_in
+      (items_view l.items);
   form : ArePieces l.pieces;
 }

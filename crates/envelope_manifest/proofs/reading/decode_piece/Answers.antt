@@ -11,8 +11,10 @@ returns-clause-form c = record {
       ∙ is_plain_text-read 128 (text_of (codes "name") (view c.args.json.now)) _ (sym c.in-Some.ensures.text);
   name_utf8 = subst IsUtf8 (sym c.in_ok-name.ensures) c.in-Some.ensures.utf8;
   media = ap (is_plain_text 64) c.in_ok-media.ensures
-      ∙ is_plain_text-read 64 (text_of (codes "media") (view c.args.json.now)) _ (sym c.in-Some-plain_text_under.ensures.text);
+      ∙ is_plain_text-read 64 (text_of (codes "media") (view c.args.json.now)) _
+      (sym c.in-Some-plain_text_under.ensures.text);
   media_utf8 = subst IsUtf8 (sym c.in_ok-media.ensures) c.in-Some-plain_text_under.ensures.utf8;
   size = most-read 2097152 (int_of (codes "size") (view c.args.json.now)) _ (sym c.in-Some-number_under.ensures);
-  checksum = IsChecksum-read (text_of (codes "checksum") (view c.args.json.now)) _ (sym c.in-Some-checksum_under.ensures);
+  checksum = IsChecksum-read (text_of (codes "checksum") (view c.args.json.now)) _
+      (sym c.in-Some-checksum_under.ensures);
 }

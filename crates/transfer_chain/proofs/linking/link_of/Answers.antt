@@ -1,5 +1,6 @@
 use Rattle.canonical_json.specs.View.{view}
-use Rattle.transfer_chain.proofs.LinkLemmas.{link_is, same_code}
+use Rattle.signed_envelope.proofs.Refusals.{same_code}
+use Rattle.transfer_chain.proofs.LinkLemmas.{link_is}
 use Rattle.transfer_chain.proofs.linking.link_of.Goals as goal
 
 pub returns-clause-ok : goal.returns-clause-ok

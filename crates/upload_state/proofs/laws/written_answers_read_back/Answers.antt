@@ -7,6 +7,7 @@ pub returns : goal.returns
 returns c started h =
     let deep = depth-started started in (
       started_value started,
-      c.canonical_reads.ensures (started_value started) (IsLawful-started started) (HasTexts-started started) (omega arith),
+      c.canonical_reads.ensures (started_value started) (IsLawful-started started) (HasTexts-started started)
+          (omega arith),
       started_of-started_value started h,
     )

@@ -9,7 +9,8 @@ pub returns : goal.returns
 returns c =
     let pieces = c.as_slice-pieces.result.now in
     let stored = c.as_slice.result.now in
-    let wanted = wanted-absent c.in_ok-wanted.wanted c.remove_all.new.set (checksums_of pieces) stored c.in_ok-wanted.ensures c.remove_all.ensures in
+    let wanted = wanted-absent c.in_ok-wanted.wanted c.remove_all.new.set (checksums_of pieces) stored
+    c.in_ok-wanted.ensures c.remove_all.ensures in
     let named = ap (λ ps. filter (is_absent stored) (each_once (checksums_of ps))) c.as_slice-pieces.ensures
     ∙ ap (λ cs. filter (is_absent cs) (each_once (checksums_of c.args.manifest.now.documents))) c.as_slice.ensures in
     subst (λ list. IfOk c.in_order.result (λ missing. missing ≡ list)) (wanted ∙ named) c.in_order.ensures

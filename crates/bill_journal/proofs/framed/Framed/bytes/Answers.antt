@@ -1,5 +1,4 @@
-use Rattle.std.proofs.Common.{◌≡◌, length, ap, ◌∙◌, sym}
-use Rattle.bill_journal.specs.Frames.{framed}
+use Rattle.std.proofs.Common.{length, ap, ◌∙◌}
 use Rattle.bill_journal.proofs.FrameLemmas.{length-framed}
 use Rattle.bill_journal.proofs.framed.Framed.bytes.Goals as goal
 

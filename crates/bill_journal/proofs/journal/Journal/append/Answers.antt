@@ -1,5 +1,4 @@
-use Rattle.std.proofs.Common.{◌≡◌, ◌+◌, ◌<◌, ◌^◌, ◌++◌, [], ◌∷◌, List, ℕ, Result, Ok, Err, OnOk, is_err, true, false, length, sym, ◌∙◌, arith}
-use Rattle.bill_journal.specs.Frames.{framed}
+use Rattle.std.proofs.Common.{◌≡◌, ◌<◌, ◌^◌, Result, Ok, Err, OnOk, is_err, true, false, length, sym, ◌∙◌, arith}
 use Rattle.bill_journal.proofs.journal.Journal.append.Goals as goal
 
 -- a call that didn't fail answered Ok
@@ -11,7 +10,8 @@ pub returns-then-is_err-clause-any_moment : goal.returns-then-is_err-clause-any_
 returns-then-is_err-clause-any_moment g c =
     let short : length c.args.frame.now < 2 ^ 32 = omega (arith, c.bytes-bytes.ensures.short) in
     rw (← c.self.view_is)
-    (λ h told settled. c.write_frame.ensures.any_moment h c.args.frame.now told settled short c.bytes-bytes.ensures.bytes)
+    (λ h told settled.
+    c.write_frame.ensures.any_moment h c.args.frame.now told settled short c.bytes-bytes.ensures.bytes)
 
 pub returns-clause-appended : goal.returns-clause-appended
 returns-clause-appended g c =
@@ -24,4 +24,5 @@ pub returns-clause-any_moment : goal.returns-clause-any_moment
 returns-clause-any_moment g c =
     let short : length c.args.frame.now < 2 ^ 32 = omega (arith, c.bytes-bytes.ensures.short) in
     rw (← c.self.view_is)
-    (λ h told settled. c.write_frame.ensures.any_moment h c.args.frame.now told settled short c.bytes-bytes.ensures.bytes)
+    (λ h told settled.
+    c.write_frame.ensures.any_moment h c.args.frame.now told settled short c.bytes-bytes.ensures.bytes)

@@ -1,5 +1,4 @@
-use Rattle.std.proofs.Common.{◌≡◌, ◌<◌, ℕ, length, Err, ap}
-use Rattle.bill_journal.specs.Places.{contents_of}
+use Rattle.std.proofs.Common.{Err, ap}
 use Rattle.bill_journal.proofs.FrameLemmas.{never_both, breaks_once}
 use Rattle.bill_journal.proofs.journal.Journal.open.Goals as goal
 

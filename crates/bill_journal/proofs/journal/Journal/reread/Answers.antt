@@ -1,4 +1,4 @@
-use Rattle.std.proofs.Common.{◌≡◌, ◌<◌, ℕ, length, Err, ap}
+use Rattle.std.proofs.Common.{Err, ap}
 use Rattle.bill_journal.proofs.FrameLemmas.{stands_once, never_both, breaks_once}
 use Rattle.bill_journal.proofs.StageLemmas.{reads_either}
 use Rattle.bill_journal.proofs.journal.Journal.reread.Goals as goal

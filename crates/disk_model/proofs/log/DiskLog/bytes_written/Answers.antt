@@ -1,6 +1,5 @@
-use Rattle.std.proofs.Common.{◌≡◌, ℕ, List, ◌≤◌, ◌+◌, length, arith, sym, subst}
+use Rattle.std.proofs.Common.{arith}
 use Rattle.disk_model.specs.Log.{events_of}
-use Rattle.disk_model.specs.Event.{bytes_written}
 use Rattle.disk_model.proofs.LogLemmas.{bytes_written-events_of}
 use Rattle.disk_model.proofs.EventLemmas.{length-seen_after}
 use Rattle.disk_model.proofs.log.DiskLog.bytes_written.Goals as goal

@@ -1,5 +1,4 @@
-use Rattle.std.proofs.Common.{◌≡◌, rules, length}
-use Rattle.disk_model.specs.Log.{events_of}
+use Rattle.std.proofs.Common.{rules}
 use Rattle.disk_model.proofs.LogLemmas.{length-events_of}
 use Rattle.disk_model.proofs.log.DiskLog.has_event_room.Goals as goal
 

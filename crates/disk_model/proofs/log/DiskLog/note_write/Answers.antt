@@ -1,5 +1,4 @@
-use Rattle.std.proofs.Common.{◌≡◌, ◌≤◌, ◌++◌, [], ◌∷◌, List, ℕ, arith, length, ap, ◌∙◌, sym, subst}
-use Rattle.disk_model.specs.declared.mark.Mark.TheVariants.{Write}
+use Rattle.std.proofs.Common.{arith}
 use Rattle.disk_model.proofs.LogLemmas.{length-events_of, bytes_written-events_of, events_of-write, IsKept-write}
 use Rattle.disk_model.proofs.log.DiskLog.note_write.Goals as goal
 

@@ -1,4 +1,4 @@
-use Rattle.std.proofs.Common.{arith, refl, ◌∙◌, ap, sym}
+use Rattle.std.proofs.Common.{arith, refl}
 use Rattle.disk_model.proofs.LogLemmas.{length-events_of, events_of-sync, IsKept-sync}
 use Rattle.disk_model.proofs.EventLemmas.{NoneNew-synced, Only-synced, Elapses-same, Elapses-push}
 use Rattle.disk_model.specs.Event.{synced}

@@ -12,7 +12,9 @@ returns c =
     (codes ",\"document\":") (canon (view c.args.self.now.document)) (codes ",\"manifest\":")
     (canon (signed_value c.args.self.now.manifest)) (codes "}")
     _ _ _ _ _ _ _ c.in_ok-out.ensures
-    (c.in_ok-push_texts.ensures ∙ ap (λ ts. c.in_ok-out.out ++ values_text false (each_written signed_value ts)) c.as_slice.ensures)
+    (c.in_ok-push_texts.ensures
+    ∙ ap (λ ts. c.in_ok-out.out ++ values_text false (each_written signed_value ts)) c.as_slice.ensures)
     c.in_ok-extend_from_slice.ensures.ok
-    c.in_ok-push_value.ensures c.in_ok-extend_from_slice-2.ensures.ok c.in_ok-push_text.ensures c.in_ok-extend_from_slice-3.ensures.ok
+    c.in_ok-push_value.ensures c.in_ok-extend_from_slice-2.ensures.ok c.in_ok-push_text.ensures
+    c.in_ok-extend_from_slice-3.ensures.ok
     ∙ sym (canon-body_value (body_view c.args.self.now))
