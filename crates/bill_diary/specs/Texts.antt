@@ -1,11 +1,10 @@
 -- The names and values in a record are those of its texts.
-use Rattle.std.specs.Prelude.{◌≡◌, ℕ, List, [], ◌∷◌, Ok, Some, codes}
+use Rattle.std.specs.Prelude.{◌≡◌, ℕ, List, [], ◌∷◌, Ok, map}
 use Rattle.ebl_base.specs.declared.checksum.Checksum.{Checksum}
 use Rattle.ebl_base.specs.declared.chain.ChainLink.{ChainLink}
 use Rattle.ebl_base.specs.declared.signed_text.SignedText.{SignedText}
-use Rattle.canonical_json.specs.Value.{Value, Values, no_values, item}
+use Rattle.canonical_json.specs.Value.{Value}
 use Rattle.canonical_json.specs.Canon.{canon}
-use Rattle.canonical_json.specs.Field.{as_text, member_of, text_of, list_of}
 use Rattle.canonical_json.specs.Lawful.{IsLawful}
 use Rattle.canonical_json.specs.Reading.{Reads}
 use Rattle.document_checksum.specs.Digest.{checksum_of}
@@ -14,6 +13,8 @@ use Rattle.signed_envelope.specs.declared.compact.Parts.{Parts}
 use Rattle.transport_document.specs.DocumentRecord.{DocumentRecord, bill_of}
 use Rattle.transport_document.specs.Reading.{document_of}
 use Rattle.chain_entry.specs.Reading.{entry_of}
+use Rattle.envelope_manifest.specs.Body.{BodyRecord, body_of}
+use Rattle.envelope_manifest.specs.Manifest.{manifest_of}
 use Rattle.envelope_manifest.specs.declared.manifest.Manifest.{Manifest}
 
 -- the text is in the compact layout within 16,384 bytes, and its payload reads as the value
@@ -38,6 +39,7 @@ LinksAreTheirTexts (link ∷ links) = LinkIsItsText link × LinksAreTheirTexts l
 pub record ManifestIsItsText (text : SignedText) (manifest : Manifest) : Type 0 where
   pub payload : Value
   pub has_payload : HasPayload text payload
+  pub reads_as : manifest_of payload ≡ Ok manifest
 
 -- the text is the canonical text of a document of this bill
 pub record IsDocumentOf (bill : Checksum) (text : List ℕ) : Type 0 where
@@ -48,24 +50,13 @@ pub record IsDocumentOf (bill : Checksum) (text : List ℕ) : Type 0 where
   pub text_is : document.text ≡ text
   pub names : bill_of document ≡ bill
 
--- the texts of a list are those of a chain's links
-abbrev pub AreTextsOf : Values → List ChainLink → Type 0
-AreTextsOf no_values [] = Unit {0}
-AreTextsOf no_values (link ∷ links) = ⊥
-AreTextsOf (item v vs) [] = ⊥
-AreTextsOf (item v vs) (link ∷ links) = (as_text v ≡ Some link.text.0) × AreTextsOf vs links
-
--- the text is the canonical text of a body with a document of this bill, this chain and this manifest
+-- the text is the canonical text of a body with a document of this bill, this manifest's text, and the texts of this chain
 pub record IsBodyOf (bill : Checksum) (chain : List ChainLink) (manifest : Manifest) (body : List ℕ) : Type 0 where
   pub value : Value
   pub lawful : IsLawful value
   pub text_is : canon value ≡ body
-  pub document : Value
-  pub has_document : member_of (codes "document") value ≡ Some document
-  pub document_is : IsDocumentOf bill (canon document)
-  pub manifest_text : List ℕ
-  pub has_manifest : text_of (codes "manifest") value ≡ Some manifest_text
-  pub manifest_is : ManifestIsItsText (record { 0 = manifest_text }) manifest
-  pub texts : Values
-  pub has_chain : list_of (codes "chain") value ≡ Some texts
-  pub chain_is : AreTextsOf texts chain
+  pub parts : BodyRecord
+  pub reads_as : body_of value ≡ Ok parts
+  pub document_is : IsDocumentOf bill (canon parts.document)
+  pub manifest_is : ManifestIsItsText parts.manifest manifest
+  pub chain_is : parts.chain ≡ map (λ link. link.text) chain

@@ -12,6 +12,8 @@ mod look_ups;
 mod parting;
 mod record;
 mod since;
+#[cfg(test)]
+mod tests;
 mod told;
 mod walk;
 

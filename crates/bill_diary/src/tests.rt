@@ -1,0 +1,339 @@
+//! Places of bills by short diaries. A number stands for the name of an entry; the texts are empty, since no place looks
+//! at them.
+use crate::{BillPlace, Diary, Frame, Record, has_bytes, is_taken, last_declined, may_act, place};
+use ebl_base::{
+    Chain, ChainLink, Checksum, Code, Entry, Evidence, Items, Kind, Moment, NoMemory, Party,
+    PlaceTag, Reason, SignedText, Transaction,
+};
+use envelope_manifest::Manifest;
+use std::alloc::Global;
+use std::process::Abort;
+use std::test::Fail;
+
+const BILL: Checksum = Checksum([9; 32]);
+
+/// A place as the tables show it: its tag, the names of the known chain's first and last entry, the number of its
+/// entries, the name of the entry that is parting, and the number of transactions made since.
+type Shown = (PlaceTag, [u8; 2], usize, u8, usize);
+
+fn name(n: u8) -> Checksum {
+    Checksum([n; 32])
+}
+
+fn number_of(link: Option<&ChainLink>) -> u8 {
+    match link {
+        Some(link) => link.name.0[0],
+        None => 0,
+    }
+}
+
+fn ends(chain: &Chain) -> [u8; 2] {
+    [
+        number_of(chain.as_slice().first()),
+        number_of(chain.as_slice().last()),
+    ]
+}
+
+fn shown(place: &BillPlace) -> Shown {
+    match place {
+        BillPlace::Absent => (PlaceTag::Absent, [0, 0], 0, 0, 0),
+        BillPlace::Held { known, since } => (
+            PlaceTag::Held,
+            ends(known),
+            known.len(),
+            0,
+            since.len(),
+        ),
+        BillPlace::Parting { known, entry } => (
+            PlaceTag::Parting,
+            ends(known),
+            known.len(),
+            number_of(Some(entry)),
+            0,
+        ),
+        BillPlace::Gone { known } => (PlaceTag::Gone, ends(known), known.len(), 0, 0),
+    }
+}
+
+/// The parties of the tests, both on one platform, and when they act.
+#[derive(Clone, Copy)]
+struct Cast {
+    carrier: Party,
+    exporter: Party,
+    time: Moment,
+}
+
+fn players() -> Result<Cast, Fail> {
+    Ok(Cast {
+        carrier: Party::from_text(b"ALPH/CARRIER").ok_or("a party")?,
+        exporter: Party::from_text(b"ALPH/EXPORT").ok_or("a party")?,
+        time: Moment::try_new(0).ok_or("a moment")?,
+    })
+}
+
+impl Cast {
+    fn act(self, kind: Kind, actor: Party, recipient: Option<Party>) -> Transaction {
+        Transaction {
+            kind,
+            actor,
+            recipient,
+            time: self.time,
+        }
+    }
+
+    fn signed(self, alloc: Global) -> Record {
+        Record::Signed {
+            bill: BILL,
+            document: Items::new(alloc),
+            transaction: self.act(Kind::Sign, self.carrier, None),
+        }
+    }
+
+    fn link(self, alloc: Global, n: u8) -> ChainLink {
+        ChainLink {
+            text: SignedText(Items::new(alloc)),
+            name: name(n),
+            entry: Entry {
+                platform: self.carrier.platform,
+                bill: BILL,
+                previous: None,
+                attempt: 1,
+                transactions: Items::new(alloc),
+            },
+        }
+    }
+
+    fn parted(self, alloc: Global, n: u8) -> Record {
+        Record::Parted {
+            bill: BILL,
+            link: self.link(alloc, n),
+            manifest: manifest(alloc, n),
+            manifest_text: SignedText(Items::new(alloc)),
+        }
+    }
+
+    fn begun(self, alloc: Global, first: u8, last: u8) -> Result<Record, NoMemory> {
+        let mut chain = Items::new(alloc);
+        for n in first..=last {
+            chain.push(self.link(alloc, n))?;
+        }
+        Ok(Record::Begun {
+            bill: BILL,
+            chain,
+            manifest: manifest(alloc, last),
+            body: Items::new(alloc),
+        })
+    }
+}
+
+fn manifest(alloc: Global, n: u8) -> Manifest {
+    Manifest {
+        bill: BILL,
+        last: name(n),
+        documents: Items::new(alloc),
+    }
+}
+
+/// What is written down next. A chain has the entries with the numbers from the first to the last.
+#[derive(Clone, Copy)]
+enum Step {
+    Signed,
+    Issued,
+    SurrenderAsked,
+    SurrenderAccepted,
+    Parted(u8),
+    Settled(u8),
+    Regained(u8),
+    Begun(u8, u8),
+    Taken(u8),
+    BegunTaken(u8, u8),
+}
+
+impl Cast {
+    fn acted(self, kind: Kind, actor: Party, recipient: Option<Party>) -> Record {
+        Record::Acted {
+            bill: BILL,
+            transaction: self.act(kind, actor, recipient),
+        }
+    }
+
+    fn frame(self, alloc: Global, step: Step) -> Result<Frame, NoMemory> {
+        match step {
+            Step::Signed => Ok(Frame::One(self.signed(alloc))),
+            Step::Issued => Ok(Frame::One(self.acted(
+                Kind::Issue,
+                self.carrier,
+                Some(self.exporter),
+            ))),
+            Step::SurrenderAsked => Ok(Frame::One(self.acted(
+                Kind::SurrenderForDelivery,
+                self.exporter,
+                None,
+            ))),
+            Step::SurrenderAccepted => Ok(Frame::One(self.acted(
+                Kind::SurrenderAccepted,
+                self.carrier,
+                None,
+            ))),
+            Step::Parted(n) => Ok(Frame::One(self.parted(alloc, n))),
+            Step::Settled(n) => Ok(Frame::One(Record::Settled {
+                bill: BILL,
+                entry: name(n),
+            })),
+            Step::Regained(n) => Ok(Frame::One(Record::Regained {
+                bill: BILL,
+                entry: name(n),
+            })),
+            Step::Begun(first, last) => Ok(Frame::One(self.begun(alloc, first, last)?)),
+            Step::Taken(n) => Ok(Frame::One(taken(n))),
+            Step::BegunTaken(first, last) => Ok(Frame::BegunTaken {
+                begun: self.begun(alloc, first, last)?,
+                taken: taken(last),
+            }),
+        }
+    }
+}
+
+fn taken(n: u8) -> Record {
+    Record::Taken {
+        bill: BILL,
+        entry: name(n),
+    }
+}
+
+/// A step, where the bill stands after it, and whether its possessor may act.
+type Row = (Step, Shown, bool);
+
+fn see<R: Abort>(rt: &R, alloc: Global, rows: &[Row]) -> Result<(), Fail> {
+    let cast = players()?;
+    let mut d = Items::new(alloc);
+    for (step, want, acts) in rows {
+        d.push(cast.frame(alloc, *step)?)?;
+        let frames = d.len();
+        let stands = place(alloc, &d, BILL)?;
+        assert_eq!(rt; shown(&stands), *want, "after {frames} frames");
+        assert_eq!(rt; may_act(alloc, &d, BILL)?, *acts, "after {frames} frames");
+    }
+    Ok(())
+}
+
+#[test]
+fn no_record(rt: HostRuntime) -> Result<(), Fail> {
+    let alloc = rt.alloc();
+    let d = Items::new(alloc);
+    let stands = place(alloc, &d, BILL)?;
+    assert_eq!(rt; shown(&stands), (PlaceTag::Absent, [0, 0], 0, 0, 0));
+    assert!(rt; !may_act(alloc, &d, BILL)?);
+    Ok(())
+}
+
+// Into and out of each place, where the bill began: away and back through a refusal, away for good, back by a chain
+// that goes on, and back through the entry that is parting.
+const ROUND_TRIP: [Row; 10] = [
+    (Step::Signed, (PlaceTag::Held, [0, 0], 0, 0, 1), true),
+    (Step::Issued, (PlaceTag::Held, [0, 0], 0, 0, 2), true),
+    (Step::Parted(1), (PlaceTag::Parting, [0, 0], 0, 1, 0), false),
+    (Step::Regained(1), (PlaceTag::Held, [0, 0], 0, 0, 2), true),
+    (Step::Parted(2), (PlaceTag::Parting, [0, 0], 0, 2, 0), false),
+    (Step::Settled(2), (PlaceTag::Gone, [2, 2], 1, 0, 0), false),
+    (Step::Begun(2, 3), (PlaceTag::Gone, [2, 2], 1, 0, 0), false),
+    (Step::Taken(3), (PlaceTag::Held, [2, 3], 2, 0, 0), true),
+    (Step::Parted(4), (PlaceTag::Parting, [2, 3], 2, 4, 0), false),
+    (
+        Step::BegunTaken(2, 5),
+        (PlaceTag::Held, [2, 5], 4, 0, 0),
+        true,
+    ),
+];
+
+#[test]
+fn each_way_into_and_out_of_each_place(rt: HostRuntime) -> Result<(), Fail> {
+    see(&rt, rt.alloc(), &ROUND_TRIP)
+}
+
+// What no sound diary has, but the definition says: the longest chain counts and not the newest, of equally long ones
+// the last; an entry that is parting is looked for before a settled one.
+const ANY_RECORDS: [Row; 8] = [
+    (
+        Step::Begun(1, 2),
+        (PlaceTag::Absent, [0, 0], 0, 0, 0),
+        false,
+    ),
+    (
+        Step::Begun(3, 3),
+        (PlaceTag::Absent, [0, 0], 0, 0, 0),
+        false,
+    ),
+    (Step::Taken(2), (PlaceTag::Held, [1, 2], 2, 0, 0), true),
+    (Step::Taken(3), (PlaceTag::Held, [1, 2], 2, 0, 0), true),
+    (Step::Begun(4, 5), (PlaceTag::Held, [1, 2], 2, 0, 0), true),
+    (Step::Taken(5), (PlaceTag::Held, [4, 5], 2, 0, 0), true),
+    (Step::Settled(5), (PlaceTag::Gone, [4, 5], 2, 0, 0), false),
+    (Step::Parted(6), (PlaceTag::Parting, [4, 5], 2, 6, 0), false),
+];
+
+#[test]
+fn the_first_place_that_fits_any_records(rt: HostRuntime) -> Result<(), Fail> {
+    see(&rt, rt.alloc(), &ANY_RECORDS)
+}
+
+// A title that is ended lets nobody act, though the bill is held.
+const SURRENDER: [Row; 4] = [
+    (Step::Signed, (PlaceTag::Held, [0, 0], 0, 0, 1), true),
+    (Step::Issued, (PlaceTag::Held, [0, 0], 0, 0, 2), true),
+    (
+        Step::SurrenderAsked,
+        (PlaceTag::Held, [0, 0], 0, 0, 3),
+        true,
+    ),
+    (
+        Step::SurrenderAccepted,
+        (PlaceTag::Held, [0, 0], 0, 0, 4),
+        false,
+    ),
+];
+
+#[test]
+fn nobody_acts_on_an_ended_title(rt: HostRuntime) -> Result<(), Fail> {
+    see(&rt, rt.alloc(), &SURRENDER)
+}
+
+// Look-ups by the name of an entry go over all bills; the bytes of a document are those of one bill.
+#[test]
+fn look_ups(rt: HostRuntime) -> Result<(), Fail> {
+    let alloc = rt.alloc();
+    let mut d = Items::new(alloc);
+    d.push(Frame::One(Record::Taken {
+        bill: name(8),
+        entry: name(1),
+    }))?;
+    d.push(Frame::One(Record::Stored {
+        bill: BILL,
+        entry: name(2),
+        checksum: name(3),
+        bytes: Items::new(alloc),
+    }))?;
+    d.push(Frame::One(Record::Declined {
+        bill: name(8),
+        entry: name(2),
+        code: Code::DisputedEnvelope,
+        reason: Reason::Parts,
+        evidence: Evidence {
+            own: None,
+            theirs: None,
+        },
+    }))?;
+    assert!(rt; is_taken(&d, name(1)));
+    assert!(rt; !is_taken(&d, name(2)));
+    assert!(rt; has_bytes(&d, BILL, name(3)));
+    assert!(rt; !has_bytes(&d, name(8), name(3)));
+    assert!(rt; last_declined(&d, name(1)).is_none());
+    let declined = last_declined(&d, name(2)).ok_or("declined")?;
+    assert_eq!(rt;
+        (declined.code, declined.reason),
+        (Code::DisputedEnvelope, Reason::Parts)
+    );
+    let stands = place(alloc, &d, BILL)?;
+    assert_eq!(rt; shown(&stands), (PlaceTag::Absent, [0, 0], 0, 0, 0));
+    Ok(())
+}

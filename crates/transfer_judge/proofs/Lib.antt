@@ -1,0 +1,3 @@
+pub mod DisputeLemmas
+pub mod MissingLemmas
+pub mod LegalLemmas

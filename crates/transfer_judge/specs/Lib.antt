@@ -1,0 +1,3 @@
+pub mod Dispute
+pub mod Judgement
+pub mod Legal

@@ -1,0 +1,83 @@
+//! Disputes: where the chain that is known here and the one that was shown part.
+ghost use Rattle.std.specs.Prelude.{◌≡◌, ◌∷◌, [], ◌++◌, IfOk, Some, None, if◌then◌else◌, option_copied, option_map};
+ghost use Rattle.title_fold.specs.Chain.{goes_beyond};
+ghost use Rattle.transfer_judge.specs.Dispute.{dispute_of, evidence_of, place_of_parting, text_at};
+
+use bill_diary::BillPlace;
+use ebl_base::{Chain, ChainLink, Copied, Evidence, NoMemory, SignedText};
+use std::alloc::Global;
+
+/// What disputes a chain that was shown: nothing where it continues the place.
+pub(crate) fn dispute(
+    alloc: Global,
+    place: BillPlace,
+    shown: &Chain,
+) -> Result<Option<Evidence>, NoMemory>
+    ensures { IfOk result (λ evidence. evidence ≡ dispute_of place shown.now) }
+{
+    match place {
+        BillPlace::Absent => Ok(None),
+        BillPlace::Held { known, .. } => Ok(Some(evidence(alloc, &known, shown)?)),
+        BillPlace::Parting { mut known, entry } => {
+            known.push(entry)?;
+            unless_beyond(alloc, &known, shown)
+        }
+        BillPlace::Gone { known } => unless_beyond(alloc, &known, shown),
+    }
+}
+
+// The evidence, unless the chain that was shown goes on beyond the own one.
+fn unless_beyond(alloc: Global, own: &Chain, shown: &Chain) -> Result<Option<Evidence>, NoMemory>
+    ensures { IfOk result (λ evidence. evidence
+        ≡ (if goes_beyond own.now shown.now then None else Some (evidence_of own.now shown.now))) }
+{
+    if goes_beyond(own, shown) {
+        return Ok(None);
+    }
+    Ok(Some(evidence(alloc, own, shown)?))
+}
+
+fn goes_beyond(own: &Chain, shown: &Chain) -> bool
+    ensures { result ≡ goes_beyond own.now shown.now }
+{
+    place_of_parting(own.as_slice(), shown.as_slice()) == own.len() && own.len() < shown.len()
+}
+
+fn evidence(alloc: Global, own: &Chain, shown: &Chain) -> Result<Evidence, NoMemory>
+    ensures { IfOk result (λ evidence. evidence ≡ evidence_of own.now shown.now) }
+{
+    let place = place_of_parting(own.as_slice(), shown.as_slice());
+    let own = text_at(alloc, place, own.as_slice())?;
+    let theirs = text_at(alloc, place, shown.as_slice())?;
+    Ok(Evidence { own, theirs })
+}
+
+// How many entries of two chains have the same names, from the first on.
+fn place_of_parting(own: &[ChainLink], shown: &[ChainLink]) -> usize
+    ensures { result ≡ place_of_parting own.now shown.now }
+{
+    let mut place = 0;
+    while place < own.len() && place < shown.len() && own[place].name == shown[place].name {
+        place += 1;
+    }
+    place
+}
+
+// The text of the entry at a place, or of the last one.
+fn text_at(alloc: Global, place: usize, chain: &[ChainLink]) -> Result<Option<SignedText>, NoMemory>
+    ensures { IfOk result (λ text. text ≡ text_at place chain.now) }
+{
+    match link_at(place, chain) {
+        Some(link) => Ok(Some(link.text.copy(alloc)?)),
+        None => Ok(None),
+    }
+}
+
+fn link_at(place: usize, chain: &[ChainLink]) -> Option<&ChainLink>
+    ensures { option_map (λ link. link.text) (option_copied result) ≡ text_at place chain.now }
+{
+    match chain.get(place) {
+        Some(link) => Some(link),
+        None => chain.last(),
+    }
+}
