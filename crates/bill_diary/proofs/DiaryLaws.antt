@@ -1,6 +1,5 @@
 -- The laws of diaries and places.
-use Rattle.std.proofs.Common.{◌≡◌, Bool, true, false, not, cond, List, [], ◌∷◌, ◌++◌, refl, ap, sym, subst, ◌∙◌, ◌↔◌}
-use Rattle.std.specs.Prelude.{IsTrue}
+use Rattle.std.proofs.Common.{◌≡◌, Bool, true, false, not, List, [], ◌++◌, refl, ap, sym, subst, ◌∙◌, ◌↔◌}
 use Rattle.ebl_base.specs.declared.checksum.Checksum.{Checksum}
 use Rattle.ebl_base.specs.declared.chain.ChainLink.{ChainLink}
 use Rattle.ebl_base.specs.declared.platform_code.PlatformCode.{PlatformCode}

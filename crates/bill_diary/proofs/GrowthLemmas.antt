@@ -1,8 +1,7 @@
 -- In a sound history the known chain only grows.
-use Rattle.std.proofs.Common.{◌≡◌, Bool, true, false, cond, List, [], ◌∷◌, ◌++◌, Option, Some, None, map, refl, ap, sym, subst, ◌∙◌}
+use Rattle.std.proofs.Common.{◌≡◌, Bool, true, false, cond, List, [], ◌∷◌, ◌++◌, Option, Some, None, ap, sym, subst, ◌∙◌}
 use Rattle.std.specs.Prelude.{option_map}
 use Rattle.std.proofs.lemmas.List.{append-nil, append_assoc, map-append}
-use Rattle.ebl_base.specs.declared.checksum.Checksum.{Checksum}
 use Rattle.ebl_base.specs.declared.chain.ChainLink.{ChainLink}
 use Rattle.ebl_base.specs.declared.platform_code.PlatformCode.{PlatformCode}
 use Rattle.title_fold.specs.Chain.{names_of}
@@ -10,11 +9,11 @@ use Rattle.title_fold.proofs.ChainLemmas.{goes_beyond-parts}
 use Rattle.bill_diary.specs.declared.record.Record.{Record}
 use Rattle.bill_diary.specs.declared.record.Record.TheVariants.{Signed, Acted, Attached, Parted, Settled, Regained, Begun, Stored, Taken, Declined}
 use Rattle.bill_diary.specs.declared.bill_place.BillPlace.TheVariants.{Held, Parting, Gone}
-use Rattle.bill_diary.specs.Known.{known, taken_chain}
+use Rattle.bill_diary.specs.Known.{known}
 use Rattle.bill_diary.specs.Place.{parting, is_left, since, place_with}
 use Rattle.bill_diary.specs.Growth.{GoesOnIn}
 use Rattle.bill_diary.specs.Receiving.{continues}
-use Rattle.bill_diary.specs.Sound.{MayTake, IsParting, IsSoundHistory}
+use Rattle.bill_diary.specs.Sound.{IsSoundHistory}
 use Rattle.bill_diary.proofs.PlaceLemmas.{WhereParting, stands, absent_knows_nothing}
 use Rattle.bill_diary.proofs.KnownLemmas.{tells_known, settled_is_told, settled_tells, taken_tells}
 

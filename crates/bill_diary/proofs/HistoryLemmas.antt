@@ -14,7 +14,6 @@ use Rattle.bill_diary.specs.declared.record.Record.{Record}
 use Rattle.bill_diary.specs.declared.record.Record.TheVariants.{Signed, Acted, Attached, Parted, Settled, Regained, Begun, Stored, Taken, Declined}
 use Rattle.bill_diary.specs.declared.frame.Frame.{Frame}
 use Rattle.bill_diary.specs.History.{bill_of, records_of, newest_first, of_bill, history}
-use Rattle.bill_diary.specs.Receiving.{is_taken, is_declined}
 use Rattle.bill_diary.specs.Sound.{MayReceive, MayFollow, AreSound, AreFrames, IsSound, IsSoundDiary, IsSoundHistory, IsSoundForSome}
 
 none_kept_on : (test : Record → Bool) (r : Record) (kept : List Record) (keeps : Bool)

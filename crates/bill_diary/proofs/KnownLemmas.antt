@@ -1,6 +1,6 @@
 -- In a sound history the newest record that tells a chain tells the known one.
-use Rattle.std.proofs.Common.{◌≡◌, ◌≢◌, ℕ, ◌+◌, ◌<◌, ◌≤◌, Bool, true, false, ◌||◌, cond, List, [], ◌∷◌, ◌++◌, Option, Some, None, length, refl, ap, sym, subst, ◌∙◌, arith}
-use Rattle.std.specs.Prelude.{option_map, option_and_then, nat_lt}
+use Rattle.std.proofs.Common.{◌≡◌, ◌≢◌, ℕ, ◌<◌, ◌≤◌, Bool, true, false, ◌||◌, cond, List, [], ◌∷◌, ◌++◌, Option, Some, None, length, refl, ap, sym, subst, ◌∙◌, arith}
+use Rattle.std.specs.Prelude.{option_map, nat_lt}
 use Rattle.std.specs.List.{list_any}
 use Rattle.std.specs.Option.{option_to_list}
 use Rattle.std.proofs.lemmas.Bool.{or_parts, or_from}
@@ -12,17 +12,16 @@ use Rattle.ebl_base.specs.declared.chain.ChainLink.{ChainLink}
 use Rattle.ebl_base.specs.declared.platform_code.PlatformCode.{PlatformCode}
 use Rattle.ebl_base.specs.declared.transaction.Transaction.{Transaction}
 use Rattle.ebl_base.proofs.ChecksumLemmas.{checksum_eq-Decides}
-use Rattle.title_fold.specs.Chain.{has_entry, goes_beyond}
+use Rattle.title_fold.specs.Chain.{has_entry}
 use Rattle.title_fold.proofs.ChainLemmas.{has_entry-last, goes_beyond-parts, goes_beyond-has}
 use Rattle.bill_diary.specs.declared.record.Record.{Record}
 use Rattle.bill_diary.specs.declared.record.Record.TheVariants.{Signed, Acted, Attached, Parted, Settled, Regained, Begun, Stored, Taken, Declined}
-use Rattle.bill_diary.specs.declared.bill_place.BillPlace.{BillPlace}
-use Rattle.bill_diary.specs.declared.bill_place.BillPlace.TheVariants.{Absent, Held, Parting, Gone}
-use Rattle.bill_diary.specs.Known.{last_begun, taken_chain, longer, longest, told, settled_chain, known}
+use Rattle.bill_diary.specs.declared.bill_place.BillPlace.TheVariants.{Held, Parting, Gone}
+use Rattle.bill_diary.specs.Known.{taken_chain, longer, longest, told, settled_chain, known}
 use Rattle.bill_diary.specs.Place.{is_settled, is_regained, is_over, taken_chains, last_parted, parting, is_left, since, place_with, place_of}
 use Rattle.bill_diary.specs.Receiving.{continues}
-use Rattle.bill_diary.specs.Sound.{MaySign, MayPart, IsParting, MayTake, MayFollow, IsSoundHistory, IsSoundForSome}
-use Rattle.bill_diary.proofs.PlaceLemmas.{Stands, stands, WhereHeld, WhereParting, absent_knows_nothing, parting_is_last, last_is_parting, over_is_not_parting}
+use Rattle.bill_diary.specs.Sound.{IsParting, MayFollow, IsSoundHistory, IsSoundForSome}
+use Rattle.bill_diary.proofs.PlaceLemmas.{stands, WhereHeld, WhereParting, absent_knows_nothing, parting_is_last, last_is_parting, over_is_not_parting}
 
 -- the newest of some chains
 abbrev pub newest : List (List ChainLink) → Option (List ChainLink)
@@ -76,7 +75,8 @@ continues_longer : (h : List Record) (k : Option (List ChainLink)) (p : Option C
     → continues (place_with k p h) chain ≡ true → longer chain k ≡ chain
 continues_longer h None p chain goes = refl
 continues_longer h (Some known1) (Some link) chain goes =
-    let beyond : length (known1 ++ link ∷ []) < length chain = (goes_beyond-parts (known1 ++ link ∷ []) chain goes).longer in
+    let beyond : length (known1 ++ link ∷ []) < length chain =
+    (goes_beyond-parts (known1 ++ link ∷ []) chain goes).longer in
     longer_is chain known1 (omega (arith, beyond, length-append known1 (link ∷ [])))
 continues_longer h (Some known1) None chain goes =
     let beyond = continues_on h known1 chain (is_left known1 h) goes in
@@ -102,7 +102,8 @@ no_more_parting entry h chain link bill tells goes parted is =
     let P : Option (List ChainLink) → Type 0 =
     λ o. list_any (has_entry link.name) (option_to_list o ++ taken_chains h) ≡ false in
     let (not_here, not_before) =
-    or_parts (has_entry link.name chain) (list_any (has_entry link.name) (taken_chains h)) (subst P tells not_taken) in
+    or_parts (has_entry link.name chain) (list_any (has_entry link.name) (taken_chains h))
+    (subst P tells not_taken) in
     let open1 : is_over link.name h ≡ false =
     or_from (is_settled link.name h || is_regained link.name h) (list_any (has_entry link.name) (taken_chains h))
     not_answered not_before in
@@ -122,7 +123,8 @@ second_is_true false b c h = ap (λ x. x || c) h
 pub settled_is_told : (bill entry : Checksum) (h : List Record) (settles : IsParting h entry) → TellsKnown h
     → settled_chain entry h ≡ Some (settles.known ++ settles.link ∷ [])
 settled_is_told bill entry h settles before =
-    let where1 : WhereParting h settles.known settles.link = stands h (Parting settles.known settles.link) settles.parting in
+    let where1 : WhereParting h settles.known settles.link =
+    stands h (Parting settles.known settles.link) settles.parting in
     ap (λ n. settled_chain n h) (sym settles.names) ∙ before.at_parting settles.link where1.parting_is
     ∙ ap (option_map (λ c. c ++ settles.link ∷ [])) where1.known_is
 
@@ -150,11 +152,13 @@ told_again me (Parted bill link manifest manifest_text) h parts before =
           let P : ChainLink → Type 0 =
           λ l. cond (checksum_eq link.name l.name) chain_of (settled_chain l.name h)
           ≡ option_map (λ chain. chain ++ l ∷ []) (known h) in
-          subst P same (ap (λ b. cond b chain_of (settled_chain link.name h)) ((checksum_eq-Decides link.name link.name).1 refl));
+          subst P same
+          (ap (λ b. cond b chain_of (settled_chain link.name h)) ((checksum_eq-Decides link.name link.name).1 refl));
       parted = λ other last no. let some = held.known_is in cc;
     }
 told_again me (Settled bill entry) h settles before =
-    let where1 : WhereParting h settles.known settles.link = stands h (Parting settles.known settles.link) settles.parting in
+    let where1 : WhereParting h settles.known settles.link =
+    stands h (Parting settles.known settles.link) settles.parting in
     let link = settles.link in
     let chain = settles.known ++ link ∷ [] in
     let last = (parting_is_last h link where1.parting_is).0 in
@@ -163,15 +167,20 @@ told_again me (Settled bill entry) h settles before =
     let keeps : longer chain (longest (told h)) ≡ chain =
     ap (longer chain) where1.known_is ∙ longer_is chain settles.known grows in
     let over : is_over link.name (Settled bill entry ∷ h) ≡ true =
-    ap (λ b. (b || is_settled link.name h) || is_regained link.name h || list_any (has_entry link.name) (taken_chains h))
+    ap (λ b. (b || is_settled link.name h) || is_regained link.name h
+    || list_any (has_entry link.name) (taken_chains h))
     ((checksum_eq-Decides entry link.name).1 (sym settles.names)) in
     record {
       newest_is = newest_is_longest (settled_chain entry h) (told h) chain tells keeps;
-      at_parting = λ other is. let none : parting (Settled bill entry ∷ h) ≡ None = over_is_not_parting (Settled bill entry ∷ h) link last over in cc;
+      at_parting = λ other is.
+          let none : parting (Settled bill entry ∷ h) ≡ None =
+          over_is_not_parting (Settled bill entry ∷ h) link last over in
+          cc;
       parted = λ other is. told_is_known (settled_chain entry h) (told h) chain tells;
     }
 told_again me (Regained bill entry) h regains before =
-    let where1 : WhereParting h regains.known regains.link = stands h (Parting regains.known regains.link) regains.parting in
+    let where1 : WhereParting h regains.known regains.link =
+    stands h (Parting regains.known regains.link) regains.parting in
     let link = regains.link in
     let last = (parting_is_last h link where1.parting_is).0 in
     let over : is_over link.name (Regained bill entry ∷ h) ≡ true =
@@ -180,7 +189,10 @@ told_again me (Regained bill entry) h regains before =
     (ap (λ b. b || is_regained link.name h) ((checksum_eq-Decides entry link.name).1 (sym regains.names))) in
     record {
       newest_is = before.newest_is;
-      at_parting = λ other is. let none : parting (Regained bill entry ∷ h) ≡ None = over_is_not_parting (Regained bill entry ∷ h) link last over in cc;
+      at_parting = λ other is.
+          let none : parting (Regained bill entry ∷ h) ≡ None =
+          over_is_not_parting (Regained bill entry ∷ h) link last over in
+          cc;
       parted = before.parted;
     }
 told_again me (Begun bill chain manifest body) h begins before =

@@ -1,5 +1,5 @@
 -- What a pass from the oldest record keeps is what the records tell.
-use Rattle.std.proofs.Common.{◌≡◌, ℕ, Bool, true, false, List, [], ◌∷◌, ◌++◌, Option, Some, None, cond, map, reverse, refl, ap, sym, subst, ◌∙◌, Bor}
+use Rattle.std.proofs.Common.{◌≡◌, Bool, true, false, List, [], ◌∷◌, ◌++◌, Option, Some, None, cond, map, reverse, refl, ap, sym, ◌∙◌, Bor}
 use Rattle.std.specs.Prelude.{find, option_and_then, option_copied, option_map}
 use Rattle.std.specs.Option.{option_to_list}
 use Rattle.ebl_base.specs.Checksum.{checksum_eq}
@@ -11,7 +11,7 @@ use Rattle.bill_diary.specs.declared.record.Record.{Record}
 use Rattle.bill_diary.specs.declared.record.Record.TheVariants.{Signed, Acted, Attached, Parted, Settled, Regained, Begun, Stored, Taken, Declined}
 use Rattle.bill_diary.specs.declared.told.Departure.{Departure}
 use Rattle.bill_diary.specs.declared.told.Told.{Told}
-use Rattle.bill_diary.specs.Known.{Came, known, told, longer, longest, settled_chain, taken_chain, last_begun}
+use Rattle.bill_diary.specs.Known.{Came, known, told, longest, settled_chain, taken_chain, last_begun}
 use Rattle.bill_diary.specs.Told.{begun_chains, departures, settled_among, known_with, IsToldBy}
 
 -- ---- the chain of a Taken

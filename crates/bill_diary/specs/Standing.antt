@@ -1,5 +1,5 @@
 -- What each place says of a bill's records.
-use Rattle.std.specs.Prelude.{◌≡◌, true, false, List, Option, Some, None}
+use Rattle.std.specs.Prelude.{◌≡◌, true, false, List, Some, None}
 use Rattle.ebl_base.specs.declared.chain.ChainLink.{ChainLink}
 use Rattle.ebl_base.specs.declared.transaction.Transaction.{Transaction}
 use Rattle.bill_diary.specs.declared.record.Record.{Record}

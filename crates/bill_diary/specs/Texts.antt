@@ -50,7 +50,8 @@ pub record IsDocumentOf (bill : Checksum) (text : List ℕ) : Type 0 where
   pub text_is : document.text ≡ text
   pub names : bill_of document ≡ bill
 
--- the text is the canonical text of a body with a document of this bill, this manifest's text, and the texts of this chain
+-- the text is the canonical text of a body with a document of this bill, this manifest's text, and the texts of this
+-- chain
 pub record IsBodyOf (bill : Checksum) (chain : List ChainLink) (manifest : Manifest) (body : List ℕ) : Type 0 where
   pub value : Value
   pub lawful : IsLawful value

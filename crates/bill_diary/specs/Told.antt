@@ -4,7 +4,7 @@ use Rattle.ebl_base.specs.Checksum.{checksum_eq}
 use Rattle.ebl_base.specs.declared.checksum.Checksum.{Checksum}
 use Rattle.ebl_base.specs.declared.chain.ChainLink.{ChainLink}
 use Rattle.bill_diary.specs.declared.record.Record.{Record}
-use Rattle.bill_diary.specs.declared.record.Record.TheVariants.{Signed, Acted, Attached, Parted, Settled, Regained, Begun, Stored, Taken, Declined}
+use Rattle.bill_diary.specs.declared.record.Record.TheVariants.{Parted, Begun}
 use Rattle.bill_diary.specs.declared.told.Departure.{Departure}
 use Rattle.bill_diary.specs.declared.told.Told.{Told}
 use Rattle.bill_diary.specs.Known.{known, longer}
@@ -25,7 +25,8 @@ departures (r ∷ h) = departures h
 -- the chain of a Settled, by the entries that were parted, the newest at the end
 abbrev pub settled_among : Checksum → List Departure → Option (List ChainLink)
 settled_among entry parted =
-    option_and_then (λ departure. departure.chain) (find (λ departure. checksum_eq departure.entry entry) (reverse parted))
+    option_and_then (λ departure. departure.chain)
+    (find (λ departure. checksum_eq departure.entry entry) (reverse parted))
 
 -- the known chain where one more is told, if any is
 abbrev pub known_with : Option (List ChainLink) → Option (List ChainLink) → Option (List ChainLink)

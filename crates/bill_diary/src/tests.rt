@@ -1,5 +1,5 @@
-//! Places of bills by short diaries. A number stands for the name of an entry; the texts are empty, since no place looks
-//! at them.
+//! Places of bills by short diaries. A number stands for the name of an entry; the texts are empty, since no place
+//! looks at them.
 use crate::{BillPlace, Diary, Frame, Record, has_bytes, is_taken, last_declined, may_act, place};
 use ebl_base::{
     Chain, ChainLink, Checksum, Code, Entry, Evidence, Items, Kind, Moment, NoMemory, Party,

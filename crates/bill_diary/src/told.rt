@@ -66,7 +66,8 @@ impl<'a> Told<'a> {
 
     // The chain of a Taken.
     fn taken(&self, entry: Checksum) -> Option<&'a Chain>
-        ensures { option_copied result ≡ option_copied (find (λ chain. ends_in entry chain.now) (reverse self.now.begun.items)) }
+        ensures { option_copied result
+            ≡ option_copied (find (λ chain. ends_in entry chain.now) (reverse self.now.begun.items)) }
     {
         self.begun
             .iter()

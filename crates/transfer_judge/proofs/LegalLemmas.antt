@@ -1,7 +1,5 @@
 -- Every legal diary is sound.
-use Rattle.std.proofs.Common.{◌≡◌, Bool, true, false, ◌||◌, cond, List, [], ◌∷◌, Option, Some, None, Result, Ok, Err, refl, ap, sym, subst, ◌∙◌}
-use Rattle.std.specs.Prelude.{option_map}
-use Rattle.std.specs.List.{list_any}
+use Rattle.std.proofs.Common.{◌≡◌, Bool, true, false, ◌||◌, cond, List, [], ◌∷◌, Option, Some, None, Ok, Err, refl, ap, sym, ◌∙◌}
 use Rattle.ebl_base.specs.Checksum.{checksum_eq}
 use Rattle.ebl_base.specs.PlatformCode.{code_eq}
 use Rattle.ebl_base.specs.declared.chain.ChainLink.{ChainLink}
@@ -17,20 +15,19 @@ use Rattle.envelope_manifest.specs.declared.manifest.Manifest.{Manifest}
 use Rattle.party_roster.specs.RosterRecord.{RosterRecord, knows}
 use Rattle.title_fold.specs.Title.{possessor}
 use Rattle.title_fold.specs.Fold.{Folded}
-use Rattle.title_fold.specs.Chain.{last_of, destination, platform_with, title_after_chain}
+use Rattle.title_fold.specs.Chain.{last_of, platform_with, title_after_chain}
 use Rattle.bill_diary.specs.declared.record.Record.{Record}
 use Rattle.bill_diary.specs.declared.record.Record.TheVariants.{Signed, Acted, Attached, Parted, Settled, Regained, Begun, Stored, Taken, Declined}
-use Rattle.bill_diary.specs.declared.bill_place.BillPlace.{BillPlace}
 use Rattle.bill_diary.specs.declared.frame.Frame.{Frame}
 use Rattle.bill_diary.specs.History.{bill_of, newest_first, of_bill}
 use Rattle.bill_diary.specs.Pieces.{missing_of}
 use Rattle.bill_diary.specs.Place.{place_of}
 use Rattle.bill_diary.specs.Receiving.{Declination, continues, is_declined, is_taken, last_declined}
-use Rattle.bill_diary.specs.Sound.{MayReceive, MayBegin, MayTake, MayFollow, IsNotAgain, AreSound, IsSound}
+use Rattle.bill_diary.specs.Sound.{MayReceive, MayFollow, AreSound, IsSound}
 use Rattle.transfer_judge.specs.declared.judgement.Judgement.{Judgement}
 use Rattle.transfer_judge.specs.declared.judgement.Judgement.TheVariants as judgements
-use Rattle.transfer_judge.specs.Dispute.{dispute_of, evidence_of, own_chain}
-use Rattle.transfer_judge.specs.Judgement.{receiver_of, receiver_with, on_missing, on_receiver, on_dispute, on_declined, on_taken, on_receiver_here, on_last, judgement_at_place, judgement_here, judgement_of}
+use Rattle.transfer_judge.specs.Dispute.{evidence_of, own_chain}
+use Rattle.transfer_judge.specs.Judgement.{receiver_of, receiver_with, on_missing, on_receiver, on_dispute, on_declined, on_taken, on_receiver_here, on_last, judgement_of}
 use Rattle.transfer_judge.specs.Legal.{IsWelcome, FollowsLegally, AreLegal, IsLegal}
 
 -- ---- a chain that isn't refused
@@ -59,7 +56,8 @@ past_here : (P : Judgement → Type 0) (free : NoRefusal P) (me : PlatformCode) 
 past_here P free me None rest p = absurd (free.elsewhere p)
 past_here P free me (Some receiver) rest p =
     let (here, further) =
-    past_here_on P free me receiver (code_eq receiver.platform me) rest (code_eq-Decides receiver.platform me).0 p in
+    past_here_on P free me receiver (code_eq receiver.platform me) rest
+    (code_eq-Decides receiver.platform me).0 p in
     (receiver, refl, here, further)
 
 past_taken : (P : Judgement → Type 0) (free : NoRefusal P) (taken : Bool) (rest : Judgement)
@@ -110,7 +108,8 @@ not_declined entry (Begun bill chain manifest body ∷ records) none = not_decli
 not_declined entry (Stored bill other checksum bytes ∷ records) none = not_declined entry records none
 not_declined entry (Taken bill other ∷ records) none = not_declined entry records none
 
--- a chain that isn't refused may be received; what is left is whether its possessor is known and its documents are there
+-- a chain that isn't refused may be received; what is left is whether its possessor is known and its documents are
+-- there
 record Received (P : Judgement → Type 0) (roster : RosterRecord) (me : PlatformCode) (bill : Checksum)
     (records : List Record) (chain : List ChainLink) (manifest : Manifest) : Type 0 where
   receives : MayReceive me records (of_bill bill records) chain

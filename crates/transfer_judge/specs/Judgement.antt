@@ -1,6 +1,5 @@
 -- The judgement of a chain with its manifest, by a diary: seven cases, of which the first that fits is given.
-use Rattle.std.specs.Prelude.{Bool, false, List, [], ◌∷◌, Option, Some, None, Result, Ok, Err, option_map, if◌then◌else◌}
-use Rattle.std.specs.Option.{option_map_or}
+use Rattle.std.specs.Prelude.{Bool, List, [], ◌∷◌, Option, Some, None, Ok, Err, option_map, if◌then◌else◌}
 use Rattle.ebl_base.specs.PlatformCode.{code_eq}
 use Rattle.ebl_base.specs.declared.chain.ChainLink.{ChainLink}
 use Rattle.ebl_base.specs.declared.checksum.Checksum.{Checksum}
@@ -11,9 +10,8 @@ use Rattle.envelope_manifest.specs.declared.manifest.Manifest.{Manifest}
 use Rattle.party_roster.specs.RosterRecord.{RosterRecord, knows}
 use Rattle.title_fold.specs.Title.{possessor}
 use Rattle.title_fold.specs.Fold.{Folded}
-use Rattle.title_fold.specs.Chain.{destination, last_of, title_after_chain}
+use Rattle.title_fold.specs.Chain.{last_of, title_after_chain}
 use Rattle.bill_diary.specs.declared.record.Record.{Record}
-use Rattle.bill_diary.specs.declared.bill_place.BillPlace.{BillPlace}
 use Rattle.bill_diary.specs.History.{of_bill}
 use Rattle.bill_diary.specs.Place.{place_of}
 use Rattle.bill_diary.specs.Pieces.{missing_of}

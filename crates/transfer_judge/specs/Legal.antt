@@ -1,5 +1,5 @@
--- Legal diaries of a platform, under a roster and a ring of keys: sound ones whose texts are rightly signed, whose parties
--- and platforms the roster lists, and whose chains were judged so.
+-- Legal diaries of a platform, under a roster and a ring of keys: sound ones whose texts are rightly signed, whose
+-- parties and platforms the roster lists, and whose chains were judged so.
 use Rattle.std.specs.Prelude.{◌≡◌, ℕ, ◌≤◌, true, List, [], ◌∷◌, Option, Some, None, length, option_map, slice_get}
 use Rattle.ebl_base.specs.declared.chain.ChainLink.{ChainLink}
 use Rattle.ebl_base.specs.declared.checksum.Checksum.{Checksum}
@@ -10,7 +10,6 @@ use Rattle.ebl_base.specs.declared.transaction.Transaction.{Transaction}
 use Rattle.canonical_json.specs.Value.{Value}
 use Rattle.signed_envelope.specs.KeyRing.{Keys}
 use Rattle.signed_envelope.specs.SignedText.{IsSigned}
-use Rattle.transport_document.specs.DocumentRecord.{DocumentRecord}
 use Rattle.envelope_manifest.specs.declared.manifest.Manifest.{Manifest}
 use Rattle.party_roster.specs.RosterRecord.{RosterRecord, carrier, has_platform}
 use Rattle.title_fold.specs.Title.{possessor}
@@ -23,7 +22,7 @@ use Rattle.bill_diary.specs.Known.{Came, last_begun}
 use Rattle.bill_diary.specs.Texts.{LinksAreTheirTexts, IsBodyOf}
 use Rattle.bill_diary.specs.Sound.{MaySign, MayAct, MayAttach, MayPart, IsParting, MayStore, MayDecline, IsNotAgain, AreFrames}
 use Rattle.transfer_judge.specs.declared.judgement.Judgement.{Judgement}
-use Rattle.transfer_judge.specs.declared.judgement.Judgement.TheVariants.{Elsewhere, Duplicate, Declined as DeclinedBefore, Parts, Unknown, Missing, Accept}
+use Rattle.transfer_judge.specs.declared.judgement.Judgement.TheVariants.{Missing, Accept}
 use Rattle.transfer_judge.specs.Judgement.{judgement_of}
 
 -- ---- texts
@@ -64,8 +63,8 @@ IsWelcome Accept = Unit {0}
 IsWelcome (Missing checksums) = Unit {0}
 IsWelcome judgement = ⊥
 
--- a body with a good chain of the bill that the roster's carrier of the document began, each text signed by its platform,
--- and a manifest of the last one that names both; the judgement is to receive it
+-- a body with a good chain of the bill that the roster's carrier of the document began, each text signed by its
+-- platform, and a manifest of the last one that names both; the judgement is to receive it
 pub record BeginsLegally (roster : RosterRecord) (keys : Keys) (me : PlatformCode) (records : List Record)
     (bill : Checksum) (chain : List ChainLink) (manifest : Manifest) (body : List ℕ) : Type 0 where
   pub body_is : IsBodyOf bill chain manifest body

@@ -4,8 +4,8 @@ use crate::{Judgement, judge};
 use bill_diary::{Diary, Frame, Record};
 use canonical_json::read;
 use ebl_base::{
-    Chain, ChainLink, Checksum, Code, Entry, Evidence, Items, Kind, Moment, NoMemory, Party, PlatformCode, Reason,
-    SignedText, Transaction, TransactionList,
+    Chain, ChainLink, Checksum, Code, Entry, Evidence, Items, Kind, Moment, NoMemory, Party,
+    PlatformCode, Reason, SignedText, Transaction, TransactionList,
 };
 use envelope_manifest::{Manifest, Piece};
 use party_roster::Roster;
@@ -37,7 +37,11 @@ fn shown(judgement: &Judgement) -> Shown {
     match judgement {
         Judgement::Elsewhere => (1, 0, 0),
         Judgement::Duplicate => (2, 0, 0),
-        Judgement::Declined { evidence, .. } => (3, number_of(&evidence.own), number_of(&evidence.theirs)),
+        Judgement::Declined { evidence, .. } => (
+            3,
+            number_of(&evidence.own),
+            number_of(&evidence.theirs),
+        ),
         Judgement::Parts(evidence) => (4, number_of(&evidence.own), number_of(&evidence.theirs)),
         Judgement::Unknown => (5, 0, 0),
         Judgement::Missing(missing) => (6, missing.as_slice().first().map_or(0, |c| c.0[0]), 0),
@@ -50,7 +54,7 @@ fn shown(judgement: &Judgement) -> Shown {
 struct Cast {
     export: Party,
     import: Party,
-    ghost: Party,
+    stranger: Party,
     time: Moment,
 }
 
@@ -58,7 +62,7 @@ fn players() -> Result<Cast, Fail> {
     Ok(Cast {
         export: Party::from_text(b"ALPH/EXPORT").ok_or("a party")?,
         import: Party::from_text(b"BETA/IMPORT").ok_or("a party")?,
-        ghost: Party::from_text(b"BETA/GHOST").ok_or("a party")?,
+        stranger: Party::from_text(b"BETA/GHOST").ok_or("a party")?,
         time: Moment::try_new(0).ok_or("a moment")?,
     })
 }
@@ -85,7 +89,11 @@ impl Cast {
             acts.push(self.act(Kind::Sign, self.export, None))?;
             acts.push(self.act(Kind::Issue, self.export, Some(self.export)))?;
         }
-        let from = if place % 2 == 0 { self.export } else { self.import };
+        let from = if place % 2 == 0 {
+            self.export
+        } else {
+            self.import
+        };
         acts.push(self.act(Kind::Transfer, from, Some(to)))?;
         Ok(acts)
     }
@@ -112,7 +120,11 @@ impl Cast {
         let mut place = 0;
         for n in numbers {
             if n != 0 {
-                let to = if place % 2 == 0 { self.import } else { self.export };
+                let to = if place % 2 == 0 {
+                    self.import
+                } else {
+                    self.export
+                };
                 chain.push(self.link(alloc, n, place, to)?)?;
                 place = if place == 0 { 1 } else { 2 };
             }
@@ -206,23 +218,75 @@ type Row = ([Step; 3], [u8; 3], Shown);
 
 // At BETA: the chain that is shown is 1, or 1, 2, 3.
 const AT_BETA: [Row; 7] = [
-    ([Step::Settled(0), Step::Settled(0), Step::Settled(0)], [1, 0, 0], (7, 0, 0)),
-    ([Step::Settled(0), Step::Settled(0), Step::Settled(0)], [1, 2, 0], (1, 0, 0)),
-    ([Step::Begun([1, 0, 0]), Step::Taken(1), Step::Declined(1)], [1, 0, 0], (2, 0, 0)),
-    ([Step::Settled(0), Step::TakenOfAnotherBill(1), Step::Settled(0)], [1, 0, 0], (2, 0, 0)),
-    ([Step::Settled(0), Step::Settled(0), Step::Declined(1)], [1, 0, 0], (3, 0, 1)),
-    ([Step::Begun([1, 0, 0]), Step::Taken(1), Step::Settled(0)], [6, 0, 0], (4, 1, 6)),
-    ([Step::Begun([1, 0, 0]), Step::Taken(1), Step::Settled(0)], [1, 2, 3], (4, 1, 2)),
+    (
+        [Step::Settled(0), Step::Settled(0), Step::Settled(0)],
+        [1, 0, 0],
+        (7, 0, 0),
+    ),
+    (
+        [Step::Settled(0), Step::Settled(0), Step::Settled(0)],
+        [1, 2, 0],
+        (1, 0, 0),
+    ),
+    (
+        [Step::Begun([1, 0, 0]), Step::Taken(1), Step::Declined(1)],
+        [1, 0, 0],
+        (2, 0, 0),
+    ),
+    (
+        [
+            Step::Settled(0),
+            Step::TakenOfAnotherBill(1),
+            Step::Settled(0),
+        ],
+        [1, 0, 0],
+        (2, 0, 0),
+    ),
+    (
+        [Step::Settled(0), Step::Settled(0), Step::Declined(1)],
+        [1, 0, 0],
+        (3, 0, 1),
+    ),
+    (
+        [Step::Begun([1, 0, 0]), Step::Taken(1), Step::Settled(0)],
+        [6, 0, 0],
+        (4, 1, 6),
+    ),
+    (
+        [Step::Begun([1, 0, 0]), Step::Taken(1), Step::Settled(0)],
+        [1, 2, 3],
+        (4, 1, 2),
+    ),
 ];
 
-// At ALPH, where the bill began: it comes back through the entry that is parting, or by a chain that goes on; a chain that
-// parts from the own one is disputed where they part.
+// At ALPH, where the bill began: it comes back through the entry that is parting, or by a chain that goes on; a chain
+// that parts from the own one is disputed where they part.
 const AT_ALPH: [Row; 5] = [
-    ([Step::Signed, Step::Parted(1, 0), Step::Settled(0)], [1, 2, 0], (7, 0, 0)),
-    ([Step::Signed, Step::Parted(1, 0), Step::Settled(1)], [1, 2, 0], (7, 0, 0)),
-    ([Step::Signed, Step::Parted(1, 0), Step::Settled(0)], [6, 2, 0], (4, 1, 6)),
-    ([Step::Signed, Step::Parted(1, 0), Step::Settled(1)], [6, 2, 0], (4, 1, 6)),
-    ([Step::Signed, Step::Settled(0), Step::Settled(0)], [1, 2, 0], (4, 0, 1)),
+    (
+        [Step::Signed, Step::Parted(1, 0), Step::Settled(0)],
+        [1, 2, 0],
+        (7, 0, 0),
+    ),
+    (
+        [Step::Signed, Step::Parted(1, 0), Step::Settled(1)],
+        [1, 2, 0],
+        (7, 0, 0),
+    ),
+    (
+        [Step::Signed, Step::Parted(1, 0), Step::Settled(0)],
+        [6, 2, 0],
+        (4, 1, 6),
+    ),
+    (
+        [Step::Signed, Step::Parted(1, 0), Step::Settled(1)],
+        [6, 2, 0],
+        (4, 1, 6),
+    ),
+    (
+        [Step::Signed, Step::Settled(0), Step::Settled(0)],
+        [1, 2, 0],
+        (4, 0, 1),
+    ),
 ];
 
 fn see<R: Abort>(rt: &R, alloc: Global, me: PlatformCode, rows: &[Row]) -> Result<(), Fail> {
@@ -268,9 +332,9 @@ fn parties_and_documents(rt: HostRuntime) -> Result<(), Fail> {
         bytes: Items::new(alloc),
     }))?;
     let listed = manifest(alloc, 4, 5)?;
-    let mut stranger = Items::new(alloc);
-    stranger.push(cast.link(alloc, 1, 0, cast.ghost)?)?;
-    let judgement = judge(alloc, &d, &roster, beta, &stranger, &listed)?;
+    let mut strange = Items::new(alloc);
+    strange.push(cast.link(alloc, 1, 0, cast.stranger)?)?;
+    let judgement = judge(alloc, &d, &roster, beta, &strange, &listed)?;
     assert_eq!(rt; shown(&judgement), (5, 0, 0));
     let chain = cast.chain(alloc, [1, 0, 0])?;
     let judgement = judge(alloc, &d, &roster, beta, &chain, &listed)?;

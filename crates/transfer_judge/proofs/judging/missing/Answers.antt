@@ -1,4 +1,4 @@
-use Rattle.std.proofs.Common.{◌≡◌, ◌+◌, ◌++◌, ◌∙◌, Bool, true, false, List, ap, drop, not, sym}
+use Rattle.std.proofs.Common.{◌+◌, ◌++◌, ◌∙◌, Bool, List, ap, drop, not, sym}
 use Rattle.ebl_base.specs.declared.checksum.Checksum.{Checksum}
 use Rattle.bill_diary.specs.History.{history}
 use Rattle.bill_diary.specs.Pieces.{is_there}
