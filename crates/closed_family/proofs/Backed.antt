@@ -15,7 +15,7 @@ use Rattle.bill_diary.specs.Sound.{MayPart, IsParting, IsSoundHistory}
 use Rattle.closed_family.specs.Chains.{IsAmong, AreAmong, AreNamed}
 use Rattle.closed_family.specs.Histories.{PartedOn, links_of, is_parted}
 use Rattle.closed_family.specs.Closed.{Histories, AreParted, destination_of, IsBacked}
-use Rattle.closed_family.proofs.Tests.{checksum_eq-same, or_cases}
+use Rattle.closed_family.proofs.Names.{checksum_eq-same, or_cases}
 use Rattle.closed_family.proofs.Linked.{among_rest}
 use Rattle.closed_family.proofs.Standing.{SomeParted, stands_held, stands_parting}
 use Rattle.closed_family.proofs.Received.{taken_first}

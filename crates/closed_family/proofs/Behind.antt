@@ -21,7 +21,7 @@ use Rattle.closed_family.specs.declared.lacking.Lacking.{Lacking}
 use Rattle.closed_family.specs.Chains.{IsAmong}
 use Rattle.closed_family.specs.Family.{histories_of}
 use Rattle.closed_family.specs.Lacking.{first_of, unparted, unparted_of, lacking_of, lacking_in, lacking_frame, TellsFrame}
-use Rattle.closed_family.proofs.Tests.{checksum_eq-of}
+use Rattle.closed_family.proofs.Names.{checksum_eq-of}
 use Rattle.closed_family.proofs.Frames.{newest_first-push}
 
 -- one frame more
@@ -63,7 +63,8 @@ further family (r ∷ more) records =
       parts = ap (λ (xs : List Lacking). xs ++ last) f.parts ∙ append_assoc (lacking_in family records) f.rest last;
     }
 
-pub newest_first-append : (front rest : List Frame) → newest_first (front ++ rest) ≡ newest_first rest ++ newest_first front
+pub newest_first-append : (front rest : List Frame)
+    → newest_first (front ++ rest) ≡ newest_first rest ++ newest_first front
 newest_first-append front rest =
     ap reverse (flat_map-append records_of front rest)
     ∙ reverse-append (flat_map records_of front) (flat_map records_of rest)
@@ -79,7 +80,8 @@ first_behind family diary front rest frame x whole none first =
     let here : lacking_in family (newest_first (front ++ frame ∷ [])) ≡ lacking_frame family front frame
     = lacking_in-push family front frame
     ∙ ap (λ (xs : List Lacking). xs ++ lacking_frame family front frame) none in
-    ap (λ (d : List Frame). first_of (lacking_in family (newest_first d))) (sym whole ∙ sym (append_assoc front (frame ∷ []) rest))
+    ap (λ (d : List Frame). first_of (lacking_in family (newest_first d)))
+    (sym whole ∙ sym (append_assoc front (frame ∷ []) rest))
     ∙ ap (λ (r : List Record). first_of (lacking_in family r)) (newest_first-append (front ++ frame ∷ []) rest)
     ∙ ap first_of (f.parts ∙ ap (λ (xs : List Lacking). xs ++ f.rest) here)
     ∙ first_stays (lacking_frame family front frame) f.rest x first
@@ -95,7 +97,8 @@ none_behind family front frame none first =
     ∙ none_first (lacking_frame family front frame) first
 
 -- what a Taken in the frame of its Begun lacks is what its chain does
-taken_of : (b e : Bool) (bill entry : Checksum) (chain : List ChainLink) (manifest : Manifest) (body : List ℕ) (h : List Record)
+taken_of : (b e : Bool) (bill entry : Checksum) (chain : List ChainLink) (manifest : Manifest) (body : List ℕ)
+    (h : List Record)
     → b ≡ true → ends_in entry chain ≡ e → e ≡ true
     → taken_chain entry (cond b (Begun bill chain manifest body ∷ h) h) ≡ Some chain
 taken_of true true bill entry chain manifest body h p is q =
@@ -112,7 +115,8 @@ pub begun_taken : (family : List Member) (front : List Frame) (bill : Checksum) 
 begun_taken family front bill chain manifest body (Taken same entry) tells =
     ap (λ (b : Checksum). unparted (histories_of b family) chain) (sym tells.0)
     ∙ ap (unparted_of (histories_of same family))
-    (sym (taken_of (checksum_eq bill same) (ends_in entry chain) bill entry chain manifest body (of_bill same (newest_first front))
+    (sym (taken_of (checksum_eq bill same) (ends_in entry chain) bill entry chain manifest body
+    (of_bill same (newest_first front))
     (checksum_eq-of bill same (sym tells.0)) refl tells.1))
 begun_taken family front bill chain manifest body taken tells = absurd tells
 

@@ -23,7 +23,7 @@ use Rattle.closed_family.specs.Histories.{is_parted}
 use Rattle.closed_family.specs.Closed.{Histories, AreParted, IsBacked}
 use Rattle.closed_family.specs.Family.{shard_of, histories_of, IsSoundFamily, IsClosedFamily}
 use Rattle.closed_family.specs.Lacking.{first_of, unless_it_stands, unparted, unparted_of, unanswered, unanswered_of, lacking_of, lacking_in, lacking}
-use Rattle.closed_family.proofs.Tests.{checksum_eq-same, checksum_eq-itself}
+use Rattle.closed_family.proofs.Names.{checksum_eq-same, checksum_eq-itself}
 use Rattle.closed_family.proofs.Chains.{HasLast, from_the_end, last_of-push}
 use Rattle.closed_family.proofs.Families.{got}
 

@@ -17,7 +17,7 @@ use Rattle.closed_family.specs.Chains.{IsAmong, IsPrefix}
 use Rattle.closed_family.specs.Histories.{PartedOn, is_signed}
 use Rattle.closed_family.specs.Closed.{Histories}
 use Rattle.closed_family.specs.Safe.{IsAccepted, IsEnd, StandsWith, IsHeld, front_of, transactions_at, FoldsOn, IsSafe}
-use Rattle.closed_family.proofs.Tests.{not_both, or_left, or_right, false_unless, checksum_eq-itself}
+use Rattle.closed_family.proofs.Names.{not_both, or_left, or_right, false_unless, checksum_eq-itself}
 use Rattle.closed_family.proofs.Chains.{not_empty, last_name-push, prefix_itself, prefix_both, prefix_length, push_length, prefix_trans, empty_prefix, push_prefix, GoesOn, prefix_or_more}
 use Rattle.closed_family.proofs.Linked.{linked_same}
 use Rattle.closed_family.proofs.Places.{place_absent, place_held, place_parting, place_gone, IsOpen, parting_is_open}

@@ -22,7 +22,7 @@ use Rattle.closed_family.specs.Closed.{Histories}
 use Rattle.closed_family.specs.Safe.{IsSafe, IsHeld}
 use Rattle.closed_family.specs.Family.{histories_of, IsSignedIn, HasDistinctNames, IsSoundFamily, IsClosedFamily}
 use Rattle.closed_family.specs.Later.{GoesOnTo, IsLaterThan, IsEndedAt}
-use Rattle.closed_family.proofs.Tests.{false_unless, not_both}
+use Rattle.closed_family.proofs.Names.{false_unless, not_both}
 use Rattle.closed_family.proofs.Standing.{IsOn, StandsBy, StandsHeld, stands_held}
 use Rattle.closed_family.proofs.Line.{AreClosed, stands_at}
 use Rattle.closed_family.proofs.Growth.{ended_on}

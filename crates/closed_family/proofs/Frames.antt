@@ -34,7 +34,8 @@ same_for : (b : Bool) (r : Record) (entry : Checksum) (h : List Record)
 same_for true r entry h same = same
 same_for false r entry h same = refl
 
-begun_for : (b e : Bool) (entry bill : Checksum) (chain : List ChainLink) (manifest : Manifest) (body : List ℕ) (h : List Record)
+begun_for : (b e : Bool) (entry bill : Checksum) (chain : List ChainLink) (manifest : Manifest) (body : List ℕ)
+    (h : List Record)
     → ends_in entry chain ≡ e
     → taken_chain entry (cond b (Begun bill chain manifest body ∷ h) h)
     ≡ option_or (if b && e then Some chain else None) (taken_chain entry h)

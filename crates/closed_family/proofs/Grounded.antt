@@ -16,7 +16,7 @@ use Rattle.closed_family.specs.Histories.{links_of, is_parted}
 use Rattle.closed_family.specs.Closed.{Histories, AreParted, HasParted, AreGrounded}
 use Rattle.closed_family.specs.Safe.{IsAccepted}
 use Rattle.closed_family.specs.Family.{histories_of, HasDistinctNames, IsSoundFamily, IsClosedFamily}
-use Rattle.closed_family.proofs.Tests.{checksum_eq-of, or_left, or_right}
+use Rattle.closed_family.proofs.Names.{checksum_eq-of, or_left, or_right}
 use Rattle.closed_family.proofs.Chains.{HasLast, from_the_end, last_of-push, empty_prefix}
 use Rattle.closed_family.proofs.Linked.{good_is_linked, among_each}
 use Rattle.closed_family.proofs.Records.{among_more}

@@ -18,7 +18,7 @@ use Rattle.bill_diary.specs.Receiving.{takes, is_taken, is_declined}
 use Rattle.bill_diary.specs.Sound.{MayPart, MayTake, IsSoundHistory}
 use Rattle.closed_family.specs.Chains.{IsAmong, AreAmong, AreNamed}
 use Rattle.closed_family.specs.Histories.{PartedOn, links_of}
-use Rattle.closed_family.proofs.Tests.{checksum_eq-same, checksum_eq-of, or_cases, or_left, or_right, not_both, decided, false_unless}
+use Rattle.closed_family.proofs.Names.{checksum_eq-same, checksum_eq-of, or_cases, or_left, or_right, not_both, decided, false_unless}
 use Rattle.closed_family.proofs.Chains.{last_of-push}
 use Rattle.closed_family.proofs.Linked.{among_rest, ends_in-last}
 use Rattle.closed_family.proofs.Standing.{Fate, was_regained, went_on, is_parting, Stands, stands_held, stands_absent}

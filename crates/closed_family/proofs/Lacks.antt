@@ -14,7 +14,8 @@ use Rattle.closed_family.specs.Lacking.{says, first_of, unless_it_stands, unpart
 unparted-drop : (at : Histories) (chain : List ChainLink) (i : ℕ) (link : ChainLink)
     → i < length chain → link ≡ get_or chain i link
     → unparted at (drop i chain)
-    ≡ unless_it_stands (list_any (says lacks.Parted link.name) (at link.entry.platform)) link.entry.platform lacks.Parted link
+    ≡ unless_it_stands
+    (list_any (says lacks.Parted link.name) (at link.entry.platform)) link.entry.platform lacks.Parted link
     ++ unparted at (drop (i + 1) chain)
 unparted-drop at chain i link within is =
     ap (unparted at) (drop-cons chain i link within
@@ -28,7 +29,8 @@ pub unparted-stands : (at : Histories) (chain : List ChainLink) (i : ℕ) (link 
     → first_of (unparted at (drop i chain)) ≡ first_of (unparted at (drop (i + 1) chain))
 unparted-stands at chain i link within is stands =
     ap first_of (unparted-drop at chain i link within is)
-    ∙ ap (λ (b : Bool). first_of (unless_it_stands b link.entry.platform lacks.Parted link ++ unparted at (drop (i + 1) chain))) stands
+    ∙ ap (λ (b : Bool). first_of
+    (unless_it_stands b link.entry.platform lacks.Parted link ++ unparted at (drop (i + 1) chain))) stands
 
 -- one whose Parted doesn't is the first that is lacking
 pub unparted-lacks : (at : Histories) (chain : List ChainLink) (i : ℕ) (link : ChainLink)
@@ -38,7 +40,8 @@ pub unparted-lacks : (at : Histories) (chain : List ChainLink) (i : ℕ) (link :
     ≡ Some (record { platform = link.entry.platform; what = lacks.Parted; text = link.text })
 unparted-lacks at chain i link within is stands =
     ap first_of (unparted-drop at chain i link within is)
-    ∙ ap (λ (b : Bool). first_of (unless_it_stands b link.entry.platform lacks.Parted link ++ unparted at (drop (i + 1) chain))) stands
+    ∙ ap (λ (b : Bool). first_of
+    (unless_it_stands b link.entry.platform lacks.Parted link ++ unparted at (drop (i + 1) chain))) stands
 
 -- what an answered chain lacks, by its parts
 pub unanswered-parts : (stands : PlatformCode → Bool) (what : Lack) (chain : Option (List ChainLink))
@@ -54,5 +57,6 @@ unanswered-parts stands what chain K J link last to told fronts links goes =
     ∙ ap (unanswered_of stands what) (sym told)
 
 -- what is so of one value is so of an equal one
-pub if_ok-same : {A E : Type 0} (r : Result A E) (a b : A) → a ≡ b → IfOk r (λ (x : A). x ≡ a) → IfOk r (λ (x : A). x ≡ b)
+pub if_ok-same : {A E : Type 0} (r : Result A E) (a b : A) → a ≡ b → IfOk r (λ (x : A). x ≡ a)
+    → IfOk r (λ (x : A). x ≡ b)
 if_ok-same {A} r a b same h = subst (λ (y : A). IfOk r (λ (x : A). x ≡ y)) same h

@@ -1,4 +1,4 @@
-pub mod Tests
+pub mod Names
 pub mod Chains
 pub mod Linked
 pub mod Places

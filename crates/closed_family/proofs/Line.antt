@@ -11,7 +11,7 @@ use Rattle.closed_family.specs.Chains.{IsAmong, IsPrefix, AreAmong, AreNamed}
 use Rattle.closed_family.specs.Histories.{PartedOn, links_of, is_signed}
 use Rattle.closed_family.specs.Closed.{Histories, AreParted, IsBacked}
 use Rattle.closed_family.specs.Safe.{IsAccepted}
-use Rattle.closed_family.proofs.Tests.{not_both}
+use Rattle.closed_family.proofs.Names.{not_both}
 use Rattle.closed_family.proofs.Chains.{not_empty, prefix_trans, empty_prefix, push_prefix, GoesOn, prefix_or_more, prefix_of_push}
 use Rattle.closed_family.proofs.Linked.{IsLinked, empty, one_more, linked_front, among_front, prefix_of_none}
 use Rattle.closed_family.proofs.Standing.{CameBy, HasLeft, Stands, StandsBy, StandsHeld, StandsParting, StandsGone, attempts}

@@ -9,7 +9,7 @@ use Rattle.ebl_base.specs.declared.chain.ChainLink.{ChainLink}
 use Rattle.title_fold.specs.Chain.{last_name, names_of, has_entry, ends_in, goes_beyond, FollowEachOther, IsGoodChain}
 use Rattle.closed_family.specs.Chains.{IsAmong, IsPrefix, AreAmong, AreNamed}
 use borrow.Author.Tests.{ltb-true}
-use Rattle.closed_family.proofs.Tests.{checksum_eq-same, checksum_eq-itself, or_cases, or_left, or_right, and_both}
+use Rattle.closed_family.proofs.Names.{checksum_eq-same, checksum_eq-itself, or_cases, or_left, or_right, and_both}
 use Rattle.closed_family.proofs.Chains.{HasLast, from_the_end, last_of-push, last_name-push, not_empty, push_injective, append-none, prefix_of_push, empty_prefix}
 
 -- each entry names the one before it

@@ -9,7 +9,7 @@ use Rattle.bill_diary.specs.declared.record.Record.{Record}
 use Rattle.bill_diary.specs.Place.{is_left, is_over, is_settled, is_regained, taken_chains}
 use Rattle.closed_family.specs.Chains.{IsAmong, AreAmong, AreNamed}
 use Rattle.closed_family.specs.Histories.{is_signed, PartedOn}
-use Rattle.closed_family.proofs.Tests.{false_unless, none_of_three, Passes, passing_item}
+use Rattle.closed_family.proofs.Names.{false_unless, none_of_three, Passes, passing_item}
 use Rattle.closed_family.proofs.Chains.{HasLast, from_the_end, prefix_length, push_length, prefix_trans}
 use Rattle.closed_family.proofs.Linked.{IsLinked, linked_front, linked_same, linked_prefix, among_front, among_last, prefix_among, HasEntry, entry_of_chain}
 use Rattle.closed_family.proofs.Places.{left_push}

@@ -14,7 +14,7 @@ use Rattle.bill_diary.specs.Sound.{IsSoundHistory}
 use Rattle.closed_family.specs.Chains.{IsAmong, AreAmong}
 use Rattle.closed_family.specs.Histories.{is_signed, links_of}
 use Rattle.closed_family.specs.Family.{IsTextOf}
-use Rattle.closed_family.proofs.Tests.{checksum_eq-same}
+use Rattle.closed_family.proofs.Names.{checksum_eq-same}
 
 -- ---- items of lists
 

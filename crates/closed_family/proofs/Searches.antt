@@ -64,7 +64,8 @@ any-reverse p (x ∷ xs) =
 -- a search in a bill's history is one in the frames, in any order
 pub any-history : (p : Record → Bool) (bill : Checksum) (diary : List Frame)
     → list_any p (history bill diary)
-    ≡ list_any (λ (frame : Frame). list_any (λ (r : Record). checksum_eq (bill_of r) bill && p r) (records_of frame)) diary
+    ≡ list_any
+    (λ (frame : Frame). list_any (λ (r : Record). checksum_eq (bill_of r) bill && p r) (records_of frame)) diary
 any-history p bill diary =
     any-filter p (λ (r : Record). checksum_eq (bill_of r) bill) (newest_first diary)
     ∙ any-reverse (λ (r : Record). checksum_eq (bill_of r) bill && p r) (flat_map records_of diary)
@@ -72,7 +73,8 @@ any-history p bill diary =
 
 -- the history of a bill on a platform is that in the member that is found
 pub histories_of-find : (bill : Checksum) (family : List Member) (p : PlatformCode)
-    → histories_of bill family p ≡ option_map_or (history_in bill) (find (λ (m : Member). code_eq m.platform p) family) []
+    → histories_of bill family p ≡ option_map_or (history_in bill)
+    (find (λ (m : Member). code_eq m.platform p) family) []
 histories_of-find bill [] p = refl
 histories_of-find bill (m ∷ ms) p = on_test (code_eq m.platform p) (histories_of-find bill ms p)
   where

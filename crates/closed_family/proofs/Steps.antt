@@ -24,7 +24,7 @@ use Rattle.bill_diary.specs.Receiving.{continues}
 use Rattle.bill_diary.specs.Sound.{MaySign, MayAct, MayPart, IsParting, MayTake, is_parted}
 use Rattle.closed_family.specs.Chains.{IsAmong, IsPrefix, AreAmong, AreNamed}
 use Rattle.closed_family.specs.Histories.{is_signed, PartedOn}
-use Rattle.closed_family.proofs.Tests.{checksum_eq-same, checksum_eq-itself, checksum_eq-of, or_cases, or_left, or_right, not_both}
+use Rattle.closed_family.proofs.Names.{checksum_eq-same, checksum_eq-itself, checksum_eq-of, or_cases, or_left, or_right, not_both}
 use Rattle.closed_family.proofs.Chains.{HasLast, from_the_end, prefix_of, prefix_trans, push_prefix, prefix_length, push_length}
 use Rattle.closed_family.proofs.Linked.{among_append, has_entry-prefix, GoesBeyond, beyond}
 use Rattle.closed_family.proofs.Places.{longer_new, no_parting, still_parting, parting_over, parting_is_open, closed_cases, place_held, place_parting, place_gone, left_push}

@@ -27,7 +27,8 @@ use Rattle.closed_family.proofs.Behind.{newest_first-append}
 use Rattle.closed_family.proofs.Families.{links_in, link_among, links_named}
 use Rattle.closed_family.proofs.Complete.{place_among}
 
-frame_there : (front : List Frame) (frame : Frame) (rest : List Frame) → AreFrames (front ++ frame ∷ rest) → IsFrame frame
+frame_there : (front : List Frame) (frame : Frame) (rest : List Frame) → AreFrames (front ++ frame ∷ rest)
+    → IsFrame frame
 frame_there [] frame rest are = are.0
 frame_there (f ∷ front) frame rest are = frame_there front frame rest are.1
 
@@ -53,7 +54,8 @@ module _ (family : List Member) (F : IsSoundFamily family) (D : HasDistinctNames
       let whole : history_in bill m ≡ history bill (One r ∷ rest) ++ h
       = history_is r among ∙ ap (history bill) parts ∙ history-append front (One r ∷ rest) bill in
       let all : AreAmong (links_of (history_in bill m)) (links_in bill family)
-      = all_among (links_of (history_in bill m)) (links_in bill family) (λ link a. link_among bill family m listed link a) in
+      = all_among (links_of (history_in bill m)) (links_in bill family)
+      (λ link a. link_among bill family m listed link a) in
       let before : AreAmong (links_of h) (links_in bill family)
       = after (history bill (One r ∷ rest)) h (links_in bill family)
       (subst (λ (x : List Record). AreAmong (links_of x) (links_in bill family)) whole all) in

@@ -195,8 +195,8 @@ fn first_in_diaries(
     Ok(None)
 }
 
-/// The first record that a sound family lacks, in the order of the family: by platform, shard, frame and record, and for
-/// a chain from its first entry on. `None` exactly where the family is closed.
+/// The first record that a sound family lacks, in the order of the family: by platform, shard, frame and record, and
+/// for a chain from its first entry on. `None` exactly where the family is closed.
 ///
 /// It takes a family whose texts have distinct names. For each Settled and Regained it works out the bill's place anew.
 pub fn first_lacking(alloc: Global, family: &Family) -> Result<Option<Lacking>, NoMemory>

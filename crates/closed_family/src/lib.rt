@@ -17,3 +17,6 @@ pub use laws::{
     known_chain_stays_a_prefix, nobody_acts_on_an_ended_bill,
 };
 pub use verdict::{Lack, Verdict};
+
+#[cfg(test)]
+mod tests;

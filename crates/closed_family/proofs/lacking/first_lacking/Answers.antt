@@ -25,13 +25,15 @@ first_in_diaries-requires c =
 pub returns-in-Some-clause-first : goal.returns-in-Some-clause-first
 returns-in-Some-clause-first c =
     let family = c.args.family.now in
-    let Of : List (List Frame) → List Lacking = λ ds. flat_map (λ (d : List Frame). lacking_in family (newest_first d)) ds in
+    let Of : List (List Frame)
+    → List Lacking = λ ds. flat_map (λ (d : List Frame). lacking_in family (newest_first d)) ds in
     let items = c.as_slice-member-items.result.now in
     let member = c.member-item.result in
     sym (c.loop-member.invariant
     ∙ flat_first (λ (m : Member). Of m.diaries) items c.loop-member.member-index member c.in-Some.found
     c.loop-member-test.true c.member-item.is
-    (ap (λ (ds : List (List Frame)). first_of (Of ds)) (sym c.as_slice.ensures) ∙ sym c.in_ok-found.ensures ∙ c.in-Some.is))
+    (ap (λ (ds : List (List Frame)). first_of (Of ds)) (sym c.as_slice.ensures) ∙ sym c.in_ok-found.ensures
+    ∙ c.in-Some.is))
 
 pub returns-in-Some-clause-closed : goal.returns-in-Some-clause-closed
 returns-in-Some-clause-closed c =
@@ -40,7 +42,10 @@ returns-in-Some-clause-closed c =
 pub returns-clause-closed : goal.returns-clause-closed
 returns-clause-closed c =
     let family = c.args.family.now in
-    let Of : List (List Frame) → List Lacking = λ ds. flat_map (λ (d : List Frame). lacking_in family (newest_first d)) ds in
+    let Of : List (List Frame)
+    → List Lacking = λ ds. flat_map (λ (d : List Frame). lacking_in family (newest_first d)) ds in
     closed_iff family c.requires.sound None
     (sym (c.loop-member.invariant
-    ∙ first_of_none (λ (m : Member). Of m.diaries) c.as_slice-member-items.result.now c.loop-member.member-index c.loop-member-test.false))
+    ∙ first_of_none
+    (λ (m : Member). Of m.diaries) c.as_slice-member-items.result.now c.loop-member.member-index
+    c.loop-member-test.false))

@@ -16,7 +16,8 @@ returns-in-Parting c =
     let fronts : c.requires.known ≡ c.in-Parting.known = cc there in
     let links : c.requires.link ≡ c.in-Parting.link = cc there in
     if_ok-same c.unanswered_at.result _ _
-    (ap first_of (unanswered-parts Stands c.args.what (settled_chain c.args.entry (history c.args.bill c.args.front.now))
+    (ap first_of
+    (unanswered-parts Stands c.args.what (settled_chain c.args.entry (history c.args.bill c.args.front.now))
     c.requires.known c.in-Parting.known c.requires.link c.in-Parting.link c.in_ok-to-in-Parting.to
     c.requires.told fronts links c.in_ok-to-in-Parting.ensures))
     c.unanswered_at.ensures

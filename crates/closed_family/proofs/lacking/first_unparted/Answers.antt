@@ -8,7 +8,8 @@ use Rattle.closed_family.proofs.lacking.first_unparted.Goals as goal
 pub returns-then-not-stands : goal.returns-then-not-stands
 returns-then-not-stands c =
     let link = c.link-item.result in
-    ap (λ (t : SignedText). Some (record { platform = link.entry.platform; what = lacks.Parted; text = t })) c.in_ok-text.ensures
+    ap (λ (t : SignedText). Some (record { platform = link.entry.platform; what = lacks.Parted; text = t }))
+    c.in_ok-text.ensures
     ∙ sym (unparted-lacks (histories_of c.args.bill c.args.family.now) c.args.chain.now c.loop-link.link-index link
     c.loop-link-test.true c.link-item.is (sym c.stands.ensures ∙ c.if-not-stands.true))
     ∙ sym c.loop-link.invariant

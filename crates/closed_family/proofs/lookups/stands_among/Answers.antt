@@ -11,6 +11,7 @@ use Rattle.closed_family.proofs.lookups.stands_among.Goals as goal
 pub returns : goal.returns
 returns c =
     let Said : Frame → Bool
-    = λ frame. list_any (λ (r : Record). checksum_eq (bill_of r) c.args.bill && says c.args.what c.args.entry r) (records_of frame) in
+    = λ frame. list_any (λ (r : Record). checksum_eq (bill_of r) c.args.bill && says c.args.what c.args.entry r)
+    (records_of frame) in
     c.is_said_by_any.ensures ∙ ap (list_any Said) c.as_slice.ensures
     ∙ sym (any-history (says c.args.what c.args.entry) c.args.bill c.args.diary.now)
