@@ -1,5 +1,5 @@
 -- The records of one bill in a sound diary are sound by themselves.
-use Rattle.std.proofs.Common.{◌≡◌, Bool, true, false, ◌||◌, cond, reverse, List, [], ◌∷◌, ◌++◌, refl, ap, sym, subst, ◌∙◌}
+use Rattle.std.proofs.Common.{◌≡◌, Bool, true, false, ◌||◌, cond, reverse, List, [], ◌∷◌, ◌++◌, refl, ap, subst, ◌∙◌}
 use Rattle.std.specs.List.{list_any, filter, flat_map}
 use Rattle.std.proofs.lemmas.Bool.{or_parts}
 use Rattle.std.proofs.lemmas.List.{reverse-append}
@@ -14,7 +14,7 @@ use Rattle.bill_diary.specs.declared.record.Record.{Record}
 use Rattle.bill_diary.specs.declared.record.Record.TheVariants.{Signed, Acted, Attached, Parted, Settled, Regained, Begun, Stored, Taken, Declined}
 use Rattle.bill_diary.specs.declared.frame.Frame.{Frame}
 use Rattle.bill_diary.specs.History.{bill_of, records_of, newest_first, of_bill, history}
-use Rattle.bill_diary.specs.Sound.{MayReceive, MayFollow, AreSound, AreFrames, IsSound, IsSoundDiary, IsSoundHistory, IsSoundForSome}
+use Rattle.bill_diary.specs.Sound.{MayReceive, MayFollow, AreSound, AreFrames, IsSound, IsSoundHistory}
 
 none_kept_on : (test : Record → Bool) (r : Record) (kept : List Record) (keeps : Bool)
     → test r ≡ false → list_any test kept ≡ false → list_any test (cond keeps (r ∷ kept) kept) ≡ false
@@ -101,17 +101,6 @@ sound_alone me bill (r ∷ records) sound =
 pub history_of_sound : (me : PlatformCode) (diary : List Frame) (bill : Checksum)
     → IsSound me diary → IsSoundHistory me (history bill diary)
 history_of_sound me diary bill sound = sound_alone me bill (newest_first diary) sound.records
-
--- and so for a diary that is sound for some platform
-pub history_is_sound : (diary : List Frame) (bill : Checksum) → IsSoundDiary diary
-    → IsSoundForSome (history bill diary)
-history_is_sound diary bill (me, sound) = (me, history_of_sound me diary bill sound)
-
--- the same of what equals the history
-pub sound_walk : (diary frames : List Frame) (bill : Checksum) (h : List Record)
-    → IsSoundDiary diary → frames ≡ diary → h ≡ history bill frames → IsSoundForSome h
-sound_walk diary frames bill h sound same is =
-    subst IsSoundForSome (ap (history bill) (sym same) ∙ sym is) (history_is_sound diary bill sound)
 
 -- ---- further frames
 

@@ -20,7 +20,7 @@ use Rattle.bill_diary.specs.declared.bill_place.BillPlace.TheVariants.{Held, Par
 use Rattle.bill_diary.specs.Known.{taken_chain, longer, longest, told, settled_chain, known}
 use Rattle.bill_diary.specs.Place.{is_settled, is_regained, is_over, taken_chains, last_parted, parting, is_left, since, place_with, place_of}
 use Rattle.bill_diary.specs.Receiving.{continues}
-use Rattle.bill_diary.specs.Sound.{IsParting, MayFollow, IsSoundHistory, IsSoundForSome}
+use Rattle.bill_diary.specs.Sound.{IsParting, MayFollow, IsSoundHistory}
 use Rattle.bill_diary.proofs.PlaceLemmas.{stands, WhereHeld, WhereParting, absent_knows_nothing, parting_is_last, last_is_parting, over_is_not_parting}
 
 -- the newest of some chains
@@ -243,28 +243,3 @@ settled_tells me bill entry h sound =
     let tells = settled_is_told bill entry h sound.0 (tells_known me h sound.1) in
     (tells_known me (Settled bill entry ∷ h) sound).newest_is
     ∙ ap (λ (o : Option (List ChainLink)). newest (option_to_list o ++ told h)) tells ∙ sym tells
-
--- ---- the same of a history that is sound for some platform
-
-pub sound_before : (r : Record) (h : List Record) → IsSoundForSome (r ∷ h) → IsSoundForSome h
-sound_before r h (me, sound) = (me, sound.1)
-
-pub signed-known : (bill : Checksum) (document : List ℕ) (t : Transaction) (h : List Record)
-    → IsSoundForSome (Signed bill document t ∷ h) → known (Signed bill document t ∷ h) ≡ Some []
-signed-known bill document t h (me, sound) = signed_tells me bill document t h sound
-
-pub taken-known : (bill entry : Checksum) (h : List Record)
-    → IsSoundForSome (Taken bill entry ∷ h) → known (Taken bill entry ∷ h) ≡ taken_chain entry h
-taken-known bill entry h (me, sound) = taken_tells me bill entry h sound
-
-pub settled-known : (bill entry : Checksum) (h : List Record)
-    → IsSoundForSome (Settled bill entry ∷ h) → known (Settled bill entry ∷ h) ≡ settled_chain entry h
-settled-known bill entry h (me, sound) = settled_tells me bill entry h sound
-
--- all of these
-pub ruleset walk_back = (
-  sound_before,
-  signed-known,
-  taken-known,
-  settled-known,
-)

@@ -251,7 +251,3 @@ IsSoundDiary diary = (me : PlatformCode) × IsSound me diary
 abbrev pub IsSoundHistory : PlatformCode → List Record → Type 0
 IsSoundHistory me [] = Unit {0}
 IsSoundHistory me (r ∷ h) = MayFollow me h h r × IsSoundHistory me h
-
--- they are sound for some platform
-abbrev pub IsSoundForSome : List Record → Type 0
-IsSoundForSome h = (me : PlatformCode) × IsSoundHistory me h
