@@ -2,8 +2,8 @@
 """How many appends a second a journal on a file makes, beside two bare syncs; and how long a full one takes to open.
 
 Builds journal_bench (the product's journal on a file) and sync_floor.c (the same two writes and two syncs, in C),
-runs both in turn on files in one folder, and prints appends a second, their ratio, and device flushes for each append
-where the system counts them. Then it fills a journal to 14 MB and times opening it beside reading and hashing the
+runs both in turn on files in one folder, and prints appends a second, the ratio of the two in one round (median, least
+and greatest), and device flushes for each append where the system counts them. Then it fills a journal to 14 MB and times opening it beside reading and hashing the
 same file. Words: the folder in which the files are made (the system's temporary folder otherwise).
 """
 import hashlib
@@ -18,7 +18,7 @@ import time
 HERE = os.path.dirname(os.path.abspath(__file__))
 TOP = os.path.join(HERE, "..")
 PROGRAM = os.path.join(TOP, "crates", "journal_bench", "out", "journal_bench")
-ROUNDS = 5
+ROUNDS = 7
 
 
 def seconds(words):
@@ -50,16 +50,18 @@ def appends(folder, floor, size, count):
     def theirs(n):
         return [floor, bare, str(size + 5), str(n)]
 
-    made, bared = [], []
-    before = flushes(folder)
+    made, bared, counted = [], [], []
     for _ in range(ROUNDS):
+        before = flushes(folder)
         made.append(count / timed_pair(ours, count))
-    after = flushes(folder)
-    for _ in range(ROUNDS):
+        after = flushes(folder)
+        counted.append(None if before is None or after is None else (after - before) / (3 * count))
         bared.append(count / timed_pair(theirs, count))
-    each = "" if before is None or after is None else "%.2f" % ((after - before) / (3 * count * ROUNDS))
-    ours_rate, bare_rate = statistics.median(made), statistics.median(bared)
-    print("| append of %d bytes | %.0f | %.0f | %.2f | %s |" % (size, ours_rate, bare_rate, ours_rate / bare_rate, each))
+    ratios = [ours_rate / bare_rate for ours_rate, bare_rate in zip(made, bared)]
+    each = "" if None in counted else "%.2f" % statistics.median(counted)
+    print("| append of %d bytes | %.0f | %.0f | %.2f (%.2f to %.2f) | %s |" % (
+        size, statistics.median(made), statistics.median(bared), statistics.median(ratios), min(ratios), max(ratios),
+        each))
 
 
 def timed_pair(make, count):
