@@ -1,16 +1,24 @@
 //! Values in and out of each form. In these texts `'` stands for `"`.
 use crate::*;
 use canonical_json::{Json, ReadError, read, write};
-use ebl_base::{ByteList, Checksum, Party, PlatformCode};
-use std::alloc::Global;
+use ebl_base::{ByteList, Checksum, NoMemory, Party, PlatformCode};
+use std::alloc::{AllocError, Global};
 use std::test::Fail;
 
-fn json(alloc: Global, text: &str) -> Result<Json, ReadError> {
+fn quoted(alloc: Global, text: &str) -> Result<Vec<u8>, AllocError> {
     let mut bytes = Vec::new(alloc);
-    for byte in text.as_bytes() {
-        bytes.push(if *byte == b'\'' { b'"' } else { *byte })?;
+    for byte in text.bytes() {
+        bytes.push(if byte == b'\'' { b'"' } else { byte })?;
     }
-    read(alloc, bytes.as_slice())
+    Ok(bytes)
+}
+
+// The value that a text is, with quotes for its apostrophes.
+fn json(alloc: Global, text: &str) -> Result<Json, ReadError> {
+    match quoted(alloc, text) {
+        Ok(bytes) => read(alloc, &bytes),
+        Err(_) => Err(ReadError::NoMemory),
+    }
 }
 
 #[test]
@@ -58,15 +66,15 @@ fn lists_of_a_stated_length(rt: HostRuntime) -> Result<(), Fail> {
     Ok(())
 }
 
-fn written(alloc: Global, checksums: &[Checksum]) -> Result<ByteList, Fail> {
-    let json = checksums_json(alloc, checksums).ok().ok_or("memory")?;
-    write(alloc, &json).ok().ok_or("memory".into())
+fn written(alloc: Global, checksums: &[Checksum]) -> Result<ByteList, NoMemory> {
+    let json = checksums_json(alloc, checksums)?;
+    write(alloc, &json)
 }
 
 #[test]
 fn checksums_there_and_back(rt: HostRuntime) -> Result<(), Fail> {
     let two = [Checksum([0; 32]), Checksum([255; 32])];
-    let text = written(rt.alloc(), &two)?;
+    let text = written(rt.alloc(), &two).ok().ok_or("memory")?;
     assert_eq!(rt; text.len(), 2 * 66 + 3);
     let list = read(rt.alloc(), text.as_slice()).ok().ok_or("json")?;
     let Json::List(items) = list else {
