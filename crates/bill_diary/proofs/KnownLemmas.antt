@@ -59,10 +59,6 @@ told_is_known told1 chains chain is nothing =
     let no : Some (longer chain (longest chains)) ≡ None = subst P is nothing in
     cc
 
-nothing_known : (chains : List (List ChainLink)) → longest chains ≡ None → chains ≡ []
-nothing_known [] h = refl
-nothing_known (chain ∷ chains) h = cc
-
 -- ---- a chain that may be received
 
 continues_on : (h : List Record) (known1 chain : List ChainLink) (left : Bool)
@@ -222,10 +218,6 @@ tells_known me [] sound = record {
 tells_known me (r ∷ h) sound = told_again me r h sound.0 (tells_known me h sound.1)
 
 -- ---- what each record tells of the known chain
-
-pub signed_tells : (me : PlatformCode) (bill : Checksum) (document : List ℕ) (t : Transaction) (h : List Record)
-    → IsSoundHistory me (Signed bill document t ∷ h) → known (Signed bill document t ∷ h) ≡ Some []
-signed_tells me bill document t h sound = (tells_known me (Signed bill document t ∷ h) sound).newest_is
 
 -- the chain of a Taken is the known one
 pub taken_tells : (me : PlatformCode) (bill entry : Checksum) (h : List Record)

@@ -241,10 +241,6 @@ pub record IsSound (me : PlatformCode) (diary : List Frame) : Type 0 where
   pub frames : AreFrames diary
   pub records : AreSound me (newest_first diary)
 
--- a diary is sound for some platform
-abbrev pub IsSoundDiary : List Frame → Type 0
-IsSoundDiary diary = (me : PlatformCode) × IsSound me diary
-
 -- ---- the history of one bill
 
 -- the records of one bill, newest first, are sound by themselves

@@ -51,10 +51,10 @@ pub record IsDocumentOf (bill : Checksum) (text : List ℕ) : Type 0 where
   pub names : bill_of document ≡ bill
 
 -- the text is the canonical text of a body with a document of this bill, this manifest's text, and the texts of this
--- chain
+-- chain, and it reads as that body
 pub record IsBodyOf (bill : Checksum) (chain : List ChainLink) (manifest : Manifest) (body : List ℕ) : Type 0 where
   pub value : Value
-  pub lawful : IsLawful value
+  pub reads : Reads body value
   pub text_is : canon value ≡ body
   pub parts : BodyRecord
   pub reads_as : body_of value ≡ Ok parts

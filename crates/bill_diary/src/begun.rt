@@ -1,7 +1,7 @@
 //! What came with a Begun.
 ghost use Rattle.std.specs.Prelude.{◌≡◌, MatchOption, None, Some, option_copied};
 ghost use Rattle.title_fold.specs.Chain.{ends_in, last_of};
-ghost use Rattle.bill_diary.specs.Known.{last_begun};
+ghost use Rattle.bill_diary.specs.Known.{last_begun, taken_chain};
 
 use crate::record::Record;
 use crate::walk::History;
@@ -33,6 +33,16 @@ pub(crate) fn last_begun<'a>(mut h: History<'a>, entry: Checksum) -> Option<Came
         }
     }
     None
+}
+
+/// The chain of a Taken of this entry, with the records before it: that of the last Begun that ends in the entry.
+pub fn taken_chain(before: History<'_>, entry: Checksum) -> Option<&Chain>
+    ensures { option_copied result ≡ taken_chain entry before.entry }
+{
+    match last_begun(before, entry) {
+        Some(came) => Some(came.chain),
+        None => None,
+    }
 }
 
 // Whether this is the name of a chain's last entry.

@@ -6,7 +6,7 @@ ghost use Rattle.bill_diary.specs.Place.{is_left, place_of};
 
 use crate::begun::last_of;
 use crate::frame::{Diary, Frame};
-use crate::known::known;
+use crate::known::known_chain;
 use crate::parting::{is_settled, parting};
 use crate::since::since;
 use crate::walk::History;
@@ -44,7 +44,7 @@ pub fn place(alloc: Global, d: &Diary, bill: Checksum) -> Result<BillPlace, NoMe
     ensures { IfOk result (λ place. place ≡ place_of (history bill d.now)) }
 {
     let frames = d.as_slice();
-    let Some(chain) = known(alloc, History::of(frames, bill))? else {
+    let Some(chain) = known_chain(alloc, History::of(frames, bill))? else {
         return Ok(BillPlace::Absent);
     };
     place_with(alloc, frames, bill, chain)

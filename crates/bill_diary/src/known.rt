@@ -1,17 +1,18 @@
-//! The known chain of a bill.
-ghost use Rattle.std.specs.Prelude.{◌≡◌, IfOk, map};
-ghost use Rattle.bill_diary.specs.Known.{known};
+//! The known chain of a bill, and the chain that a Settled tells.
+ghost use Rattle.std.specs.Prelude.{◌≡◌, ◌∷◌, [], ◌++◌, IfOk, map, option_map};
+ghost use Rattle.bill_diary.specs.Known.{known, settled_chain};
 
 use crate::record::Record;
 use crate::told::Told;
 use crate::walk::History;
-use ebl_base::{Chain, NoMemory};
+use ebl_base::{Chain, ChainLink, Checksum, Copied, NoMemory};
 use std::alloc::Global;
 
-/// The known chain of a bill.
+/// The known chain of a bill by what is left of its history: the longest of the chains that the records tell, of
+/// equally long ones the last. `None` where neither a Signed nor a Taken is left.
 ///
 /// It goes over the history twice, and keeps references to its chains and the entries that were parted.
-pub(crate) fn known(alloc: Global, h: History) -> Result<Option<Chain>, NoMemory>
+pub fn known_chain(alloc: Global, h: History) -> Result<Option<Chain>, NoMemory>
     ensures { IfOk result (λ chain. chain ≡ known h.entry) }
 {
     let mut left = records(alloc, h)?;
@@ -31,4 +32,38 @@ fn records<'a>(alloc: Global, mut h: History<'a>) -> Result<Vec<&'a Record>, NoM
         records.push(record)?;
     }
     Ok(records)
+}
+
+/// The chain that a Settled of this entry tells, with the records before it: the known chain before the last Parted of
+/// the entry, followed by the entry. `None` where the entry wasn't parted, or no chain was known then.
+pub fn settled_chain(
+    alloc: Global,
+    mut before: History,
+    entry: Checksum,
+) -> Result<Option<Chain>, NoMemory>
+    ensures { IfOk result (λ chain. chain ≡ settled_chain entry before.entry) }
+{
+    while let Some(record) = before.next() {
+        if let Record::Parted { link, .. } = record {
+            if link.name == entry {
+                return with_link(alloc, known_chain(alloc, before)?, link);
+            }
+        }
+    }
+    Ok(None)
+}
+
+// A chain, where there is one, followed by one link more.
+fn with_link(
+    alloc: Global,
+    known: Option<Chain>,
+    link: &ChainLink,
+) -> Result<Option<Chain>, NoMemory>
+    ensures { IfOk result (λ chain. chain ≡ option_map (λ chain. chain ++ link.now ∷ []) known) }
+{
+    let Some(mut chain) = known else {
+        return Ok(None);
+    };
+    chain.push(link.copy(alloc)?)?;
+    Ok(Some(chain))
 }

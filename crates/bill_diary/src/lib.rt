@@ -18,8 +18,10 @@ mod told;
 mod walk;
 
 pub use acting::may_act;
+pub use begun::taken_chain;
 pub use bill_place::{BillPlace, place};
 pub use frame::{Diary, Frame};
+pub use known::{known_chain, settled_chain};
 pub use laws::{
     frames_of_other_bills_change_nothing, front_of_sound_diary_is_sound,
     history_of_sound_diary_is_sound, known_chain_only_grows, place_is_what_stands,
@@ -27,3 +29,4 @@ pub use laws::{
 };
 pub use look_ups::{Declination, has_bytes, is_taken, last_declined};
 pub use record::Record;
+pub use walk::{History, Newest};

@@ -1,6 +1,9 @@
 //! Places of bills by short diaries. A number stands for the name of an entry; the texts are empty, since no place
 //! looks at them.
-use crate::{BillPlace, Diary, Frame, Record, has_bytes, is_taken, last_declined, may_act, place};
+use crate::{
+    BillPlace, Diary, Frame, History, Record, has_bytes, is_taken, known_chain, last_declined,
+    may_act, place, settled_chain, taken_chain,
+};
 use ebl_base::{
     Chain, ChainLink, Checksum, Code, Entry, Evidence, Items, Kind, Moment, NoMemory, Party,
     PlaceTag, Reason, SignedText, Transaction,
@@ -335,5 +338,31 @@ fn look_ups(rt: HostRuntime) -> Result<(), Fail> {
     );
     let stands = place(alloc, &d, BILL)?;
     assert_eq!(rt; shown(&stands), (PlaceTag::Absent, [0, 0], 0, 0, 0));
+    Ok(())
+}
+
+/// The chains that a history tells, by the ends of each: the known one, and those that a Taken and a Settled of an entry
+/// would tell.
+type Told = (Option<[u8; 2]>, Option<[u8; 2]>, Option<[u8; 2]>);
+
+fn told(alloc: Global, d: &Diary, n: u8) -> Result<Told, NoMemory> {
+    let history = History::of(d.as_slice(), BILL);
+    let taken = taken_chain(history.again(), name(n)).map(ends);
+    let settled = settled_chain(alloc, history.again(), name(n))?;
+    let known = known_chain(alloc, history)?;
+    Ok((known.as_ref().map(ends), taken, settled.as_ref().map(ends)))
+}
+
+#[test]
+fn chains_that_a_history_tells(rt: HostRuntime) -> Result<(), Fail> {
+    let alloc = rt.alloc();
+    let cast = players()?;
+    let mut d = Items::new(alloc);
+    assert_eq!(rt; told(alloc, &d, 1)?, (None, None, None));
+    d.push(cast.frame(alloc, Step::BegunTaken(1, 2))?)?;
+    assert_eq!(rt; told(alloc, &d, 2)?, (Some([1, 2]), Some([1, 2]), None));
+    d.push(cast.frame(alloc, Step::Parted(3))?)?;
+    assert_eq!(rt; told(alloc, &d, 3)?, (Some([1, 2]), None, Some([1, 3])));
+    assert_eq!(rt; told(alloc, &d, 4)?, (Some([1, 2]), None, None));
     Ok(())
 }

@@ -1,15 +1,15 @@
 //! The records of a diary, from the newest to the oldest.
 ghost use Rattle.std.specs.Prelude.{◌≡◌, [], ◌∷◌, MatchOption};
-ghost use Rattle.bill_diary.specs.History.{newest_first, history};
+ghost use Rattle.bill_diary.specs.History.{newest_first, of_bill, history};
 
 use crate::frame::Frame;
 use crate::record::Record;
 use ebl_base::Checksum;
 use std::marker::Model;
 
-/// What is left of a diary's records, newest first.
+/// What is left of a diary's records, newest first: behind a record that was handed out are those before it.
 #[derive(Drop)]
-pub(crate) struct Newest<'a> {
+pub struct Newest<'a> {
     frames: &'a [Frame],
     // The Begun of a frame whose Taken was handed out.
     begun: Option<&'a Record>,
@@ -28,7 +28,8 @@ impl<'a> Model for Newest<'a> {
 }
 
 impl<'a> Newest<'a> {
-    pub(crate) fn of(frames: &'a [Frame]) -> Self
+    /// All records of these frames.
+    pub fn of(frames: &'a [Frame]) -> Self
         ensures { result ≡ newest_first frames.now }
     {
         Newest {
@@ -38,7 +39,7 @@ impl<'a> Newest<'a> {
     }
 
     /// The newest record that is left.
-    pub(crate) fn next(&mut self) -> Option<&'a Record>
+    pub fn next(&mut self) -> Option<&'a Record>
         ensures { MatchOption result (self.old ≡ []) (λ «record». self.old ≡ «record».now ∷ self.new) }
     {
         if let Some(record) = self.begun {
@@ -55,11 +56,24 @@ impl<'a> Newest<'a> {
             }
         }
     }
+
+    /// What is left of a bill's records.
+    pub fn of_bill(&self, bill: Checksum) -> History<'a>
+        ensures { result ≡ of_bill bill self.now }
+    {
+        History {
+            records: Newest {
+                frames: self.frames,
+                begun: self.begun,
+            },
+            bill,
+        }
+    }
 }
 
-/// What is left of a bill's history, newest first.
+/// What is left of a bill's history, newest first: behind a record that was handed out are those before it.
 #[derive(Drop)]
-pub(crate) struct History<'a> {
+pub struct History<'a> {
     records: Newest<'a>,
     bill: Checksum,
 }
@@ -75,8 +89,8 @@ impl<'a> Model for History<'a> {
 }
 
 impl<'a> History<'a> {
-    /// The whole history of a bill.
-    pub(crate) fn of(frames: &'a [Frame], bill: Checksum) -> Self
+    /// The whole history of a bill in these frames.
+    pub fn of(frames: &'a [Frame], bill: Checksum) -> Self
         ensures { result ≡ history bill frames.now }
     {
         History {
@@ -86,7 +100,7 @@ impl<'a> History<'a> {
     }
 
     /// The newest record that is left.
-    pub(crate) fn next(&mut self) -> Option<&'a Record>
+    pub fn next(&mut self) -> Option<&'a Record>
         ensures { MatchOption result (self.old ≡ []) (λ «record». self.old ≡ «record».now ∷ self.new) }
     {
         while let Some(record) = self.records.next() {
@@ -98,15 +112,9 @@ impl<'a> History<'a> {
     }
 
     /// The same records once more, for a search that goes its own way.
-    pub(crate) fn again(&self) -> History<'a>
+    pub fn again(&self) -> History<'a>
         ensures { result ≡ self.now }
     {
-        History {
-            records: Newest {
-                frames: self.records.frames,
-                begun: self.records.begun,
-            },
-            bill: self.bill,
-        }
+        self.records.of_bill(self.bill)
     }
 }

@@ -36,10 +36,6 @@ not_empty [] e h = cc
 not_empty (x ∷ xs) e h = cc
 
 -- the parts of equal lists are equal
-tail_of : List ChainLink → List ChainLink
-tail_of [] = []
-tail_of (x ∷ xs) = xs
-
 pub push_injective : (a b : List ChainLink) (e f : ChainLink) → a ++ e ∷ [] ≡ b ++ f ∷ [] → (a ≡ b) × (e ≡ f)
 push_injective [] [] e f h = (refl, cc)
 push_injective [] (y ∷ ys) e f h = absurd (not_empty ys f (tails h))

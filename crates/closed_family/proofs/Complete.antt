@@ -1,6 +1,6 @@
 -- A sound family lacks nothing exactly where it is closed.
 use Rattle.std.proofs.Common.{◌≡◌, ℕ, zero, suc, Bool, true, false, cond, List, [], ◌∷◌, ◌++◌, refl, sym, ap, subst, ◌∙◌, inl, inr}
-use Rattle.std.specs.Prelude.{◌↔◌, ◌⊎◌, Option, Some, None, slice_get, option_and_then, IfSome}
+use Rattle.std.specs.Prelude.{◌⊎◌, Option, Some, None, slice_get, option_and_then, IfSome}
 use Rattle.std.specs.List.{flat_map}
 use Rattle.std.specs.Option.{option_map_or}
 use Rattle.ebl_base.specs.Checksum.{checksum_eq}
@@ -246,15 +246,6 @@ closed_is_complete family sound closed =
         (option_map_or (history (bill_of r)) o []))
         there (closed (bill_of r) m listed)
 
-none_of_first : (xs : List Lacking) → first_of xs ≡ None → xs ≡ []
+pub none_of_first : (xs : List Lacking) → first_of xs ≡ None → xs ≡ []
 none_of_first [] h = refl
 none_of_first (x ∷ xs) h = cc
-
--- nothing is found first exactly where the family is closed
-pub closed_iff : (family : List Member) → IsSoundFamily family → (found : Option Lacking)
-    → found ≡ first_of (lacking family)
-    → (found ≡ None) ↔ IsClosedFamily family
-closed_iff family sound found first = (
-  λ none. complete_is_closed family (none_of_first (lacking family) (sym first ∙ none)),
-  λ closed. first ∙ ap first_of (closed_is_complete family sound closed),
-)

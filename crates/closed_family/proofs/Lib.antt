@@ -19,6 +19,7 @@ pub mod Complete
 pub mod Ended
 pub mod Searches
 pub mod Lacks
-pub mod Frames
-pub mod Behind
-pub mod Tells
+pub mod Bodies
+pub mod SharedNames
+pub mod FamilyTexts
+pub mod Verdicts

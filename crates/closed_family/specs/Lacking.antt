@@ -1,17 +1,13 @@
 -- The records that a family lacks: those that other records need, in the order of the family.
-use Rattle.std.specs.Prelude.{◌≡◌, Bool, true, ◌&&◌, List, [], ◌∷◌, ◌++◌, Option, Some, None, if◌then◌else◌}
+use Rattle.std.specs.Prelude.{Bool, List, [], ◌∷◌, ◌++◌, Option, Some, None, if◌then◌else◌}
 use Rattle.std.specs.List.{flat_map}
-use Rattle.std.specs.Option.{option_or}
-use Rattle.ebl_base.specs.Checksum.{checksum_eq}
 use Rattle.ebl_base.specs.declared.checksum.Checksum.{Checksum}
 use Rattle.ebl_base.specs.declared.chain.ChainLink.{ChainLink}
 use Rattle.ebl_base.specs.declared.platform_code.PlatformCode.{PlatformCode}
-use Rattle.title_fold.specs.Chain.{last_of, ends_in, destination}
-use Rattle.bill_diary.specs.declared.frame.Frame.{Frame}
-use Rattle.bill_diary.specs.declared.frame.Frame.TheVariants.{One, BegunTaken}
+use Rattle.title_fold.specs.Chain.{last_of, destination}
 use Rattle.bill_diary.specs.declared.record.Record.{Record}
 use Rattle.bill_diary.specs.declared.record.Record.TheVariants as records
-use Rattle.bill_diary.specs.History.{bill_of, newest_first, of_bill, history}
+use Rattle.bill_diary.specs.History.{bill_of, newest_first, of_bill}
 use Rattle.bill_diary.specs.Known.{taken_chain, settled_chain}
 use Rattle.bill_diary.specs.Receiving.{takes, declines, is_taken, is_declined}
 use Rattle.closed_family.specs.declared.family.Member.{Member}
@@ -19,21 +15,8 @@ use Rattle.closed_family.specs.declared.lacking.Lacking.{Lacking}
 use Rattle.closed_family.specs.declared.verdict.Lack.{Lack}
 use Rattle.closed_family.specs.declared.verdict.Lack.TheVariants as lacks
 use Rattle.closed_family.specs.Histories.{parts, is_parted}
-use Rattle.bill_diary.specs.declared.bill_place.BillPlace.TheVariants.{Parting}
-use Rattle.bill_diary.specs.Place.{place_of}
 use Rattle.closed_family.specs.Closed.{Histories}
 use Rattle.closed_family.specs.Family.{histories_of}
-
--- the chain of a record that is a Begun of the bill and ends in this entry
-abbrev pub chain_in : Checksum → Checksum → Record → Option (List ChainLink)
-chain_in bill entry (records.Begun other chain manifest body) =
-    if checksum_eq other bill && ends_in entry chain then Some chain else None
-chain_in bill entry r = None
-
--- the same in a frame, of whose records the later one counts first
-abbrev pub chain_in_frame : Checksum → Checksum → Frame → Option (List ChainLink)
-chain_in_frame bill entry (One r) = chain_in bill entry r
-chain_in_frame bill entry (BegunTaken begun taken) = option_or (chain_in bill entry taken) (chain_in bill entry begun)
 
 -- whether a record is the one that says this of an entry
 abbrev pub says : Lack → Checksum → Record → Bool
@@ -92,37 +75,3 @@ lacking_in family (r ∷ before) =
 abbrev pub lacking : List Member → List Lacking
 lacking family =
     flat_map (λ member. flat_map (λ diary. lacking_in family (newest_first diary)) member.diaries) family
-
--- ---- what a sound diary tells where a record needs another
-
--- the bill is parting, and the chain that was parted is the known one, followed by the entry that is parting
-pub record TellsParting (entry : Checksum) (h : List Record) : Type 0 where
-  pub known : List ChainLink
-  pub link : ChainLink
-  pub place : place_of h ≡ Parting known link
-  pub told : settled_chain entry h ≡ Some (known ++ link ∷ [])
-
--- so it is before a Settled and before a Regained
-abbrev pub TellsNeeded : List Frame → Record → Type 0
-TellsNeeded front (records.Settled bill entry) = TellsParting entry (history bill front)
-TellsNeeded front (records.Regained bill entry) = TellsParting entry (history bill front)
-TellsNeeded front r = Unit {0}
-
--- and a Taken in the frame of its Begun is that of its chain's last entry
-abbrev pub TellsFrame : List Frame → Frame → Type 0
-TellsFrame front (One r) = TellsNeeded front r
-TellsFrame front (BegunTaken (records.Begun bill chain manifest body) (records.Taken same entry)) =
-    (same ≡ bill) × (ends_in entry chain ≡ true)
-TellsFrame front (BegunTaken begun taken) = ⊥
-
--- each frame of a diary tells so, behind those before it
-abbrev pub TellsAll : List Frame → Type 0
-TellsAll diary = (front : List Frame) (frame : Frame) (rest : List Frame) → diary ≡ front ++ frame ∷ rest
-    → TellsFrame front frame
-
--- what a frame needs and lacks, behind the front of a diary
-abbrev pub lacking_frame : List Member → List Frame → Frame → List Lacking
-lacking_frame family front (One r) = lacking_of (histories_of (bill_of r) family) (history (bill_of r) front) r
-lacking_frame family front (BegunTaken begun taken) =
-    lacking_of (histories_of (bill_of begun) family) (history (bill_of begun) front) begun
-    ++ lacking_of (histories_of (bill_of taken) family) (of_bill (bill_of taken) (begun ∷ newest_first front)) taken

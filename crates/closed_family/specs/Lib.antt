@@ -4,4 +4,7 @@ pub mod Closed
 pub mod Safe
 pub mod Family
 pub mod Lacking
+pub mod Texts
+pub mod Bytes
+pub mod Survey
 pub mod Later

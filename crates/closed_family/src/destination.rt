@@ -1,22 +1,20 @@
 //! Where a chain moves possession.
-ghost use Rattle.std.specs.Prelude.{◌≡◌, [], ◌∷◌, ◌++◌, IfOk};
+ghost use Rattle.std.specs.Prelude.{◌≡◌, IfOk};
 ghost use Rattle.title_fold.specs.Chain.{destination, transactions_of, platform_with};
 ghost use Rattle.title_fold.specs.Fold.{fold};
 
-use ebl_base::{Chain, ChainLink, NoMemory, PlatformCode, Transaction};
+use ebl_base::{ChainLink, NoMemory, PlatformCode, Transaction};
 use std::alloc::Global;
 use title_fold::{fold, possessor};
 
-/// Where a chain moves possession, that is followed by one link more: the possessor's platform after it.
+/// Where a chain moves possession: the possessor's platform after it.
 pub(crate) fn destination(
     alloc: Global,
-    front: &Chain,
-    last: &ChainLink,
+    chain: &[ChainLink],
 ) -> Result<Option<PlatformCode>, NoMemory>
-    ensures { IfOk result (λ to. to ≡ destination (front.now ++ last.now ∷ [])) }
+    ensures { IfOk result (λ to. to ≡ destination chain.now) }
 {
-    let mut transactions = transactions_of(alloc, front.as_slice())?;
-    transactions.extend_from_slice(last.entry.transactions.as_slice())?;
+    let transactions = transactions_of(alloc, chain)?;
     Ok(platform_after(&transactions))
 }
 

@@ -1,21 +1,23 @@
 //! Families of diaries: the finished diaries of all platforms together, and why a closed family is safe.
 #![tactic(auto)]
 
-mod begun;
 mod destination;
 mod family;
 mod lacking;
 mod laws;
 mod lookups;
+mod shared;
+mod surveying;
+mod texts;
 mod verdict;
 
 pub use family::{DiaryList, Family, Member};
-pub use lacking::{Lacking, first_lacking};
 pub use laws::{
     closed_family_is_safe, closed_family_lacks_nothing, earlier_parted_entry_was_regained,
     ended_bill_stays, ended_bill_stays_in_later_families, grounded_chain_continues_the_place,
     known_chain_stays_a_prefix, nobody_acts_on_an_ended_bill,
 };
+pub use surveying::survey;
 pub use verdict::{Lack, Verdict};
 
 #[cfg(test)]

@@ -1,15 +1,13 @@
 //! Which records stand in the diaries of a family.
-ghost use Rattle.std.specs.Prelude.{◌≡◌, ◌&&◌, find, option_copied};
+ghost use Rattle.std.specs.Prelude.{◌≡◌, find, option_copied};
 ghost use Rattle.std.specs.List.{list_any};
-ghost use Rattle.ebl_base.specs.Checksum.{checksum_eq};
 ghost use Rattle.ebl_base.specs.PlatformCode.{code_eq};
-ghost use Rattle.bill_diary.specs.History.{bill_of, history, records_of};
 ghost use Rattle.closed_family.specs.Family.{histories_of, history_in, shard_of};
 ghost use Rattle.closed_family.specs.Lacking.{says};
 
 use crate::family::{Family, Member};
 use crate::verdict::Lack;
-use bill_diary::{Diary, Frame, Record};
+use bill_diary::{History, Record};
 use ebl_base::{Checksum, PlatformCode};
 
 /// Whether a platform's diary of the bill has the record that says this of an entry.
@@ -41,7 +39,7 @@ fn stands_in(member: &Member, bill: Checksum, what: Lack, entry: Checksum) -> bo
     ensures { result ≡ list_any (says what entry) (history_in bill member.now) }
 {
     match member.diaries.as_slice().get(shard_of(bill)) {
-        Some(diary) => stands_among(diary, bill, what, entry),
+        Some(diary) => is_said(History::of(diary.as_slice(), bill), what, entry),
         None => false,
     }
 }
@@ -53,39 +51,16 @@ fn shard_of(bill: Checksum) -> usize
     (bill.0[0] % 16) as usize
 }
 
-// The same in a diary.
-#[tactic(auto, using(crate::proofs::Searches::searches))]
-fn stands_among(diary: &Diary, bill: Checksum, what: Lack, entry: Checksum) -> bool
-    ensures { result ≡ list_any (says what entry) (history bill diary.now) }
+// Whether a record of a history says this of the entry.
+fn is_said(mut h: History, what: Lack, entry: Checksum) -> bool
+    ensures { result ≡ list_any (says what entry) h.entry }
 {
-    is_said_by_any(diary.as_slice(), bill, what, entry)
-}
-
-// Whether a record of some frame says this of the entry, for the bill.
-fn is_said_by_any(frames: &[Frame], bill: Checksum, what: Lack, entry: Checksum) -> bool
-    ensures { result ≡ list_any
-        (λ frame. list_any (λ r. checksum_eq (bill_of r) bill && says what entry r) (records_of frame)) frames.now }
-{
-    frames.iter().any(|frame| is_said(frame, bill, what, entry))
-}
-
-// Whether a record of a frame says this of the entry, for the bill.
-fn is_said(frame: &Frame, bill: Checksum, what: Lack, entry: Checksum) -> bool
-    ensures { result ≡ list_any (λ r. checksum_eq (bill_of r) bill && says what entry r) (records_of frame.now) }
-{
-    match frame {
-        Frame::One(record) => is_it(record, bill, what, entry),
-        Frame::BegunTaken { begun, taken } => {
-            is_it(begun, bill, what, entry) || is_it(taken, bill, what, entry)
+    while let Some(record) = h.next() {
+        if says(record, what, entry) {
+            return true;
         }
     }
-}
-
-// Whether a record says this of the entry, for the bill.
-fn is_it(candidate: &Record, bill: Checksum, what: Lack, entry: Checksum) -> bool
-    ensures { result ≡ (checksum_eq (bill_of candidate.now) bill && says what entry candidate.now) }
-{
-    candidate.bill() == bill && says(candidate, what, entry)
+    false
 }
 
 // Whether a record says this of an entry.
