@@ -22,7 +22,7 @@ use Rattle.bill_diary.specs.Place.{place_of, title_at, is_ended, is_regained}
 use Rattle.bill_diary.specs.Receiving.{continues}
 use Rattle.bill_diary.specs.Sound.{IsSoundHistory}
 use Rattle.closed_family.specs.Chains.{IsPrefix, AreAmong, AreNamed}
-use Rattle.closed_family.specs.Histories.{PartedOn, links_of, KnowsBeyond}
+use Rattle.closed_family.specs.Histories.{PartedOn, WasAccepted, links_of, KnowsBeyond}
 use Rattle.closed_family.proofs.Chains.{prefix_itself, prefix_trans, push_prefix}
 use Rattle.closed_family.proofs.Linked.{among_rest}
 use Rattle.closed_family.proofs.Places.{place_held}
@@ -128,6 +128,22 @@ earlier_was_regained me bill link manifest text h K e sound named k parted =
       among = all_among (links_of (Parted bill link manifest text ∷ h))
           (links_of (Parted bill link manifest text ∷ h)) (λ x among. among);
     }) K e k parted
+
+-- the known chain on which an entry parts was accepted here
+pub parted_was_accepted : (me : PlatformCode) (bill : Checksum) (link : ChainLink) (manifest : Manifest)
+    (text : SignedText)
+    (h : List Record) (K : List ChainLink)
+    → IsSoundHistory me (Parted bill link manifest text ∷ h)
+    → AreNamed (links_of (Parted bill link manifest text ∷ h))
+    → known h ≡ Some K → WasAccepted K h
+parted_was_accepted me bill link manifest text h K sound named k =
+    let links = links_of (Parted bill link manifest text ∷ h) in
+    let among = all_among links links (λ x a. a) in
+    let may = sound.0 in
+    let there = stands_held links me h may.known may.since (stands_so links me named h sound.1 among.1) may.held in
+    let two = sym there.0.known_is ∙ k in
+    let same : may.known ≡ K = cc two in
+    subst (λ (c : List ChainLink). WasAccepted c h) same there.1.came
 
 -- ---- ended bills
 

@@ -7,7 +7,8 @@ use Rattle.ebl_base.specs.declared.chain.ChainLink.{ChainLink}
 use Rattle.bill_diary.specs.declared.record.Record.{Record}
 use Rattle.bill_diary.specs.declared.record.Record.TheVariants.{Signed, Parted, Begun}
 use Rattle.bill_diary.specs.Known.{known}
-use Rattle.closed_family.specs.Chains.{IsPrefix}
+use Rattle.bill_diary.specs.Place.{taken_chains}
+use Rattle.closed_family.specs.Chains.{IsAmong, IsPrefix}
 
 -- whether a record is the Signed of the bill
 abbrev pub signs : Record → Bool
@@ -33,6 +34,10 @@ PartedOn before entry [] = ⊥
 PartedOn before entry (Parted bill link manifest manifest_text ∷ h) =
     ((link ≡ entry) × (known h ≡ Some before)) ⊎ PartedOn before entry h
 PartedOn before entry (r ∷ h) = PartedOn before entry h
+
+-- a chain was accepted on the platform: the empty one where the bill was signed there, or one that was taken there
+abbrev pub WasAccepted : List ChainLink → List Record → Type 0
+WasAccepted chain h = ((chain ≡ []) × (is_signed h ≡ true)) ⊎ IsAmong chain (taken_chains h)
 
 -- the links of a history: those that parted here, and those of the chains that came here
 abbrev pub links_of : List Record → List ChainLink

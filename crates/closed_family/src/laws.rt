@@ -10,7 +10,7 @@ ghost use Rattle.bill_diary.specs.declared.bill_place.BillPlace.TheVariants.{Hel
 ghost use Rattle.title_fold.specs.Chain.{last_of, destination, IsGoodChain};
 ghost use Rattle.bill_diary.specs.Sound.{IsSoundHistory};
 ghost use Rattle.closed_family.specs.Chains.{AreNamed};
-ghost use Rattle.closed_family.specs.Histories.{PartedOn, links_of, KnowsBeyond};
+ghost use Rattle.closed_family.specs.Histories.{PartedOn, WasAccepted, links_of, KnowsBeyond};
 ghost use Rattle.closed_family.specs.Closed.{AreGrounded};
 ghost use Rattle.closed_family.specs.Lacking.{lacking};
 ghost use Rattle.closed_family.specs.Later.{IsLaterThan, IsEndedAt};
@@ -37,6 +37,16 @@ pub fn earlier_parted_entry_was_regained()
         → AreNamed (links_of (Parted bill link manifest text ∷ h))
         → known h ≡ Some K → PartedOn K e h
         → is_regained e.name h ≡ true }
+{}
+
+/// The chain on which a platform parts with a bill was accepted there before: it is the empty one of a bill that was
+/// signed there, or one that was taken there.
+pub fn parted_chain_was_accepted_before()
+    ensures { (me : PlatformCode) (bill : Checksum) (link : ChainLink) (manifest : Manifest) (text : SignedText)
+        → (h : List Record) (K : List ChainLink)
+        → IsSoundHistory me (Parted bill link manifest text ∷ h)
+        → AreNamed (links_of (Parted bill link manifest text ∷ h))
+        → known h ≡ Some K → WasAccepted K h }
 {}
 
 /// A bill that a platform holds, and whose title is ended, stays so whatever stands after it in a sound history: it is
