@@ -1,5 +1,6 @@
 -- Every legal diary is sound.
-use Rattle.std.proofs.Common.{◌≡◌, Bool, true, false, ◌||◌, cond, List, [], ◌∷◌, Option, Some, None, Ok, Err, refl, ap, sym, ◌∙◌}
+use Rattle.std.proofs.Common.{◌≡◌, ℕ, ◌≤◌, Bool, true, false, ◌||◌, cond, List, [], ◌∷◌, length, Option, Some, None, Ok, Err, refl, ap, sym, subst, ◌∙◌}
+use Rattle.std.proofs.lemmas.List.{length-map}
 use Rattle.ebl_base.specs.Checksum.{checksum_eq}
 use Rattle.ebl_base.specs.PlatformCode.{code_eq}
 use Rattle.ebl_base.specs.declared.chain.ChainLink.{ChainLink}
@@ -9,17 +10,22 @@ use Rattle.ebl_base.specs.declared.evidence.Evidence.{Evidence}
 use Rattle.ebl_base.specs.declared.party.Party.{Party}
 use Rattle.ebl_base.specs.declared.platform_code.PlatformCode.{PlatformCode}
 use Rattle.ebl_base.specs.declared.reason.Reason.{Reason}
+use Rattle.ebl_base.specs.declared.signed_text.SignedText.{SignedText}
 use Rattle.ebl_base.proofs.SameLemmas.{code_eq-Decides}
+use Rattle.document_checksum.specs.Digest.{checksum_of}
+use Rattle.signed_envelope.specs.Compact.{IsCompact}
 use Rattle.signed_envelope.specs.KeyRing.{Keys}
 use Rattle.envelope_manifest.specs.declared.manifest.Manifest.{Manifest}
 use Rattle.party_roster.specs.RosterRecord.{RosterRecord, knows}
 use Rattle.title_fold.specs.Title.{possessor}
 use Rattle.title_fold.specs.Fold.{Folded}
-use Rattle.title_fold.specs.Chain.{last_of, platform_with, title_after_chain}
+use Rattle.title_fold.specs.Chain.{last_of, platform_with, title_after_chain, IsGoodChain}
+use Rattle.transfer_chain.specs.GoodChain.{IsLink, AreLinks}
 use Rattle.bill_diary.specs.declared.record.Record.{Record}
 use Rattle.bill_diary.specs.declared.record.Record.TheVariants.{Signed, Acted, Attached, Parted, Settled, Regained, Begun, Stored, Taken, Declined}
 use Rattle.bill_diary.specs.declared.frame.Frame.{Frame}
 use Rattle.bill_diary.specs.History.{bill_of, newest_first, of_bill}
+use Rattle.bill_diary.specs.Texts.{LinkIsItsText, LinksAreTheirTexts}
 use Rattle.bill_diary.specs.Pieces.{missing_of}
 use Rattle.bill_diary.specs.Place.{place_of}
 use Rattle.bill_diary.specs.Receiving.{Declination, continues, is_declined, is_taken, last_declined}
@@ -170,6 +176,31 @@ past_receiver : (known : Bool) (rest : Judgement) → cond known rest judgements
 past_receiver true rest is = is
 past_receiver false rest is = absurd (let no : judgements.Unknown ≡ judgements.Accept = is in cc)
 
+-- ---- good chains
+
+-- a link that was checked is its text's
+link_is : (keys : Keys) (text : SignedText) (link : ChainLink) → IsLink keys text link → LinkIsItsText link
+link_is keys text link is =
+    let same : text ≡ link.text = sym is.text in
+    record {
+      name = is.name ∙ ap (λ (t : SignedText). checksum_of t.0) same;
+      payload = is.value;
+      has_payload = record {
+        parts = is.signed.parts;
+        compact = subst (λ (t : SignedText). IsCompact 16384 t.0 is.signed.parts) same is.signed.compact;
+        reads = is.signed.payload;
+      };
+      reads_as = is.entry;
+    }
+
+links_are : (keys : Keys) (texts : List SignedText) (chain : List ChainLink) → AreLinks keys texts chain
+    → LinksAreTheirTexts chain
+links_are keys [] [] are = tt
+links_are keys [] (link ∷ chain) are = absurd are
+links_are keys (text ∷ texts) [] are = tt
+links_are keys (text ∷ texts) (link ∷ chain) are =
+    (link_is keys text link are.0, links_are keys texts chain are.1)
+
 -- ---- each record
 
 sound_record : (roster : RosterRecord) (keys : Keys) (me : PlatformCode) (records : List Record) (r : Record)
@@ -187,9 +218,10 @@ sound_record roster keys me records (Begun bill chain manifest body) follows =
     let last_same : follows.last ≡ all.receives.last = cc in
     record {
       body_is = follows.body_is;
-      room = follows.room;
-      good = follows.good;
-      links_are = follows.links_are;
+      room = subst (λ (n : ℕ). n ≤ 64)
+          (ap length follows.body_is.chain_is ∙ length-map chain (λ (link : ChainLink). link.text)) follows.good.most;
+      good = subst (λ (b : Checksum). IsGoodChain b chain) follows.body_is.document_is.names follows.good.entries;
+      links_are = links_are keys follows.body_is.parts.chain chain follows.good.links;
       receives = all.receives;
       names_bill = follows.names_bill;
       names_last = follows.names_last ∙ ap (λ (l : ChainLink). l.name) last_same;

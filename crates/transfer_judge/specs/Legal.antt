@@ -1,9 +1,8 @@
 -- Legal diaries of a platform, under a roster and a ring of keys: sound ones whose texts are rightly signed, whose
 -- parties and platforms the roster lists, and whose chains were judged so.
-use Rattle.std.specs.Prelude.{◌≡◌, ℕ, ◌≤◌, true, List, [], ◌∷◌, Option, Some, None, length, option_map, slice_get}
+use Rattle.std.specs.Prelude.{◌≡◌, ℕ, true, List, [], ◌∷◌, Some}
 use Rattle.ebl_base.specs.declared.chain.ChainLink.{ChainLink}
 use Rattle.ebl_base.specs.declared.checksum.Checksum.{Checksum}
-use Rattle.ebl_base.specs.declared.party.Party.{Party}
 use Rattle.ebl_base.specs.declared.platform_code.PlatformCode.{PlatformCode}
 use Rattle.ebl_base.specs.declared.signed_text.SignedText.{SignedText}
 use Rattle.ebl_base.specs.declared.transaction.Transaction.{Transaction}
@@ -13,13 +12,14 @@ use Rattle.signed_envelope.specs.SignedText.{IsSigned}
 use Rattle.envelope_manifest.specs.declared.manifest.Manifest.{Manifest}
 use Rattle.party_roster.specs.RosterRecord.{RosterRecord, carrier, has_platform}
 use Rattle.title_fold.specs.Title.{possessor}
-use Rattle.title_fold.specs.Chain.{last_of, IsGoodChain}
+use Rattle.title_fold.specs.Chain.{last_of}
+use Rattle.transfer_chain.specs.GoodChain.{IsGoodChain}
 use Rattle.bill_diary.specs.declared.record.Record.{Record}
 use Rattle.bill_diary.specs.declared.record.Record.TheVariants.{Signed, Acted, Attached, Parted, Settled, Regained, Begun, Stored, Taken, Declined}
 use Rattle.bill_diary.specs.declared.frame.Frame.{Frame}
 use Rattle.bill_diary.specs.History.{bill_of, newest_first, of_bill}
 use Rattle.bill_diary.specs.Known.{Came, last_begun}
-use Rattle.bill_diary.specs.Texts.{LinksAreTheirTexts, IsBodyOf}
+use Rattle.bill_diary.specs.Texts.{IsBodyOf}
 use Rattle.bill_diary.specs.Sound.{MaySign, MayAct, MayAttach, MayPart, IsParting, MayStore, MayDecline, IsNotAgain, AreFrames}
 use Rattle.transfer_judge.specs.declared.judgement.Judgement.{Judgement}
 use Rattle.transfer_judge.specs.declared.judgement.Judgement.TheVariants.{Missing, Accept}
@@ -30,16 +30,6 @@ use Rattle.transfer_judge.specs.Judgement.{judgement_of}
 -- the text is signed by the platform within 16,384 bytes
 abbrev pub IsSignedBy : Keys → PlatformCode → SignedText → Type 0
 IsSignedBy keys who text = (value : Value) × IsSigned keys 16384 text.0 who value
-
--- each entry of a chain is signed by its platform
-abbrev pub AreSigned : Keys → List ChainLink → Type 0
-AreSigned keys [] = Unit {0}
-AreSigned keys (link ∷ links) = IsSignedBy keys link.entry.platform link.text × AreSigned keys links
-
--- the party that acts first in a chain
-abbrev pub first_actor : List ChainLink → Option Party
-first_actor [] = None
-first_actor (link ∷ links) = option_map (λ t. t.actor) (slice_get link.entry.transactions 0)
 
 -- ---- what the roster and the ring add
 
@@ -63,17 +53,12 @@ IsWelcome Accept = Unit {0}
 IsWelcome (Missing checksums) = Unit {0}
 IsWelcome judgement = ⊥
 
--- a body with a good chain of the bill that the roster's carrier of the document began, each text signed by its
--- platform, and a manifest of the last one that names both; the judgement is to receive it
+-- a body with a good chain of its document's bill, and a manifest by the last entry's platform that names both; the
+-- judgement is to receive it
 pub record BeginsLegally (roster : RosterRecord) (keys : Keys) (me : PlatformCode) (records : List Record)
     (bill : Checksum) (chain : List ChainLink) (manifest : Manifest) (body : List ℕ) : Type 0 where
   pub body_is : IsBodyOf bill chain manifest body
-  pub by_carrier : carrier roster body_is.document_is.document.provider body_is.document_is.document.code
-      ≡ first_actor chain
-  pub room : length chain ≤ 64
-  pub good : IsGoodChain bill chain
-  pub links_are : LinksAreTheirTexts chain
-  pub signed : AreSigned keys chain
+  pub good : IsGoodChain roster keys body_is.document_is.document body_is.parts.chain chain
   pub last : ChainLink
   pub last_is : last_of chain ≡ Some last
   pub manifest_signed : IsSignedBy keys last.entry.platform body_is.parts.manifest
