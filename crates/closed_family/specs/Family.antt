@@ -53,7 +53,8 @@ IsTextOf (Signed bill document transaction) text = document ≡ text
 IsTextOf (Parted bill link manifest manifest_text) text = (link.text.0 ≡ text) ⊎ (manifest_text.0 ≡ text)
 IsTextOf (Begun bill chain manifest body) text =
     ((link : ChainLink) × IsAmong link chain × (link.text.0 ≡ text))
-    ⊎ ((came : IsBodyOf bill chain manifest body) × ((canon came.parts.document ≡ text) ⊎ (came.parts.manifest.0 ≡ text)))
+    ⊎ ((came : IsBodyOf bill chain manifest body)
+    × ((canon came.parts.document ≡ text) ⊎ (came.parts.manifest.0 ≡ text)))
 IsTextOf r text = ⊥
 
 -- a record stands in a diary of a member of the family

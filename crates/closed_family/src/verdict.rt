@@ -15,7 +15,7 @@ pub enum Lack {
 /// What a survey of a family finds, the first in the order of the family.
 #[derive(Debug, Drop)]
 pub enum Verdict {
-    /// The family is closed, and its texts have distinct names: each bill is safe.
+    /// No two different texts share a name, and nothing is lacking. A sound family is closed then, and each bill is safe.
     Consistent,
     /// Two different texts of the family share this name.
     SameName(Checksum),
