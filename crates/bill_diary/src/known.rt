@@ -11,7 +11,8 @@ use std::alloc::Global;
 /// The known chain of a bill by what is left of its history: the longest of the chains that the records tell, of
 /// equally long ones the last. `None` where neither a Signed nor a Taken is left.
 ///
-/// It goes over the history twice, and keeps references to its chains and the entries that were parted.
+/// It goes over the history twice, keeps references to its chains and the entries that were parted, and copies the chain
+/// that it answers.
 pub fn known_chain(alloc: Global, h: History) -> Result<Option<Chain>, NoMemory>
     ensures { IfOk result (λ chain. chain ≡ known h.entry) }
 {
@@ -36,6 +37,8 @@ fn records<'a>(alloc: Global, mut h: History<'a>) -> Result<Vec<&'a Record>, NoM
 
 /// The chain that a Settled of this entry tells, with the records before it: the known chain before the last Parted of
 /// the entry, followed by the entry. `None` where the entry wasn't parted, or no chain was known then.
+///
+/// It costs what [`known_chain`] costs for the records before that Parted.
 pub fn settled_chain(
     alloc: Global,
     mut before: History,

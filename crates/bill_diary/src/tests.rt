@@ -341,8 +341,8 @@ fn look_ups(rt: HostRuntime) -> Result<(), Fail> {
     Ok(())
 }
 
-/// The chains that a history tells, by the ends of each: the known one, and those that a Taken and a Settled of an entry
-/// would tell.
+/// The chains that a history tells, by the ends of each: the known one, and those that a Taken and a Settled of an
+/// entry would tell.
 type Told = (Option<[u8; 2]>, Option<[u8; 2]>, Option<[u8; 2]>);
 
 fn told(alloc: Global, d: &Diary, n: u8) -> Result<Told, NoMemory> {
