@@ -2,8 +2,8 @@
 //! lacking, or a diary isn't sound, or a document was signed on two platforms. A line and its end are there for each
 //! bill that was signed: they can't be broken.
 use super::making::{
-    Act, At, Bill, Found, NOTHING, Step, Story, Way, bill_with, code, diary, family, lacks, link,
-    shard, shown, tag, transaction,
+    Act, At, Bill, Found, ISSUED, NOTHING, SETTLED, Step, Story, TAKEN, Way, bill_with, code,
+    diary, family, lacks, link, shard, shown, tag, transaction,
 };
 use crate::{Family, Lack, survey};
 use bill_diary::{BillPlace, Diary, Frame, Record, is_taken, last_declined, may_act, place};
@@ -17,31 +17,13 @@ use title_fold::{Title, fold, moves, possessor};
 
 const THREE: [At; 3] = [At::Alph, At::Beta, At::Gamm];
 
-// At ALPH.
-const ISSUED: [Step; 2] = [Step::Signed(Act::Sign), Step::Acted(Act::Issue)];
-
-const SENT: [Step; 3] = [
-    Step::Signed(Act::Sign),
-    Step::Acted(Act::Issue),
-    Step::Parted(Way::First),
-];
-
-const SETTLED: [Step; 4] = [
-    Step::Signed(Act::Sign),
-    Step::Acted(Act::Issue),
-    Step::Parted(Way::First),
-    Step::Settled(Way::First),
-];
-
+// At ALPH: an entry was sent to BETA, and regained.
 const REGAINED: [Step; 4] = [
     Step::Signed(Act::Sign),
     Step::Acted(Act::Issue),
     Step::Parted(Way::First),
     Step::Regained(Way::First),
 ];
-
-// At BETA.
-const TAKEN: [Step; 1] = [Step::BegunTaken(Way::First)];
 
 /// A bill, and a family in which it is the only one.
 #[derive(Drop)]

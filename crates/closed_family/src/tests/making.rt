@@ -317,6 +317,27 @@ pub(crate) struct Story<'a> {
 /// Nothing was written down.
 pub(crate) const NOTHING: [Step; 0] = [];
 
+/// At ALPH: the bill began there.
+pub(crate) const ISSUED: [Step; 2] = [Step::Signed(Act::Sign), Step::Acted(Act::Issue)];
+
+/// At ALPH: the bill was sent to BETA.
+pub(crate) const SENT: [Step; 3] = [
+    Step::Signed(Act::Sign),
+    Step::Acted(Act::Issue),
+    Step::Parted(Way::First),
+];
+
+/// At ALPH: BETA has answered that it received it.
+pub(crate) const SETTLED: [Step; 4] = [
+    Step::Signed(Act::Sign),
+    Step::Acted(Act::Issue),
+    Step::Parted(Way::First),
+    Step::Settled(Way::First),
+];
+
+/// At BETA: the bill came.
+pub(crate) const TAKEN: [Step; 1] = [Step::BegunTaken(Way::First)];
+
 impl<'a> Story<'a> {
     /// What was written down of a bill on two platforms, in the diaries of its shard.
     pub(crate) fn of(bill: &'a Bill, alph: &'a [Step], beta: &'a [Step]) -> Story<'a> {

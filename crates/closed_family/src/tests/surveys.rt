@@ -1,7 +1,8 @@
-//! What a survey finds in sound families: nothing, a record that is lacking, or the first of two.
+//! What a survey finds: nothing, a record that is lacking, or the first of two. Where a row doesn't say otherwise, each
+//! step may follow where the bill stands, as the first test shows.
 use super::making::{
-    Act, At, Bill, Found, NOTHING, Step, Story, Way, bill_with, family, frame, lacks, shard, shown,
-    tag,
+    Act, At, Bill, Found, ISSUED, NOTHING, SENT, SETTLED, Step, Story, TAKEN, Way, bill_with,
+    family, frame, lacks, shard, shown, tag,
 };
 use crate::{Lack, survey};
 use bill_diary::place;
@@ -12,22 +13,7 @@ use std::test::Fail;
 
 const TWO: [At; 2] = [At::Alph, At::Beta];
 
-// At ALPH: the bill began there, was sent to BETA, and came back.
-const ISSUED: [Step; 2] = [Step::Signed(Act::Sign), Step::Acted(Act::Issue)];
-
-const SENT: [Step; 3] = [
-    Step::Signed(Act::Sign),
-    Step::Acted(Act::Issue),
-    Step::Parted(Way::First),
-];
-
-const SETTLED: [Step; 4] = [
-    Step::Signed(Act::Sign),
-    Step::Acted(Act::Issue),
-    Step::Parted(Way::First),
-    Step::Settled(Way::First),
-];
-
+// At ALPH: the bill was sent to BETA, and came back.
 const RETURNED: [Step; 5] = [
     Step::Signed(Act::Sign),
     Step::Acted(Act::Issue),
@@ -47,8 +33,6 @@ const SENT_AGAIN: [Step; 6] = [
 ];
 
 // At BETA: the bill came, and was sent back.
-const TAKEN: [Step; 1] = [Step::BegunTaken(Way::First)];
-
 const SENT_BACK: [Step; 3] = [
     Step::BegunTaken(Way::First),
     Step::Parted(Way::Back),
