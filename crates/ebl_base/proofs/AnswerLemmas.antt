@@ -62,26 +62,3 @@ code_for-reason_at place Party = refl
 code_for-reason_at place Parts = refl
 code_for-reason_at place NotListed = refl
 code_for-reason_at place Bytes = refl
-
--- and back at its entry it is the same
-pub reason_at-back : (place : ℕ) (reason : Reason) → reason_at place (reason_at 0 reason) ≡ reason_at place reason
-reason_at-back place Body = refl
-reason_at-back place Document = refl
-reason_at-back place Length = refl
-reason_at-back place (Signature i) = refl
-reason_at-back place (Entry i) = refl
-reason_at-back place (Signer i) = refl
-reason_at-back place (Link i) = refl
-reason_at-back place (Bill i) = refl
-reason_at-back place Carrier = refl
-reason_at-back place (Platform i) = refl
-reason_at-back place (Fold i) = refl
-reason_at-back place (Move i) = refl
-reason_at-back place ManifestSignature = refl
-reason_at-back place ManifestForm = refl
-reason_at-back place ManifestNames = refl
-reason_at-back place Destination = refl
-reason_at-back place Party = refl
-reason_at-back place Parts = refl
-reason_at-back place NotListed = refl
-reason_at-back place Bytes = refl

@@ -9,14 +9,14 @@ use Rattle.ebl_base.specs.declared.provider.Provider.{Provider}
 use Rattle.ebl_base.specs.declared.provider.Provider.TheVariants.{Smdg, Nmfta}
 use Rattle.ebl_base.specs.declared.carrier_code.CarrierCode.{CarrierCode}
 
--- two providers are one exactly where they are equal
+-- two providers are one if and only if they are equal
 pub provider_eq-Decides : (a b : Provider) → Decides (provider_eq a b) (a ≡ b)
 provider_eq-Decides Smdg Smdg = (λ t. refl, λ e. refl)
 provider_eq-Decides Smdg Nmfta = (λ t. cc, λ e. cc)
 provider_eq-Decides Nmfta Smdg = (λ t. cc, λ e. cc)
 provider_eq-Decides Nmfta Nmfta = (λ t. refl, λ e. refl)
 
--- two codes are one exactly where they are equal
+-- two codes are one if and only if they are equal
 pub carrier_code_eq-Decides : (a b : CarrierCode) → Decides (carrier_code_eq a b) (a ≡ b)
 carrier_code_eq-Decides a b =
     let code : List ℕ → CarrierCode = λ text. record { bytes = text } in

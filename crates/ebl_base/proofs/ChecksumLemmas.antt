@@ -6,7 +6,7 @@ use Rattle.std.proofs.lemmas.Slice.Eq.{bytes_eq-Decides}
 use Rattle.ebl_base.specs.Checksum.{checksum_eq}
 use Rattle.ebl_base.specs.declared.checksum.Checksum.{Checksum}
 
--- two checksums are one exactly where they are equal
+-- two checksums are one if and only if they are equal
 pub checksum_eq-Decides : (a b : Checksum) → Decides (checksum_eq a b) (a ≡ b)
 checksum_eq-Decides a b =
     let checksum : List ℕ → Checksum = λ bytes. record { 0 = bytes } in

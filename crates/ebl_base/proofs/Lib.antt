@@ -7,3 +7,4 @@ pub mod CallsLemmas
 pub mod TextLemmas
 pub mod ChecksumLemmas
 pub mod AnswerLemmas
+pub mod FormLemmas

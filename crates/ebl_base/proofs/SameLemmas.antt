@@ -10,19 +10,19 @@ use Rattle.ebl_base.specs.declared.platform_code.PlatformCode.{PlatformCode}
 use Rattle.ebl_base.specs.declared.name35.Name35.{Name35}
 use Rattle.ebl_base.specs.declared.party.Party.{Party}
 
--- two codes are one exactly where they are equal
+-- two codes are one if and only if they are equal
 pub code_eq-Decides : (a b : PlatformCode) → Decides (code_eq a b) (a ≡ b)
 code_eq-Decides a b =
     let code : List ℕ → PlatformCode = λ text. record { bytes = text } in
     Decides-like (code_eq a b) (ap code) (ap (λ (c : PlatformCode). c.bytes)) (bytes_eq-Decides a.bytes b.bytes)
 
--- two names are one exactly where they are equal
+-- two names are one if and only if they are equal
 pub name_eq-Decides : (a b : Name35) → Decides (name_eq a b) (a ≡ b)
 name_eq-Decides a b =
     let name : List ℕ → Name35 = λ text. record { bytes = text } in
     Decides-like (name_eq a b) (ap name) (ap (λ (n : Name35). n.bytes)) (bytes_eq-Decides a.bytes b.bytes)
 
--- two parties are one exactly where they are equal
+-- two parties are one if and only if they are equal
 pub party_eq-Decides : (a b : Party) → Decides (party_eq a b) (a ≡ b)
 party_eq-Decides a b =
     let party : PlatformCode × Name35 → Party = λ parts. record { platform = parts.0; code = parts.1 } in

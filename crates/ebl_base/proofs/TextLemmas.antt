@@ -1,5 +1,6 @@
 -- What was read from a text has that text again.
-use Rattle.std.proofs.Common.{◌≡◌, ℕ, zero, suc, ◌-◌, Bool, true, false, ◌&&◌, ◌==◌, List, [], ◌∷◌, ◌++◌, Option, Some, None, cond, length, nat_le, codes, append-nil, refl, sym, ap, ◌∙◌, arith, take_while, replicate}
+use Rattle.std.proofs.Common.{◌≡◌, ℕ, zero, suc, ◌-◌, Bool, true, false, ◌&&◌, ◌==◌, List, [], ◌∷◌, ◌++◌, Option, Some, None, cond, length, nat_le, append-nil, refl, sym, ap, ◌∙◌, arith, take_while, replicate}
+use Rattle.std.specs.Prelude.{find}
 use Rattle.std.specs.List.{list_all, prefix_len}
 use Rattle.std.specs.Str.{bytes_eq}
 use Rattle.std.proofs.lemmas.Bool.{and_parts}
@@ -8,7 +9,7 @@ use Rattle.std.proofs.lemmas.Slice.Eq.{bytes_eq-Decides}
 use Rattle.ebl_base.specs.PlatformCode.{is_code_character, is_code, code_of, code_text}
 use Rattle.ebl_base.specs.Name35.{is_name_character, is_name, name_of, name_text}
 use Rattle.ebl_base.specs.CarrierCode.{is_carrier_code, carrier_code_of, carrier_code_text}
-use Rattle.ebl_base.specs.Provider.{provider_of, provider_text}
+use Rattle.ebl_base.specs.Provider.{provider_of, provider_text, providers}
 use Rattle.ebl_base.specs.Kind.{kind_of, kind_text}
 use Rattle.ebl_base.specs.declared.kind.Kind.{Kind}
 use Rattle.ebl_base.specs.declared.kind.Kind.TheVariants.{Sign, Issue, Endorse, Transfer, SurrenderForDelivery, SurrenderForAmendment, SurrenderAccepted, SurrenderRefused}
@@ -18,11 +19,10 @@ use Rattle.ebl_base.specs.declared.platform_code.PlatformCode.{PlatformCode}
 use Rattle.ebl_base.specs.declared.name35.Name35.{Name35}
 use Rattle.ebl_base.specs.declared.carrier_code.CarrierCode.{CarrierCode}
 use Rattle.ebl_base.specs.declared.provider.Provider.{Provider}
-use Rattle.ebl_base.specs.declared.provider.Provider.TheVariants.{Smdg, Nmfta}
 use Rattle.ebl_base.specs.declared.party.Party.{Party}
 
 -- a choice that is there was made for a test that holds
-when_some : {T : Type 0} (b : Bool) (x y : T) → cond b (Some x) None ≡ Some y → (b ≡ true) × (x ≡ y)
+pub when_some : {T : Type 0} (b : Bool) (x y : T) → cond b (Some x) None ≡ Some y → (b ≡ true) × (x ≡ y)
 when_some true x y h = (refl, cc)
 when_some false x y h = cc
 
@@ -67,20 +67,25 @@ carrier_code_text-carrier_code_of text code h =
     ∙ whole_front is_code_character text (replicate (4 - length text) 0) all
     (code_zeros (4 - length text))
 
+-- what is found by its text has it
+found_has_text : {T : Type 0} (text_of : T → List ℕ) (text : List ℕ) (all : List T) (x : T)
+    → find (λ y. bytes_eq (text_of y) text) all ≡ Some x → text_of x ≡ text
+found_has_text text_of text [] x h = cc
+found_has_text text_of text (y ∷ ys) x h =
+    by_test (bytes_eq (text_of y) text) refl (found_has_text text_of text ys x) h
+  where
+    by_test : (s : Bool) → bytes_eq (text_of y) text ≡ s
+        → (find (λ z. bytes_eq (text_of z) text) ys ≡ Some x → text_of x ≡ text)
+        → cond s (Some y) (find (λ z. bytes_eq (text_of z) text) ys) ≡ Some x → text_of x ≡ text
+    by_test true s rest h =
+        let same : y ≡ x = cc in
+        ap text_of (sym same) ∙ (bytes_eq-Decides (text_of y) text).0 s
+    by_test false s rest h = rest h
+
 pub provider_text-provider_of : (text : List ℕ) (provider : Provider) → provider_of text ≡ Some provider
     → provider_text provider ≡ text
 provider_text-provider_of text provider h =
-    by_tests (bytes_eq text (codes "SMDG")) refl (bytes_eq text (codes "NMFTA")) refl h
-  where
-    by_tests : (s : Bool) → bytes_eq text (codes "SMDG") ≡ s → (n : Bool) → bytes_eq text (codes "NMFTA") ≡ n
-        → cond s (Some Smdg) (cond n (Some Nmfta) None) ≡ Some provider → provider_text provider ≡ text
-    by_tests true s n e h =
-        let first : Smdg ≡ provider = cc in
-        ap provider_text (sym first) ∙ sym ((bytes_eq-Decides text (codes "SMDG")).0 s)
-    by_tests false s true e h =
-        let second : Nmfta ≡ provider = cc in
-        ap provider_text (sym second) ∙ sym ((bytes_eq-Decides text (codes "NMFTA")).0 e)
-    by_tests false s false e h = cc
+    found_has_text provider_text text providers provider h
 
 -- each kind is read from its text
 pub kind_of-kind_text : (kind : Kind) → kind_of (kind_text kind) ≡ Some kind
@@ -94,7 +99,7 @@ kind_of-kind_text SurrenderAccepted = refl
 kind_of-kind_text SurrenderRefused = refl
 
 -- the parts of a party that is there
-parts_of-party_at : (code : Option PlatformCode) (name : Option Name35) (party : Party)
+pub parts_of-party_at : (code : Option PlatformCode) (name : Option Name35) (party : Party)
     → party_at code name ≡ Some party → (code ≡ Some party.platform) × (name ≡ Some party.code)
 parts_of-party_at None name party h = cc
 parts_of-party_at (Some code) None party h = cc

@@ -10,4 +10,5 @@ pub record CallsRecord : Type 0 where
 
 -- after a call
 abbrev pub after_call : Bool → CallsRecord → CallsRecord
-after_call failed calls = record calls { number = risen calls.number; faults = if failed then risen calls.faults else calls.faults }
+after_call failed calls =
+    record calls { number = risen calls.number; faults = if failed then risen calls.faults else calls.faults }

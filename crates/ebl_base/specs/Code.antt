@@ -1,5 +1,5 @@
 -- How a platform answers an envelope, by codes of four letters (DCSA PINT 3.0).
-use Rattle.std.specs.Prelude.{ℕ, Bool, true, false, List, Option, Some, None, codes, if◌then◌else◌}
+use Rattle.std.specs.Prelude.{ℕ, Bool, true, false, List, [], ◌∷◌, Option, codes, find}
 use Rattle.std.specs.Str.{bytes_eq}
 use Rattle.ebl_base.specs.declared.code.Code.{Code}
 use Rattle.ebl_base.specs.declared.code.Code.TheVariants.{Received, Duplicate, BadSignature, BadEnvelope, InconsistentDocument, MissingDocuments, DisputedEnvelope}
@@ -14,14 +14,14 @@ response_code_text InconsistentDocument = codes "INCD"
 response_code_text MissingDocuments = codes "MDOC"
 response_code_text DisputedEnvelope = codes "DISE"
 
+-- all codes
+abbrev pub response_codes : List Code
+response_codes =
+    Received ∷ Duplicate ∷ BadSignature ∷ BadEnvelope ∷ InconsistentDocument ∷ MissingDocuments ∷ DisputedEnvelope ∷ []
+
 -- the code with these letters
 abbrev pub response_code_of : List ℕ → Option Code
-response_code_of text =
-    if bytes_eq text (codes "RECE") then Some Received else if bytes_eq text (codes "DUPE") then Some
-    Duplicate else if bytes_eq text (codes "BSIG") then Some BadSignature else if bytes_eq text (codes "BENV") then Some
-    BadEnvelope else if bytes_eq text (codes "INCD") then Some
-    InconsistentDocument else if bytes_eq text (codes "MDOC") then Some
-    MissingDocuments else if bytes_eq text (codes "DISE") then Some DisputedEnvelope else None
+response_code_of text = find (λ code. bytes_eq (response_code_text code) text) response_codes
 
 -- whether two codes are one
 abbrev pub response_code_eq : Code → Code → Bool

@@ -1,5 +1,5 @@
--- Who keeps the list in which a carrier's code stands.
-use Rattle.std.specs.Prelude.{ℕ, Bool, true, false, List, Option, Some, None, codes, if◌then◌else◌}
+-- Who keeps the list of carriers' codes.
+use Rattle.std.specs.Prelude.{ℕ, Bool, true, false, List, [], ◌∷◌, Option, codes, find}
 use Rattle.std.specs.Str.{bytes_eq}
 use Rattle.ebl_base.specs.declared.provider.Provider.{Provider}
 use Rattle.ebl_base.specs.declared.provider.Provider.TheVariants.{Smdg, Nmfta}
@@ -9,9 +9,13 @@ abbrev pub provider_text : Provider → List ℕ
 provider_text Smdg = codes "SMDG"
 provider_text Nmfta = codes "NMFTA"
 
+-- all providers
+abbrev pub providers : List Provider
+providers = Smdg ∷ Nmfta ∷ []
+
 -- the provider with this text
 abbrev pub provider_of : List ℕ → Option Provider
-provider_of text = if bytes_eq text (codes "SMDG") then Some Smdg else if bytes_eq text (codes "NMFTA") then Some Nmfta else None
+provider_of text = find (λ provider. bytes_eq (provider_text provider) text) providers
 
 -- whether two providers are one
 abbrev pub provider_eq : Provider → Provider → Bool

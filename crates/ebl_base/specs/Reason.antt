@@ -1,6 +1,5 @@
 -- Why an envelope or a document isn't received, and with which code each reason comes.
-use Rattle.std.specs.Prelude.{ℕ, List, Option, Some, None, codes, [], ◌∷◌}
-use Rattle.std.specs.List.{find}
+use Rattle.std.specs.Prelude.{ℕ, List, Option, Some, None, codes, [], ◌∷◌, find}
 use Rattle.std.specs.Str.{bytes_eq}
 use Rattle.ebl_base.specs.declared.code.Code.{Code}
 use Rattle.ebl_base.specs.declared.code.Code.TheVariants.{BadSignature, BadEnvelope, InconsistentDocument, DisputedEnvelope}
@@ -102,7 +101,8 @@ code_for Bytes = InconsistentDocument
 -- every reason, at the first entry where it is of one
 abbrev pub reasons : List Reason
 reasons =
-    Body ∷ Document ∷ Length ∷ Signature 0 ∷ Entry 0 ∷ Signer 0 ∷ Link 0 ∷ Bill 0 ∷ Carrier ∷ Platform 0 ∷ Fold 0 ∷ Move 0 ∷ ManifestSignature ∷ ManifestForm ∷ ManifestNames ∷ Destination ∷ Party ∷ Parts ∷ NotListed ∷ Bytes ∷ []
+    Body ∷ Document ∷ Length ∷ Signature 0 ∷ Entry 0 ∷ Signer 0 ∷ Link 0 ∷ Bill 0 ∷ Carrier ∷ Platform 0 ∷ Fold 0
+    ∷ Move 0 ∷ ManifestSignature ∷ ManifestForm ∷ ManifestNames ∷ Destination ∷ Party ∷ Parts ∷ NotListed ∷ Bytes ∷ []
 
 -- the reason with this text, at the first entry where it is of one
 abbrev pub reason_of : List ℕ → Option Reason

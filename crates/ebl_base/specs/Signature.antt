@@ -8,7 +8,9 @@ is_signature bytes = nat_le 1 (length bytes) && nat_le (length bytes) 64
 
 -- the signature of these bytes, with zeros behind them
 abbrev pub signature_of : List ℕ → Option Signature
-signature_of bytes = if is_signature bytes then Some (record { bytes = bytes ++ replicate (64 - length bytes) 0; len = length bytes }) else None
+signature_of bytes =
+    if is_signature bytes then Some
+    (record { bytes = bytes ++ replicate (64 - length bytes) 0; len = length bytes }) else None
 
 -- the bytes of a signature
 abbrev pub signature_bytes : Signature → List ℕ

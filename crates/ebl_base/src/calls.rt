@@ -1,3 +1,4 @@
+//! The calls of an object in memory, of which listed ones fail.
 ghost use Rattle.std.specs.Prelude.{◌≡◌, ◌↔◌, ◌≤◌, Contains, IsTrue};
 ghost use Rattle.ebl_base.specs.Faults.{risen};
 
@@ -13,7 +14,7 @@ pub type CallList = Items<u64>;
 
 /// The calls of an object in memory: which are to fail, how many came, and how many failed.
 ///
-/// Both counts stay at 2^64 - 1 once they are there.
+/// Both counts saturate at 2^64 - 1.
 #[derive(Debug, Drop)]
 pub struct Calls {
     fails: CallList,

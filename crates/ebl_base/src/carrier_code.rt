@@ -1,5 +1,6 @@
-ghost use Rattle.std.specs.Prelude.{◌≡◌, ◌≤◌, length};
-ghost use Rattle.ebl_base.specs.CarrierCode.{carrier_code_of, carrier_code_text};
+//! The code of a carrier.
+ghost use Rattle.std.specs.Prelude.{◌≡◌, ◌↔◌, ◌≤◌, length, IfSome, IsTrue};
+ghost use Rattle.ebl_base.specs.CarrierCode.{IsCarrierCode, carrier_code_of, carrier_code_text};
 
 use crate::front::{front_text, put_text};
 use crate::platform_code::{are_code_bytes, code_front_len};
@@ -16,9 +17,10 @@ impl CarrierCode {
     /// The most characters of a code.
     pub const MOST: usize = 4;
 
-    /// The code with this text; `None` exactly where the text isn't of the form.
+    /// The code with this text; `None` if and only if the text is malformed.
     pub fn try_new(text: &[u8]) -> Option<CarrierCode>
-        ensures { result ≡ carrier_code_of text.now }
+        ensures value { result ≡ carrier_code_of text.now }
+        ensures form { IfSome result (λ code. IsCarrierCode code) }
     {
         if text.is_empty() || text.len() > CarrierCode::MOST {
             return None;
@@ -29,6 +31,13 @@ impl CarrierCode {
         let mut bytes = [0; 4];
         put_text(&mut bytes, 0, text);
         Some(CarrierCode { bytes })
+    }
+
+    /// Whether the code has its form, as each that was made does.
+    pub fn is_well_formed(&self) -> bool
+        ensures { IsTrue result ↔ IsCarrierCode self.now }
+    {
+        CarrierCode::try_new(self.as_bytes()).is_some_and(|code| code == *self)
     }
 
     /// The characters.

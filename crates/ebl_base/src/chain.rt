@@ -1,3 +1,4 @@
+//! Entries with their signed texts, in a list from the first.
 use crate::checksum::Checksum;
 use crate::entry::Entry;
 use crate::items::{Copied, Items};

@@ -1,3 +1,4 @@
+//! Unicode texts inside public types.
 ghost use Rattle.std.specs.Prelude.{◌≡◌, ℕ, List, [], length, IfOk};
 ghost use Rattle.std.specs.String.{string_bytes};
 
@@ -8,7 +9,7 @@ use std::marker::Model;
 
 /// A Unicode text inside a public type. Contracts see the list of its UTF-8 bytes.
 ///
-/// It is made from a `String` and opened to one without memory.
+/// It is made from a `String` and opened to one; neither allocates.
 #[derive(Debug, Drop)]
 pub struct CharList {
     text: String,
@@ -21,7 +22,7 @@ impl Model for CharList {
 }
 
 impl CharList {
-    /// The empty text, which takes no memory until it grows.
+    /// The empty text, which allocates nothing until it grows.
     pub fn new(alloc: Global) -> Self
         ensures { result ≡ [] }
     {
@@ -52,6 +53,7 @@ impl CharList {
         self.text
     }
 
+    /// The text.
     pub fn as_str(&self) -> &str
         ensures { result.now ≡ self.now }
     {

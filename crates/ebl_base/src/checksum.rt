@@ -1,6 +1,5 @@
-use crate::items::{Copied, Items};
-use crate::no_memory::NoMemory;
-use std::alloc::Global;
+//! SHA-256 checksums.
+use crate::items::Items;
 
 /// The SHA-256 checksum of a text (FIPS 180-4), which is the text's name.
 #[derive(Clone, Copy, Debug, PartialEq, Eq, PartialOrd, Ord)]
@@ -8,9 +7,3 @@ pub struct Checksum(pub [u8; 32]);
 
 /// Checksums, in an order that whoever holds the list says.
 pub type ChecksumList = Items<Checksum>;
-
-impl Copied for Checksum {
-    fn copy(&self, _alloc: Global) -> Result<Self, NoMemory> {
-        Ok(*self)
-    }
-}

@@ -1,3 +1,4 @@
+//! The codes of answers to envelopes.
 ghost use Rattle.std.specs.Prelude.{◌≡◌};
 ghost use Rattle.ebl_base.specs.Code.{response_code_of, response_code_text};
 
@@ -16,25 +17,30 @@ pub enum Code {
     InconsistentDocument,
     /// MDOC: additional documents are missing.
     MissingDocuments,
-    /// DISE: the envelope is disputed, since its chain parts from the one that is known here.
+    /// DISE: the envelope is disputed, since its chain differs from the one that is known here.
     DisputedEnvelope,
 }
 
+// Every code, once.
+const CODES: [Code; 7] = [
+    Code::Received,
+    Code::Duplicate,
+    Code::BadSignature,
+    Code::BadEnvelope,
+    Code::InconsistentDocument,
+    Code::MissingDocuments,
+    Code::DisputedEnvelope,
+];
+
 impl Code {
-    /// The code with this text of four letters; `None` exactly where the text is none of the seven.
+    /// The code with this text of four letters; `None` if and only if the text is none of the seven.
     pub fn from_text(text: &[u8]) -> Option<Code>
         ensures { result ≡ response_code_of text.now }
     {
-        match text {
-            b"RECE" => Some(Code::Received),
-            b"DUPE" => Some(Code::Duplicate),
-            b"BSIG" => Some(Code::BadSignature),
-            b"BENV" => Some(Code::BadEnvelope),
-            b"INCD" => Some(Code::InconsistentDocument),
-            b"MDOC" => Some(Code::MissingDocuments),
-            b"DISE" => Some(Code::DisputedEnvelope),
-            _ => None,
-        }
+        CODES
+            .iter()
+            .copied()
+            .find(|code| code.as_str().as_bytes() == text)
     }
 
     /// The four letters of the code.

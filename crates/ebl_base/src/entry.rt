@@ -1,3 +1,4 @@
+//! Entries of a chain.
 use crate::checksum::Checksum;
 use crate::items::Copied;
 use crate::no_memory::NoMemory;
@@ -13,7 +14,7 @@ pub struct Entry {
     pub platform: PlatformCode,
     /// The name of the bill.
     pub bill: Checksum,
-    /// The name of the entry before it; none where it is the first.
+    /// The name of the entry before it; none if it is the first.
     pub previous: Option<Checksum>,
     /// How often the platform has tried to part with the bill, this time included: from 1.
     pub attempt: u32,

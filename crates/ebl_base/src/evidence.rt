@@ -1,3 +1,4 @@
+//! Where two chains of a bill differ.
 ghost use Rattle.std.specs.Prelude.{◌≡◌, IfOk};
 
 use crate::items::Copied;
@@ -5,10 +6,10 @@ use crate::no_memory::NoMemory;
 use crate::signed_text::SignedText;
 use std::alloc::Global;
 
-/// The two entries at which chains of a bill part.
+/// The two entries at which chains of a bill first differ.
 #[derive(Debug, Drop)]
 pub struct Evidence {
-    /// The entry of the chain that is known here; none where that chain is empty.
+    /// The entry of the chain that is known here; none if that chain is empty.
     pub own: Option<SignedText>,
     /// The entry of the chain that was shown.
     pub theirs: Option<SignedText>,

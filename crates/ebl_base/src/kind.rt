@@ -1,5 +1,5 @@
-ghost use Rattle.std.specs.Prelude.{◌≡◌, find};
-ghost use Rattle.std.specs.Str.{bytes_eq};
+//! The kinds of transactions.
+ghost use Rattle.std.specs.Prelude.{◌≡◌};
 ghost use Rattle.ebl_base.specs.Kind.{kind_of, kind_text};
 
 /// What a transaction does to the title of a bill.
@@ -23,7 +23,7 @@ pub enum Kind {
     SurrenderRefused,
 }
 
-/// Every kind, once.
+// Every kind, once.
 const KINDS: [Kind; 8] = [
     Kind::Sign,
     Kind::Issue,
@@ -35,23 +35,15 @@ const KINDS: [Kind; 8] = [
     Kind::SurrenderRefused,
 ];
 
-fn first_with(kinds: &[Kind], text: &[u8]) -> Option<Kind>
-    ensures { result ≡ find (λ kind. bytes_eq (kind_text kind) text.now) kinds.now }
-{
-    for kind in kinds {
-        if kind.as_str().as_bytes() == text {
-            return Some(*kind);
-        }
-    }
-    None
-}
-
 impl Kind {
-    /// The kind with this text, as `SIGN`; `None` exactly where the text is that of no kind.
+    /// The kind with this text, as `SIGN`; `None` if and only if the text is that of no kind.
     pub fn from_text(text: &[u8]) -> Option<Kind>
         ensures { result ≡ kind_of text.now }
     {
-        first_with(&KINDS, text)
+        KINDS
+            .iter()
+            .copied()
+            .find(|kind| kind.as_str().as_bytes() == text)
     }
 
     /// The text of the kind.

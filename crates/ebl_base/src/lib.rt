@@ -14,7 +14,9 @@ mod faults;
 mod front;
 mod items;
 mod kind;
+mod laws;
 mod limit_kind;
+mod limits;
 mod moment;
 mod name35;
 mod no_memory;
@@ -43,7 +45,15 @@ pub use failed::Failed;
 pub use faults::count_fault;
 pub use items::{ByteList, Copied, Items};
 pub use kind::Kind;
+pub use laws::{code_and_name_make_a_party, party_has_a_code_and_a_name};
 pub use limit_kind::LimitKind;
+pub use limits::{
+    MAX_CHAIN_ENTRIES, MAX_DOCUMENT_MEDIA, MAX_DOCUMENT_NAME, MAX_DOCUMENT_REFERENCE,
+    MAX_DOCUMENT_SIZE, MAX_DOCUMENTS, MAX_DOCUMENTS_SIZE, MAX_ENTRY_TRANSACTIONS,
+    MAX_FRAME_CONTENT, MAX_JOURNAL, MAX_JOURNAL_UNSETTLED, MAX_ROSTER_CARRIERS, MAX_ROSTER_PARTIES,
+    MAX_ROSTER_PLATFORMS, MAX_SEALED_RESPONSE, MAX_SIGNED_TEXT, MAX_TRANSPORT_DOCUMENT,
+    MAX_WHOLE_NUMBER,
+};
 pub use moment::Moment;
 pub use name35::Name35;
 pub use no_memory::NoMemory;

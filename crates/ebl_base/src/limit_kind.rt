@@ -1,3 +1,5 @@
+//! The limits that a command may pass.
+
 /// Which limit a command would pass.
 #[derive(Clone, Copy, Debug, PartialEq, Eq)]
 pub enum LimitKind {

@@ -1,5 +1,8 @@
-ghost use Rattle.std.specs.Prelude.{◌≡◌};
-ghost use Rattle.ebl_base.specs.Moment.{moment_of, moment_number};
+//! Moments of a clock.
+ghost use Rattle.std.specs.Prelude.{◌≡◌, ◌↔◌, IfSome, IsTrue};
+ghost use Rattle.ebl_base.specs.Moment.{IsMoment, moment_of, moment_number};
+
+use crate::limits::MAX_WHOLE_NUMBER;
 
 /// A moment that a clock gave: 0 to 2^53 - 1, in the clock's own unit.
 #[derive(Clone, Copy, Debug, PartialEq, Eq, PartialOrd, Ord)]
@@ -8,18 +11,26 @@ pub struct Moment {
 }
 
 impl Moment {
-    /// The last moment, 2^53 - 1, the largest number that canonical JSON holds.
-    pub const LAST: u64 = 9_007_199_254_740_991;
+    /// The number of the last moment, the largest that canonical JSON has.
+    pub const LAST: u64 = MAX_WHOLE_NUMBER;
 
-    /// The moment of this number; `None` exactly past [`Moment::LAST`].
+    /// The moment of this number; `None` if and only if it is past [`Moment::LAST`].
     pub fn try_new(number: u64) -> Option<Moment>
-        ensures { result ≡ moment_of number }
+        ensures value { result ≡ moment_of number }
+        ensures form { IfSome result (λ moment. IsMoment moment) }
     {
         if number <= Moment::LAST {
             Some(Moment { number })
         } else {
             None
         }
+    }
+
+    /// Whether the moment has its form, as each that was made does.
+    pub fn is_well_formed(self) -> bool
+        ensures { IsTrue result ↔ IsMoment self }
+    {
+        self.number <= Moment::LAST
     }
 
     /// The number of the moment.

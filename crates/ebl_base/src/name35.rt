@@ -1,7 +1,8 @@
-ghost use Rattle.std.specs.Prelude.{◌≡◌, ◌≤◌, length, take};
+//! The names of parties on their platforms.
+ghost use Rattle.std.specs.Prelude.{◌≡◌, ◌↔◌, ◌≤◌, length, take, IfSome, IsTrue};
 ghost use Rattle.std.specs.List.{list_all, prefix_len};
 ghost use Rattle.std.specs.Str.{IsAscii};
-ghost use Rattle.ebl_base.specs.Name35.{name_of, name_text, is_name_character};
+ghost use Rattle.ebl_base.specs.Name35.{IsName35, name_of, name_text, is_name_character};
 
 use crate::front::{front_text, put_text};
 
@@ -24,7 +25,7 @@ fn are_name_bytes(bytes: &[u8]) -> bool
     bytes.iter().all(|byte| is_name_byte(*byte))
 }
 
-// How many name characters stand in front.
+// How many leading bytes are name characters.
 fn name_front_len(bytes: &[u8]) -> usize
     ensures len { result ≡ prefix_len is_name_character bytes.now }
     ensures most { result ≤ length bytes.now }
@@ -37,9 +38,10 @@ impl Name35 {
     /// The most characters of a name.
     pub const MOST: usize = 35;
 
-    /// The name with this text; `None` exactly where the text isn't of the form.
+    /// The name with this text; `None` if and only if the text is malformed.
     pub fn try_new(text: &[u8]) -> Option<Name35>
-        ensures { result ≡ name_of text.now }
+        ensures value { result ≡ name_of text.now }
+        ensures form { IfSome result (λ name. IsName35 name) }
     {
         if text.is_empty() || text.len() > Name35::MOST {
             return None;
@@ -50,6 +52,13 @@ impl Name35 {
         let mut bytes = [0; 35];
         put_text(&mut bytes, 0, text);
         Some(Name35 { bytes })
+    }
+
+    /// Whether the name has its form, as each that was made does.
+    pub fn is_well_formed(&self) -> bool
+        ensures { IsTrue result ↔ IsName35 self.now }
+    {
+        Name35::try_new(self.as_bytes()).is_some_and(|name| name == *self)
     }
 
     /// The characters.

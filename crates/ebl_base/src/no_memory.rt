@@ -1,6 +1,8 @@
+//! Out of memory.
+
 use std::alloc::{AllocError, AllocFailed};
 
-/// Memory ran out. No contract ties it to a refused growth: each clause says what stands after it.
+/// Out of memory. No contract says when allocation fails; each says what state a failure leaves.
 #[derive(Clone, Copy, Debug, PartialEq, Eq)]
 pub struct NoMemory;
 

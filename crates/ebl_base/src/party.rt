@@ -1,7 +1,8 @@
-ghost use Rattle.std.specs.Prelude.{◌≡◌, ◌≤◌, length, take};
+//! Parties, and their texts.
+ghost use Rattle.std.specs.Prelude.{◌≡◌, ◌↔◌, ◌≤◌, length, take, IfSome, IsTrue};
 ghost use Rattle.std.specs.List.{prefix_len};
 ghost use Rattle.std.specs.Str.{IsAscii};
-ghost use Rattle.ebl_base.specs.Party.{party_of, party_text, party_text_bytes, is_party_character};
+ghost use Rattle.ebl_base.specs.Party.{IsParty, party_of, party_text, party_text_bytes, is_party_character};
 
 use crate::front::{front_text, put_text};
 use crate::name35::{Name35, is_name_byte};
@@ -22,9 +23,11 @@ pub struct PartyText {
 }
 
 impl Party {
-    /// The party with this text, as `ALPH/EXPORT`; `None` exactly where the text isn't of the form: a platform code, a slash, a name.
+    /// The party with this text, as `ALPH/EXPORT`; `None` if and only if the text is malformed: it is a platform code,
+    /// a slash and a name.
     pub fn from_text(text: &[u8]) -> Option<Party>
-        ensures { result ≡ party_of text.now }
+        ensures value { result ≡ party_of text.now }
+        ensures form { IfSome result (λ party. IsParty party) }
     {
         let [a, b, c, d, b'/', name @ ..] = text else {
             return None;
@@ -32,6 +35,13 @@ impl Party {
         let platform = PlatformCode::try_new(&[*a, *b, *c, *d])?;
         let code = Name35::try_new(name)?;
         Some(Party { platform, code })
+    }
+
+    /// Whether the party has its form, as each that was made of a code and a name does.
+    pub fn is_well_formed(&self) -> bool
+        ensures { IsTrue result ↔ IsParty self.now }
+    {
+        self.platform.is_well_formed() && self.code.is_well_formed()
     }
 
     /// The text of the party, as `ALPH/EXPORT`.
@@ -70,7 +80,7 @@ fn is_party_byte(byte: u8) -> bool
     is_name_byte(byte) || byte == b'/'
 }
 
-// How many characters of parties' texts stand in front.
+// How many leading bytes are characters of parties' texts.
 fn party_front_len(bytes: &[u8]) -> usize
     ensures len { result ≡ prefix_len is_party_character bytes.now }
     ensures most { result ≤ length bytes.now }

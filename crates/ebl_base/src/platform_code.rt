@@ -1,7 +1,8 @@
-ghost use Rattle.std.specs.Prelude.{◌≡◌, ◌≤◌, length, take};
+//! The codes of title platforms.
+ghost use Rattle.std.specs.Prelude.{◌≡◌, ◌↔◌, ◌≤◌, length, take, IfSome, IsTrue};
 ghost use Rattle.std.specs.List.{list_all, prefix_len};
 ghost use Rattle.std.specs.Str.{IsAscii};
-ghost use Rattle.ebl_base.specs.PlatformCode.{code_of, code_text, is_code_character};
+ghost use Rattle.ebl_base.specs.PlatformCode.{IsCode, code_of, code_text, is_code_character};
 
 use crate::front::front_text;
 
@@ -24,9 +25,10 @@ pub(crate) fn are_code_bytes(bytes: &[u8]) -> bool
 }
 
 impl PlatformCode {
-    /// The code with this text; `None` exactly where the text isn't of the form.
+    /// The code with this text; `None` if and only if the text is malformed.
     pub fn try_new(bytes: &[u8]) -> Option<PlatformCode>
-        ensures { result ≡ code_of bytes.now }
+        ensures value { result ≡ code_of bytes.now }
+        ensures form { IfSome result (λ code. IsCode code) }
     {
         let [a, b, c, d] = bytes else {
             return None;
@@ -37,6 +39,13 @@ impl PlatformCode {
         Some(PlatformCode {
             bytes: [*a, *b, *c, *d],
         })
+    }
+
+    /// Whether the code has its form, as each that was made does.
+    pub fn is_well_formed(&self) -> bool
+        ensures { IsTrue result ↔ IsCode self.now }
+    {
+        PlatformCode::try_new(self.as_bytes()).is_some_and(|code| code == *self)
     }
 
     /// The four characters.
@@ -56,7 +65,7 @@ impl PlatformCode {
     }
 }
 
-// How many code characters stand in front.
+// How many leading bytes are code characters.
 pub(crate) fn code_front_len(bytes: &[u8]) -> usize
     ensures len { result ≡ prefix_len is_code_character bytes.now }
     ensures most { result ≤ length bytes.now }

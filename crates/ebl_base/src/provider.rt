@@ -1,7 +1,8 @@
+//! The lists of carriers' codes.
 ghost use Rattle.std.specs.Prelude.{◌≡◌};
 ghost use Rattle.ebl_base.specs.Provider.{provider_of, provider_text};
 
-/// Who keeps the list in which a carrier's code stands.
+/// Who keeps a list of carriers' codes.
 #[derive(Clone, Copy, Debug, PartialEq, Eq, PartialOrd, Ord)]
 pub enum Provider {
     /// The Ship Message Design Group, with its text `SMDG`.
@@ -10,16 +11,18 @@ pub enum Provider {
     Nmfta,
 }
 
+// Every provider, once.
+const PROVIDERS: [Provider; 2] = [Provider::Smdg, Provider::Nmfta];
+
 impl Provider {
-    /// The provider with this text; `None` exactly where the text is neither `SMDG` nor `NMFTA`.
+    /// The provider with this text; `None` if and only if the text is neither `SMDG` nor `NMFTA`.
     pub fn from_text(text: &[u8]) -> Option<Provider>
         ensures { result ≡ provider_of text.now }
     {
-        match text {
-            b"SMDG" => Some(Provider::Smdg),
-            b"NMFTA" => Some(Provider::Nmfta),
-            _ => None,
-        }
+        PROVIDERS
+            .iter()
+            .copied()
+            .find(|provider| provider.as_str().as_bytes() == text)
     }
 
     /// The text of the provider.

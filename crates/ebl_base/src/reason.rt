@@ -1,3 +1,4 @@
+//! The reasons of answers to envelopes.
 ghost use Rattle.std.specs.Prelude.{◌≡◌};
 ghost use Rattle.ebl_base.specs.Reason.{code_for, reason_at, reason_index, reason_of, reason_text};
 
@@ -6,7 +7,7 @@ use crate::code::Code;
 /// Why an envelope or a document isn't received. An index is the place of an entry in the chain, from 0.
 #[derive(Clone, Copy, Debug, PartialEq, Eq)]
 pub enum Reason {
-    /// The body isn't of its form.
+    /// The body is malformed.
     Body,
     /// The transport document is refused.
     Document,
@@ -32,7 +33,7 @@ pub enum Reason {
     Move(usize),
     /// The manifest isn't signed by the platform of the last entry.
     ManifestSignature,
-    /// The manifest isn't of its form.
+    /// The manifest is malformed.
     ManifestForm,
     /// The manifest names another bill or another last entry.
     ManifestNames,
@@ -40,7 +41,7 @@ pub enum Reason {
     Destination,
     /// The party that is to have possession isn't known here.
     Party,
-    /// The chain parts from the one that is known here.
+    /// The chain differs from the one that is known here.
     Parts,
     /// No such document is listed in the manifest.
     NotListed,
@@ -73,8 +74,8 @@ const REASONS: [Reason; 20] = [
 ];
 
 impl Reason {
-    /// The reason with this text, at the first entry where it has an index; `None` exactly where the text is none of
-    /// the twenty.
+    /// The reason with this text, at the first entry where it has an index; `None` if and only if the text is none
+    /// of the twenty.
     pub fn from_text(text: &[u8]) -> Option<Reason>
         ensures { result ≡ reason_of text.now }
     {
@@ -112,7 +113,7 @@ impl Reason {
         }
     }
 
-    /// The place of the entry in the chain, from 0; `None` where the reason is of no entry.
+    /// The place of the entry in the chain, from 0; `None` if the reason is of no entry.
     pub fn index(self) -> Option<usize>
         ensures { result ≡ reason_index self }
     {

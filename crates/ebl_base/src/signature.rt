@@ -1,3 +1,4 @@
+//! Signatures.
 ghost use Rattle.std.specs.Prelude.{◌≡◌, ◌≤◌, length, IfSome};
 ghost use Rattle.ebl_base.specs.Signature.{IsSignature, signature_of, signature_bytes};
 
@@ -15,7 +16,7 @@ impl Signature {
     /// The most bytes of a signature.
     pub const MOST: usize = 64;
 
-    /// The signature of these bytes; `None` exactly where they are none or more than 64.
+    /// The signature of these bytes; `None` if and only if they are none or more than 64.
     pub fn try_new(bytes: &[u8]) -> Option<Signature>
         ensures value { result ≡ signature_of bytes.now }
         ensures bytes { IfSome result (λ s. signature_bytes s ≡ bytes.now) }

@@ -1,8 +1,10 @@
+//! Signed texts.
 use crate::items::{ByteList, Copied, Items};
 use crate::no_memory::NoMemory;
 use std::alloc::Global;
 
-/// A signed text in the compact layout (RFC 7515, section 7.1), in ASCII.
+/// The bytes of a signed text (RFC 7515). Those of a text that was made or verified are in the compact layout (section
+/// 7.1), so in ASCII; those of a text that was only read may be any.
 #[derive(Debug, Drop)]
 pub struct SignedText(pub ByteList);
 

@@ -1,4 +1,7 @@
+//! What no contract says: edges of the forms, and copies that are made when memory is there.
 use crate::*;
+use std::alloc::Global;
+use std::process::Abort;
 use std::test::Fail;
 
 const LONGEST: &[u8] = b"ABCDEFGHIJKLMNOPQRSTUVWXYZ-_0123456";
@@ -115,16 +118,107 @@ fn parts(rt: HostRuntime) {
 fn lists(rt: HostRuntime) -> Result<(), Fail> {
     let mut list = ByteList::new(rt.alloc());
     assert!(rt; list.is_empty());
-    list.push(1).ok().ok_or("memory")?;
-    list.extend_from_slice(&[2, 3]).ok().ok_or("memory")?;
-    let copy = list.copy(rt.alloc()).ok().ok_or("memory")?;
-    assert_eq!(rt; copy.len(), 3);
-    assert!(rt; copy.into_vec().as_slice() == [1, 2, 3].as_slice());
-    let text = CharList::from_text(rt.alloc(), "größe")
-        .ok()
-        .ok_or("memory")?;
-    let copy = text.copy(rt.alloc()).ok().ok_or("memory")?;
-    assert_eq!(rt; copy.len(), 7);
-    assert!(rt; copy.into_string().as_str() == "größe");
+    list.push(1)?;
+    list.extend_from_slice(&[2, 3])?;
+    assert_eq!(rt; list.len(), 3);
+    assert!(rt; list.into_vec().as_slice() == [1, 2, 3].as_slice());
+    let text = CharList::from_text(rt.alloc(), "größe")?;
+    assert_eq!(rt; text.len(), 7);
+    assert!(rt; text.into_string().as_str() == "größe");
+    Ok(())
+}
+
+// A value that was made has its form.
+#[test]
+fn made_values_are_well_formed(rt: HostRuntime) -> Result<(), Fail> {
+    let party = Party::from_text(b"ALPH/EXPORT").ok_or("a party")?;
+    assert!(rt; party.is_well_formed());
+    assert!(rt; party.platform.is_well_formed());
+    assert!(rt; party.code.is_well_formed());
+    let carrier = CarrierCode::try_new(b"MAEU").ok_or("a carrier")?;
+    assert!(rt; carrier.is_well_formed());
+    let moment = Moment::try_new(Moment::LAST).ok_or("a moment")?;
+    assert!(rt; moment.is_well_formed());
+    Ok(())
+}
+
+// An entry of one transaction, with a text of its own.
+fn sample_link(alloc: Global) -> Result<ChainLink, Fail> {
+    let actor = Party::from_text(b"ALPH/EXPORT").ok_or("a party")?;
+    let recipient = Party::from_text(b"BETA/IMPORT").ok_or("a party")?;
+    let transaction = Transaction {
+        kind: Kind::Transfer,
+        actor,
+        recipient: Some(recipient),
+        time: Moment::try_new(7).ok_or("a moment")?,
+    };
+    Ok(ChainLink {
+        text: SignedText(ByteList::from_slice(alloc, b"a.b.c")?),
+        name: Checksum([3; 32]),
+        entry: Entry {
+            platform: actor.platform,
+            bill: Checksum([1; 32]),
+            previous: Some(Checksum([2; 32])),
+            attempt: 2,
+            transactions: TransactionList::from_slice(alloc, &[transaction])?,
+        },
+    })
+}
+
+fn assert_links(rt: &impl Abort, copy: &ChainLink, link: &ChainLink) {
+    assert!(rt; copy.text.0.as_slice() == link.text.0.as_slice());
+    assert_eq!(rt; copy.name, link.name);
+    assert_eq!(rt; copy.entry.platform, link.entry.platform);
+    assert_eq!(rt; copy.entry.bill, link.entry.bill);
+    assert_eq!(rt; copy.entry.previous, link.entry.previous);
+    assert_eq!(rt; copy.entry.attempt, link.entry.attempt);
+    assert!(rt; copy.entry.transactions.as_slice() == link.entry.transactions.as_slice());
+}
+
+#[test]
+fn copies_of_chains(rt: HostRuntime) -> Result<(), Fail> {
+    let link = sample_link(rt.alloc())?;
+    let mut chain = Chain::new(rt.alloc());
+    chain.push(link.copy(rt.alloc())?)?;
+    chain.push(sample_link(rt.alloc())?)?;
+    let copy = chain.copy(rt.alloc())?;
+    assert_eq!(rt; copy.len(), 2);
+    for copied in copy.as_slice() {
+        assert_links(&rt, copied, &link);
+    }
+    Ok(())
+}
+
+#[test]
+fn copies_of_lists(rt: HostRuntime) -> Result<(), Fail> {
+    let bytes = ByteList::from_slice(rt.alloc(), b"abc")?.copy(rt.alloc())?;
+    assert!(rt; bytes.as_slice() == b"abc".as_slice());
+    let names = ChecksumList::from_slice(rt.alloc(), &[Checksum([5; 32]), Checksum([6; 32])])?;
+    let names = names.copy(rt.alloc())?;
+    assert!(rt; names.as_slice() == [Checksum([5; 32]), Checksum([6; 32])].as_slice());
+    let text = CharList::from_text(rt.alloc(), "größe")?.copy(rt.alloc())?;
+    assert!(rt; text.into_string().as_str() == "größe");
+    let evidence = Evidence {
+        own: None,
+        theirs: Some(SignedText(bytes)),
+    };
+    let copy = evidence.copy(rt.alloc())?;
+    assert!(rt; copy.own.is_none());
+    assert!(rt;
+        copy.theirs
+            .is_some_and(|text| text.0.as_slice() == b"abc".as_slice())
+    );
+    Ok(())
+}
+
+#[test]
+fn copies_of_calls(rt: HostRuntime) -> Result<(), Fail> {
+    let mut calls = Calls::new(CallList::from_slice(rt.alloc(), &[1])?);
+    assert!(rt; !calls.next_fails());
+    let mut copy = calls.copy(rt.alloc())?;
+    assert_eq!(rt; copy.number(), 1);
+    assert!(rt; copy.next_fails());
+    let _ = copy.fail();
+    assert_eq!(rt; copy.faults(), 1);
     Ok(())
 }

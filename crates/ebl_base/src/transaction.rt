@@ -1,9 +1,8 @@
-use crate::items::{Copied, Items};
+//! Transactions.
+use crate::items::Items;
 use crate::kind::Kind;
 use crate::moment::Moment;
-use crate::no_memory::NoMemory;
 use crate::party::Party;
-use std::alloc::Global;
 
 /// One act on a bill: who did what, for whom, and when.
 #[derive(Clone, Copy, Debug, PartialEq, Eq)]
@@ -18,9 +17,3 @@ pub struct Transaction {
 
 /// Transactions in the order in which they were made.
 pub type TransactionList = Items<Transaction>;
-
-impl Copied for Transaction {
-    fn copy(&self, _alloc: Global) -> Result<Self, NoMemory> {
-        Ok(*self)
-    }
-}
