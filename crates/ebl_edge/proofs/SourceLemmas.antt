@@ -1,15 +1,7 @@
 -- What reads one after another hand out. (`Consumes-nil`, `Consumes-trans` and `Consumes-kept` stand in std's `KnownBytes`.)
-use Rattle.std.proofs.Common.{◌≡◌, ℕ, ◌+◌, ◌-◌, List, [], ◌++◌, Option, None, Some, ap, ◌∙◌, sym, length, take, drop, length-drop, arith}
+use Rattle.std.proofs.Common.{◌≡◌, ℕ, ◌+◌, ◌-◌, List, [], ◌++◌, ap, ◌∙◌, sym, length, take, drop, length-drop, arith}
 use Rattle.std.proofs.lemmas.List.{drop-drop, take_all}
 use Rattle.std.proofs.Math.Seq.{drop-nil}
-use Rattle.std.specs.Io.KnownBytes.{Consumes, Keeps}
-
--- nothing, and then some bytes
-pub Consumes-after_kept : (a b c : Option (List ℕ)) (bytes : List ℕ) → Keeps a b → Consumes b c bytes → Consumes a c bytes
-Consumes-after_kept None b c bytes p q = tt
-Consumes-after_kept (Some x) None c bytes p q = absurd p
-Consumes-after_kept (Some x) (Some y) None bytes p q = absurd q
-Consumes-after_kept (Some x) (Some y) (Some z) bytes p q = sym p ∙ q
 
 -- what is left at a place, of which the front was handed out
 pub moved_on : (bytes now left front : List ℕ) (at n : ℕ) → drop at bytes ≡ now → left ≡ drop at bytes → left ≡ front ++ drop n left

@@ -1,5 +1,5 @@
 pub mod Sink
 pub mod MemorySource
 pub mod MemorySink
-pub mod RoomySink
+pub mod BoundedSink
 pub mod Counted

@@ -1,3 +1,4 @@
+//! A sink in memory that fails at listed calls.
 ghost use Rattle.std.specs.Prelude.{◌≡◌, ◌↔◌, [], true, false, Some, Contains, OnOk, OnErr, IsErr, is_err};
 ghost use Rattle.std.specs.Io.KnownBytes.{Appends};
 ghost use Rattle.ebl_base.specs.Faults.{HasCause};
@@ -9,7 +10,8 @@ use ebl_base::{ByteList, CallList, Calls, Copied, Failed, NoMemory};
 use std::alloc::Global;
 use std::marker::Model;
 
-/// Bytes that are kept in memory as they are written. It fails at the listed calls, and where it finds no memory for a piece.
+/// Bytes that are kept in memory as they are written. It fails at the listed calls, and when it is out of memory for a
+/// piece.
 #[derive(Debug, Drop)]
 pub struct MemorySink {
     bytes: ByteList,
@@ -97,7 +99,7 @@ impl Sink for MemorySink {
 }
 
 impl MemorySink {
-    // What a call that is to fail writes: nothing, or the first half where memory serves.
+    // What a call that is to fail writes: nothing, or the first half if allocation succeeds.
     fn tear(&mut self, piece: &[u8])
         ensures first { AppendsFirst (Some self.old.written) (Some self.new.written) piece.now }
         ensures whole { self.old.tears ≡ false → self.new.written ≡ self.old.written }

@@ -1,19 +1,21 @@
+//! A source in memory that fails at listed reads.
 ghost use Rattle.std.specs.Prelude.{◌≡◌, ◌↔◌, min, length, Some, Contains, IfOk, IsErr, is_err};
 ghost use Rattle.std.specs.Io.{ReadsAtMost};
 ghost use Rattle.std.specs.Io.KnownBytes.{ReadConsumes};
 ghost use Rattle.ebl_base.specs.Faults.{HasCause};
 ghost use Rattle.ebl_base.specs.Calls.{after_call};
 
+use crate::infallible_source::InfallibleSource;
 use crate::source::Source;
-use crate::steady_source::SteadySource;
 use ebl_base::{ByteList, CallList, Calls, Copied, Failed, NoMemory};
 use std::alloc::Global;
 use std::marker::Model;
 
-/// Bytes in memory that are read from their front. It fails exactly at the listed reads, and hands out nothing there.
+/// Bytes in memory that are read from their front. A read fails if and only if it is listed, and then hands out
+/// nothing.
 #[derive(Debug, Drop)]
 pub struct MemorySource {
-    bytes: SteadySource,
+    bytes: InfallibleSource,
     calls: Calls,
 }
 
@@ -32,7 +34,7 @@ impl MemorySource {
         ensures calls { result.calls ≡ record { fails = fails; number = 0; faults = 0 } }
     {
         MemorySource {
-            bytes: SteadySource::new(bytes),
+            bytes: InfallibleSource::new(bytes),
             calls: Calls::new(fails),
         }
     }

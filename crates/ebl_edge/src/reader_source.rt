@@ -1,3 +1,4 @@
+//! A reader of std as a source.
 ghost use Rattle.std.specs.Prelude.{◌≡◌};
 
 use crate::source::Source;
@@ -5,7 +6,7 @@ use ebl_base::{Failed, count_fault};
 use std::io::{ErrorKind, Read};
 use std::marker::Model;
 
-/// A reader of std as a source. It tells what the reader tells, and nothing where that tells nothing, as standard input does.
+/// A reader of std as a source. What is left is known if and only if the reader reports it; standard input doesn't.
 ///
 /// Each error of the reader counts as a fault. A read that a signal interrupted is made again.
 #[derive(Drop)]

@@ -1,10 +1,11 @@
+//! A source of equal bytes.
 ghost use Rattle.std.specs.Prelude.{◌≡◌, replicate, Some};
 
 use crate::source::Source;
 use ebl_base::Failed;
 use std::marker::Model;
 
-/// A number of equal bytes that are made as they are read, without memory. Its reads never fail.
+/// A number of equal bytes that are made as they are read: it allocates nothing. Its reads never fail.
 #[derive(Debug, Drop)]
 pub struct RepeatedSource {
     byte: u8,

@@ -1,3 +1,4 @@
+//! Sources: bytes that come in.
 ghost use Rattle.std.specs.Prelude.{ℕ, List, Option};
 ghost use Rattle.std.specs.Io.{ReadsAtMost};
 ghost use Rattle.std.specs.Io.KnownBytes.{ReadConsumes};
@@ -7,7 +8,7 @@ use ebl_base::Failed;
 
 /// Bytes that come from outside, in order.
 pub trait Source {
-    /// The bytes that reads will hand out from here on, if the source tells.
+    /// The bytes that reads will hand out from here on, if that is known.
     ghost left: { Self → Option (List ℕ) };
 
     /// How often a read has failed. The count never falls.
@@ -15,7 +16,8 @@ pub trait Source {
 
     /// Hands out the next bytes, at the front of `into`, and answers how many: at most as many as `into` has room for.
     ///
-    /// For an `into` that isn't empty, `Ok(0)` comes exactly at the end. `Failed` hands out nothing, and comes only where the count of faults rose.
+    /// For an `into` that isn't empty, `Ok(0)` comes if and only if nothing is left. `Failed` hands out nothing, and comes
+    /// only if the count of faults rose.
     fn read(&mut self, into: &mut [u8]) -> Result<usize, Failed>
         ensures within { ReadsAtMost result into.new }
         ensures bytes { ReadConsumes (left self.old) (left self.new) result into.new }

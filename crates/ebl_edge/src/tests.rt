@@ -1,3 +1,4 @@
+//! What no contract says: listed failures, and what passes through std.
 use super::*;
 use ebl_base::{ByteList, CallList, Copied, count_fault};
 use std::alloc::{AllocError, Global};
@@ -61,7 +62,7 @@ fn a_memory_source_fails_at_the_listed_reads(rt: HostRuntime) -> Result<(), Fail
 #[test]
 fn sources_that_never_fail(rt: HostRuntime) -> Result<(), Fail> {
     let alloc = rt.alloc();
-    let mut steady = SteadySource::new(ByteList::from_slice(alloc, b"abcdefg")?);
+    let mut steady = InfallibleSource::new(ByteList::from_slice(alloc, b"abcdefg")?);
     assert_eq!(rt;
         reads(alloc, &mut steady)?.as_slice(),
         b"abc|def|g||||".as_slice()
@@ -98,7 +99,7 @@ fn a_memory_sink_fails_at_the_listed_calls(rt: HostRuntime) -> Result<(), Fail> 
     Ok(())
 }
 
-fn room_row(rt: &impl Abort, mut sink: RoomySink, told: &[u8], written: &[u8], faults: u64) {
+fn room_row(rt: &impl Abort, mut sink: BoundedSink, told: &[u8], written: &[u8], faults: u64) {
     assert_eq!(rt; puts(&mut sink).as_slice(), told);
     assert_eq!(rt; sink.written(), written);
     assert_eq!(rt; sink.faults(), faults);
@@ -106,11 +107,11 @@ fn room_row(rt: &impl Abort, mut sink: RoomySink, told: &[u8], written: &[u8], f
 }
 
 #[test]
-fn a_roomy_sink_fails_past_its_room_alone(rt: HostRuntime) -> Result<(), Fail> {
+fn a_bounded_sink_fails_past_its_room_alone(rt: HostRuntime) -> Result<(), Fail> {
     let alloc = rt.alloc();
-    room_row(&rt, RoomySink::new(alloc, 9)?, b"...", b"abcdefghi", 0);
-    room_row(&rt, RoomySink::new(alloc, 8)?, b"..!", b"abcdef", 1);
-    let sink = RoomySink::new(alloc, 5)?;
+    room_row(&rt, BoundedSink::new(alloc, 9)?, b"...", b"abcdefghi", 0);
+    room_row(&rt, BoundedSink::new(alloc, 8)?, b"..!", b"abcdef", 1);
+    let sink = BoundedSink::new(alloc, 5)?;
     room_row(&rt, sink.copy(alloc)?, b".!.", b"abghi", 1);
     Ok(())
 }

@@ -1,3 +1,4 @@
+//! A writer of std as a sink.
 ghost use Rattle.std.specs.Prelude.{◌≡◌};
 
 use crate::sink::Sink;
@@ -5,9 +6,10 @@ use ebl_base::{Failed, count_fault};
 use std::io::{ErrorKind, Write};
 use std::marker::Model;
 
-/// A writer of std as a sink. It tells what the writer tells, and nothing where that tells nothing, as standard output does.
+/// A writer of std as a sink. What was written is known if and only if the writer reports it; standard output doesn't.
 ///
-/// Each error of the writer counts as a fault. A write that a signal interrupted is made again. Nothing waits in the sink: a piece that was put has been handed to the writer, which was flushed.
+/// Each error of the writer counts as a fault. A write that a signal interrupted is made again. Nothing waits in the
+/// sink: a piece that was put has been handed to the writer, which was flushed.
 #[derive(Drop)]
 pub struct WriterSink<W> {
     writer: W,
@@ -60,7 +62,7 @@ impl<W: Write> WriterSink<W> {
     ghost use Rattle.std.specs.Io.KnownBytes.{Keeps, WriteAppends};
     ghost use Rattle.ebl_base.specs.Faults.{HasCause};
 
-    // One write, which takes no byte where a signal interrupts it. A writer that takes none of some bytes has failed.
+    // One write, which takes no byte if a signal interrupts it. A writer that takes none of some bytes has failed.
     fn write_some(&mut self, piece: &[u8]) -> Result<usize, Failed>
         ensures within { WritesAtMost result piece.now }
         ensures bytes { WriteAppends (W.contents self.old.inner) (W.contents self.new.inner) result piece.now }

@@ -1,4 +1,4 @@
--- What a sink that took its room shows.
+-- What a sink of fixed capacity shows.
 use Rattle.std.specs.Prelude.{ℕ, List}
 
 -- the bytes that were written, for how many it has room, and how often a piece was too long

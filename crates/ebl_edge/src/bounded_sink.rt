@@ -1,3 +1,4 @@
+//! A sink of fixed capacity.
 ghost use Rattle.std.specs.Prelude.{◌≡◌, ◌↔◌, ◌+◌, ◌≤◌, [], length, Some, IfOk, IsOk, OnOk, OnErr, is_err, if◌then◌else◌};
 ghost use Rattle.std.specs.Io.KnownBytes.{Appends};
 ghost use Rattle.ebl_base.specs.Faults.{HasCause, risen};
@@ -8,19 +9,20 @@ use ebl_base::{ByteList, Copied, Failed, NoMemory, count_fault};
 use std::alloc::Global;
 use std::marker::Model;
 
-/// Bytes that are kept in memory that was taken before: a call fails exactly where its piece goes past that room, and writes nothing there.
+/// A buffer of fixed, preallocated capacity: a call fails if and only if its piece goes past that capacity, and then
+/// writes nothing.
 ///
-/// It keeps nothing of a call but its bytes, so the number of calls has no limit.
+/// It keeps nothing of a call except its bytes, so the number of calls has no limit.
 #[derive(Debug, Drop)]
-pub struct RoomySink {
+pub struct BoundedSink {
     bytes: Vec<u8>,
     room: usize,
     faults: u64,
 }
 
-impl Model for RoomySink {
+impl Model for BoundedSink {
     ghost use Rattle.std.specs.Prelude.{◌≤◌, length, vec_capacity};
-    ghost use Rattle.ebl_edge.specs.RoomySink.{RoomRecord};
+    ghost use Rattle.ebl_edge.specs.BoundedSink.{RoomRecord};
 
     ghost Value = { RoomRecord };
 
@@ -29,12 +31,12 @@ impl Model for RoomySink {
     ghost invariant = { λ s. (length s.bytes.items ≤ s.room) × (s.room ≤ vec_capacity s.bytes) };
 }
 
-impl RoomySink {
+impl BoundedSink {
     /// An empty sink with room for this many bytes.
     pub fn new(alloc: Global, room: usize) -> Result<Self, NoMemory>
         ensures { IfOk result (λ sink. sink ≡ record { written = []; room = room; faults = 0 }) }
     {
-        Ok(RoomySink {
+        Ok(BoundedSink {
             bytes: Vec::with_capacity(alloc, room)?,
             room,
             faults: 0,
@@ -63,7 +65,7 @@ impl RoomySink {
     }
 }
 
-impl Sink for RoomySink {
+impl Sink for BoundedSink {
     ghost written = { λ s. Some s.written };
 
     ghost faults = { λ s. s.faults };
@@ -86,11 +88,11 @@ impl Sink for RoomySink {
     }
 }
 
-impl Copied for RoomySink {
+impl Copied for BoundedSink {
     fn copy(&self, alloc: Global) -> Result<Self, NoMemory> {
         let mut bytes = Vec::with_capacity(alloc, self.room)?;
         bytes.extend_from_slice(&self.bytes)?;
-        Ok(RoomySink {
+        Ok(BoundedSink {
             bytes,
             room: self.room,
             faults: self.faults,

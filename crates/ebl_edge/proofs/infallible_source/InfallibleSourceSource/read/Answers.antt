@@ -1,5 +1,5 @@
 use Rattle.ebl_edge.proofs.SourceLemmas.{moved_on, drop-at_end, take-rest}
-use Rattle.ebl_edge.proofs.steady_source.SteadySourceSource.read.Goals as goal
+use Rattle.ebl_edge.proofs.infallible_source.InfallibleSourceSource.read.Goals as goal
 
 pub returns-clause-bytes : goal.returns-clause-bytes
 returns-clause-bytes c =

@@ -1,3 +1,4 @@
+//! A source in memory whose reads never fail.
 ghost use Rattle.std.specs.Prelude.{◌≡◌, ◌<◌, [], ◌++◌, min, length, take, drop, Ok, Some};
 ghost use Rattle.std.specs.Io.{ReadsAtMost};
 ghost use Rattle.std.specs.Io.KnownBytes.{ReadConsumes};
@@ -9,12 +10,12 @@ use std::marker::Model;
 
 /// Bytes in memory that are read from their front by reads that never fail: the count of faults is the constant 0.
 #[derive(Debug, Drop)]
-pub struct SteadySource {
+pub struct InfallibleSource {
     bytes: ByteList,
     at: usize,
 }
 
-impl Model for SteadySource {
+impl Model for InfallibleSource {
     ghost use Rattle.std.specs.Prelude.{◌≤◌, List, ℕ, length, drop};
 
     ghost Value = { List ℕ };
@@ -24,12 +25,12 @@ impl Model for SteadySource {
     ghost invariant = { λ s. s.at ≤ length s.bytes };
 }
 
-impl SteadySource {
+impl InfallibleSource {
     /// A source of these bytes.
     pub fn new(bytes: ByteList) -> Self
         ensures { result ≡ bytes }
     {
-        SteadySource { bytes, at: 0 }
+        InfallibleSource { bytes, at: 0 }
     }
 
     /// The bytes that are left.
@@ -40,7 +41,7 @@ impl SteadySource {
     }
 }
 
-impl Source for SteadySource {
+impl Source for InfallibleSource {
     ghost left = { λ s. Some s };
 
     ghost faults = { λ _. 0 };
@@ -57,9 +58,9 @@ impl Source for SteadySource {
     }
 }
 
-impl Copied for SteadySource {
+impl Copied for InfallibleSource {
     fn copy(&self, alloc: Global) -> Result<Self, NoMemory> {
-        Ok(SteadySource::new(ByteList::from_slice(alloc, self.left())?))
+        Ok(InfallibleSource::new(ByteList::from_slice(alloc, self.left())?))
     }
 }
 
