@@ -126,10 +126,6 @@ Follows-same start events after place n is c left = (
   Torn-same place n c,
 )
 
-pub NoneNew-same : (start : List ℕ) (events after : List Event) → after ≡ events
-    → NoneNew (MayLeave start events) (MayLeave start after)
-NoneNew-same start events after is c left = subst (λ (l : List Event). MayLeave start l c) is left
-
 pub Only-synced : (start : List ℕ) (events after : List Event) → after ≡ events ++ synced ∷ []
     → Only (seen_after start events) (MayLeave start after)
 Only-synced start events after is c left = LeftAfter-synced (λ d. d ≡ start) start events c

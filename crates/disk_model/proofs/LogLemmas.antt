@@ -61,9 +61,6 @@ bytes_written-events_of (Write p m ∷ marks) bytes whole =
     )
 bytes_written-events_of (Sync ∷ marks) bytes whole = bytes_written-events_of marks bytes whole
 
-pub IsKept-start : (start : List ℕ) → IsKept start start [] []
-IsKept-start start = record { whole = refl; replayed = refl; inside = tt }
-
 pub IsKept-write : (start seen bytes piece : List ℕ) (marks : List Mark) (place : ℕ) → IsKept start seen marks bytes
     → place ≤ length seen
     → IsKept start (written seen place piece) (marks ++ Write place (length piece) ∷ []) (bytes ++ piece)

@@ -38,35 +38,3 @@ module _ {D : Type 0} (moment : D → ℕ) (left_since : D → ℕ → List ℕ 
     before = λ t c le left. ⊎_elim (first.before t c le) (λ p. inr p)
         (second.before t c (omega (arith, le, first.later)) left);
   }
-
-module _ {D : Type 0} (seen : D → List ℕ) (may_leave : D → List ℕ → Type 0) (moment : D → ℕ)
-    (left_since : D → ℕ → List ℕ → Type 0) where
-  -- no call at all
-  pub Looked-refl : (old : D) → ((c : List ℕ) → left_since old (moment old) c → may_leave old c)
-      → Looked seen may_leave moment left_since old old
-  Looked-refl old only = record {
-    same = refl;
-    crash = λ c left. left;
-    time = started moment left_since old (may_leave old) only;
-  }
-
-  -- one call that wrote nothing
-  pub Looked-one : (old new : D) → ((c : List ℕ) → left_since old (moment old) c → may_leave old c)
-      → seen new ≡ seen old → NoneNew (may_leave old) (may_leave new)
-      → Elapses (moment old) (moment new) (left_since old) (left_since new) (may_leave new)
-      → Looked seen may_leave moment left_since old new
-  Looked-one old new only same crash time = record {
-    same = same;
-    crash = crash;
-    time = goes_on moment left_since old old new (may_leave old) (may_leave new)
-        (started moment left_since old (may_leave old) only) time crash;
-  }
-
-  pub Looked-trans : (old mid new : D) → Looked seen may_leave moment left_since old mid
-      → Looked seen may_leave moment left_since mid new → Looked seen may_leave moment left_since old new
-  Looked-trans old mid new first second = record {
-    same = second.same ∙ first.same;
-    crash = λ c left. first.crash c (second.crash c left);
-    time = LeavesOnly-trans moment left_since old mid new (may_leave old) first.time
-        (LeavesOnly-weaker moment left_since mid new (may_leave mid) (may_leave old) first.crash second.time);
-  }

@@ -1,3 +1,4 @@
+//! Disks: what a read gives, and what a crash may leave.
 ghost use Rattle.std.specs.Prelude.{◌≡◌, ◌+◌, ◌≤◌, true, Bool, List, ℕ, length, take, drop, IfOk, OnOk};
 ghost use Rattle.ebl_base.specs.Faults.{HasCause};
 ghost use Rattle.disk_model.specs.Disk.{written, Torn, Follows, NoneNew, Only, Elapses};
@@ -10,7 +11,7 @@ use ebl_base::Failed;
 /// bytes stay. After a sync that answered `Ok` a crash leaves what a read gives. A failed write may be done, undone
 /// or done in part.
 pub trait Disk {
-    /// Whether the disk tells its bytes. Where it doesn't, no clause but that on causes says anything.
+    /// Whether the disk's bytes are known. If they aren't, only the clause on causes says anything.
     ghost tells: { Self → Bool };
 
     /// The bytes that a read gives.
@@ -28,7 +29,7 @@ pub trait Disk {
     /// How often a call has failed. The count never falls.
     ghost faults: { Self → ℕ };
 
-    /// The number of bytes. `Failed` comes only where the count of faults rose.
+    /// The number of bytes. `Failed` comes only if the count of faults rose.
     fn len(&mut self) -> Result<u64, Failed>
         ensures told { tells self.new ≡ tells self.old }
         ensures length { tells self.old ≡ true → IfOk result (λ n. n ≡ length (seen self.old)) }
@@ -38,7 +39,7 @@ pub trait Disk {
             (left_since self.new) (may_leave self.new) }
         ensures cause { HasCause (faults self.old) (faults self.new) result };
 
-    /// Fills `into` with the bytes from a place on. `Failed` comes only where the count of faults rose.
+    /// Fills `into` with the bytes from a place on. `Failed` comes only if the count of faults rose.
     fn read(&mut self, place: u64, into: &mut [u8]) -> Result<(), Failed>
         requires inside { tells self.old ≡ true → place + length into.old ≤ length (seen self.old) }
         ensures told { tells self.new ≡ tells self.old }
@@ -50,8 +51,8 @@ pub trait Disk {
             (left_since self.new) (may_leave self.new) }
         ensures cause { HasCause (faults self.old) (faults self.new) result };
 
-    /// Writes over what is there, and past the end. `Failed` comes only where the count of faults rose; the bytes are
-    /// then written, or not, or in part.
+    /// Writes over what is there, and past the end. `Failed` comes only if the count of faults rose; the bytes are then
+    /// written, or not, or in part.
     fn write_at(&mut self, place: u64, bytes: &[u8]) -> Result<(), Failed>
         requires inside { tells self.old ≡ true → place ≤ length (seen self.old) }
         ensures told { tells self.new ≡ tells self.old }
@@ -63,7 +64,7 @@ pub trait Disk {
             (left_since self.new) (may_leave self.new) }
         ensures cause { HasCause (faults self.old) (faults self.new) result };
 
-    /// Puts all that was written on the disk: after `Ok` a crash leaves what a read gives. `Failed` comes only where
+    /// Puts all that was written on the disk: after `Ok` a crash leaves what a read gives. `Failed` comes only if
     /// the count of faults rose.
     fn sync(&mut self) -> Result<(), Failed>
         ensures told { tells self.new ≡ tells self.old }

@@ -1,3 +1,4 @@
+//! A file as a disk.
 ghost use Rattle.std.specs.Prelude.{◌≡◌, [], false, IfOk};
 ghost use Rattle.ebl_base.specs.Faults.{HasCause};
 
@@ -8,7 +9,7 @@ use std::io;
 use std::marker::Model;
 use std::os::unix::fs::FileExt;
 
-/// A file as a disk. It tells nothing: no contract says what the system keeps of a file.
+/// A file as a disk. Its bytes aren't known: no contract says what the system keeps of a file.
 ///
 /// Each error of the system counts as a fault. A call that a signal interrupts is made again, and a read or a write
 /// that moved only a part goes on behind that part. A sync waits until the system says that the bytes are on the

@@ -1,16 +1,16 @@
 //! Disks: what a read gives, what a crash may leave, and a count of faults; in memory and over a file.
 #![tactic(auto)]
 
+mod bounded_disk;
 mod disk;
 mod file_disk;
 mod log;
 mod mark;
 mod memory_disk;
-mod roomy_disk;
 #[cfg(test)]
 mod tests;
 
+pub use bounded_disk::BoundedDisk;
 pub use disk::Disk;
 pub use file_disk::FileDisk;
-pub use memory_disk::MemoryDisk;
-pub use roomy_disk::RoomyDisk;
+pub use memory_disk::{Failures, MemoryDisk};

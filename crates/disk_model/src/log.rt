@@ -1,4 +1,4 @@
-// What a disk in memory keeps: the bytes at the start, those that a read gives now, and each write and sync between.
+//! What a disk in memory keeps: the bytes at the start, those that a read gives now, and each write and sync between.
 ghost use Rattle.std.specs.Prelude.{◌≡◌, ◌↔◌, ◌+◌, ◌≤◌, ◌<◌, ◌++◌, [], ◌∷◌, length, take, drop, vec_len, vec_capacity, IfOk, OnOk, OnErr, IsOk, IsTrue};
 ghost use Rattle.disk_model.specs.Disk.{written, Torn, Follows, NoneNew, Only};
 ghost use Rattle.disk_model.specs.Event.{write, synced, bytes_written, seen_after, MayLeave, EventsElapse};
@@ -15,7 +15,7 @@ pub(crate) struct DiskLog {
     marks: Vec<Mark>,
     // The bytes of all writes, one write behind the other.
     written: Vec<u8>,
-    // For how many bytes of writes, and for how many events, room was taken before.
+    // For how many bytes of writes, and for how many events, there is preallocated room.
     byte_room: usize,
     event_room: usize,
 }
@@ -93,21 +93,21 @@ impl DiskLog {
         self.written.len()
     }
 
-    // For how many bytes of writes room was taken before.
+    // For how many bytes of writes there is preallocated room.
     pub(crate) fn byte_room(&self) -> usize
         ensures { result ≡ self.now.byte_room }
     {
         self.byte_room
     }
 
-    // Whether there is room that was taken before for one event more.
+    // Whether there is preallocated room for one event more.
     pub(crate) fn has_event_room(&self) -> bool
         ensures { IsTrue result ↔ (length self.now.events < self.now.event_room) }
     {
         self.marks.len() < self.event_room
     }
 
-    // Writes a piece over the bytes from a place on, and past their end. Without memory nothing changes.
+    // Writes a piece over the bytes from a place on, and past their end. Out of memory, nothing changes.
     pub(crate) fn write(&mut self, place: usize, piece: &[u8]) -> Result<(), NoMemory>
         requires inside { place ≤ length self.old.seen }
         ensures start { self.new.start ≡ self.old.start }
@@ -149,7 +149,7 @@ impl DiskLog {
         Ok(())
     }
 
-    // All that was written is on the disk. Without memory nothing changes.
+    // All that was written is on the disk. Out of memory, nothing changes.
     pub(crate) fn sync(&mut self) -> Result<(), NoMemory>
         ensures start { self.new.start ≡ self.old.start }
         ensures events { OnOk result (self.new.events ≡ self.old.events ++ synced ∷ []) }

@@ -1,4 +1,5 @@
-// What happened to the bytes of a disk in memory.
+//! What happened to the bytes of a disk in memory.
+
 #[derive(Clone, Copy, Debug)]
 pub(crate) enum Mark {
     // So many bytes were written from this place on.

@@ -1,3 +1,4 @@
+//! A disk in memory that fails at listed calls.
 ghost use Rattle.std.specs.Prelude.{◌≡◌, ◌↔◌, ◌⊎◌, ◌+◌, ◌≤◌, ◌++◌, [], ◌∷◌, true, length, take, drop, Contains, IfOk, OnOk, OnErr, IsErr, is_err};
 ghost use Rattle.ebl_base.specs.Faults.{HasCause};
 ghost use Rattle.ebl_base.specs.Calls.{after_call};
@@ -10,10 +11,18 @@ use ebl_base::{ByteList, CallList, Calls, Copied, Failed, NoMemory};
 use std::alloc::Global;
 use std::marker::Model;
 
-/// A disk in memory that keeps each write and each sync, so that it can tell what a crash may leave at any moment.
+/// Which calls of a disk in memory fail, by their numbers from 0: each `len`, `read`, `write_at` and `sync` is one.
+#[derive(Debug, Drop)]
+pub struct Failures {
+    /// The calls that fail.
+    pub calls: CallList,
+    /// Those of them that are writes and write their bytes before they fail. Other failing writes leave theirs out.
+    pub written: CallList,
+}
+
+/// A disk in memory that keeps each write and each sync, so that it is known what a crash may leave at any moment.
 ///
-/// It fails at the listed calls, and where it finds no memory for a write or for its record. Calls are counted from
-/// 0; each `len`, `read`, `write_at` and `sync` is one.
+/// It fails at the listed calls, and when it is out of memory for a write or for its record.
 #[derive(Debug, Drop)]
 pub struct MemoryDisk {
     log: DiskLog,
@@ -36,25 +45,18 @@ impl Model for MemoryDisk {
 }
 
 impl MemoryDisk {
-    /// A disk with these bytes, all of them on it, whose calls of the numbers in `fails` fail.
-    ///
-    /// Such a write leaves its bytes out, or where its number stands in `done` too, writes them before it fails.
-    pub fn new(
-        alloc: Global,
-        bytes: ByteList,
-        fails: CallList,
-        done: CallList,
-    ) -> Result<Self, NoMemory>
+    /// A disk with these bytes, all of them on it, of which the listed calls fail.
+    pub fn new(alloc: Global, bytes: ByteList, failures: Failures) -> Result<Self, NoMemory>
         ensures bytes { IfOk result (λ disk. disk.seen ≡ bytes) }
         ensures start { IfOk result (λ disk. disk.start ≡ bytes) }
         ensures events { IfOk result (λ disk. disk.events ≡ []) }
-        ensures calls { IfOk result (λ disk. disk.calls ≡ record { fails = fails; number = 0; faults = 0 }) }
-        ensures done { IfOk result (λ disk. disk.done ≡ done) }
+        ensures calls { IfOk result (λ disk. disk.calls ≡ record { fails = failures.calls; number = 0; faults = 0 }) }
+        ensures done { IfOk result (λ disk. disk.done ≡ failures.written) }
     {
         Ok(MemoryDisk {
             log: DiskLog::new(alloc, bytes)?,
-            calls: Calls::new(fails),
-            done,
+            calls: Calls::new(failures.calls),
+            done: failures.written,
         })
     }
 
@@ -73,7 +75,7 @@ impl MemoryDisk {
         self.calls.faults()
     }
 
-    // A write at a listed call: whether its bytes go in says the list.
+    // A write at a listed call: the list says whether its bytes go in.
     fn fail_write(&mut self, number: u64, place: u64, bytes: &[u8])
         requires inside { place ≤ length self.old.seen }
         ensures start { self.new.start ≡ self.old.start }
@@ -203,6 +205,15 @@ impl Copied for MemoryDisk {
             log: self.log.copy(alloc)?,
             calls: self.calls.copy(alloc)?,
             done: self.done.copy(alloc)?,
+        })
+    }
+}
+
+impl Copied for Failures {
+    fn copy(&self, alloc: Global) -> Result<Self, NoMemory> {
+        Ok(Failures {
+            calls: self.calls.copy(alloc)?,
+            written: self.written.copy(alloc)?,
         })
     }
 }

@@ -1,3 +1,4 @@
+//! What no contract says: listed failures with their bytes and without, and a real file.
 ghost use Rattle.std.specs.Prelude.{◌≤◌, length};
 
 use super::*;
@@ -39,9 +40,12 @@ fn memory_row(
     told: &[u8; 5],
     bytes: &[u8],
 ) -> Result<(), Fail> {
-    let fails = CallList::from_slice(alloc, fails)?;
-    let done = CallList::from_slice(alloc, done)?;
-    let disk = MemoryDisk::new(alloc, ByteList::from_slice(alloc, b"abcd")?, fails, done)?;
+    let failures = Failures {
+        calls: CallList::from_slice(alloc, fails)?,
+        written: CallList::from_slice(alloc, done)?,
+    };
+    let start = ByteList::from_slice(alloc, b"abcd")?;
+    let disk = MemoryDisk::new(alloc, start, failures.copy(alloc)?)?;
     let mut disk = disk.copy(alloc)?;
     assert_eq!(rt; answers(&mut disk), *told);
     assert_eq!(rt; disk.bytes(), bytes);
@@ -60,9 +64,12 @@ fn a_memory_disk_fails_at_the_listed_calls(rt: HostRuntime) -> Result<(), Fail> 
 #[test]
 fn a_count_of_failed_calls(rt: HostRuntime) -> Result<(), Fail> {
     let alloc = rt.alloc();
-    let fails = CallList::from_slice(alloc, &[0, 2])?;
+    let failures = Failures {
+        calls: CallList::from_slice(alloc, &[0, 2])?,
+        written: CallList::new(alloc),
+    };
     let bytes = ByteList::from_slice(alloc, b"abcd")?;
-    let mut disk = MemoryDisk::new(alloc, bytes, fails, CallList::new(alloc))?;
+    let mut disk = MemoryDisk::new(alloc, bytes, failures)?;
     assert_eq!(rt; disk.len().is_err(), true);
     assert_eq!(rt; disk.len(), Ok(4));
     assert_eq!(rt; disk.sync().is_err(), true);
@@ -71,9 +78,9 @@ fn a_count_of_failed_calls(rt: HostRuntime) -> Result<(), Fail> {
 }
 
 #[test]
-fn a_roomy_disk_fails_past_its_room_alone(rt: HostRuntime) -> Result<(), Fail> {
+fn a_bounded_disk_fails_past_its_room_alone(rt: HostRuntime) -> Result<(), Fail> {
     let alloc = rt.alloc();
-    let disk = RoomyDisk::new(alloc, 5, 3)?;
+    let disk = BoundedDisk::new(alloc, 5, 3)?;
     let mut disk = disk.copy(alloc)?;
     assert_eq!(rt; mark(disk.write_at(0, b"abc")), b'.');
     assert_eq!(rt; mark(disk.write_at(0, b"XY")), b'.');

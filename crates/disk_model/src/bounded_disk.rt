@@ -1,3 +1,4 @@
+//! A disk in memory of fixed capacity.
 ghost use Rattle.std.specs.Prelude.{◌≡◌, ◌↔◌, ◌+◌, ◌≤◌, ◌<◌, ◌++◌, [], ◌∷◌, true, length, take, drop, Ok, IfOk, IsOk, IsTrue, OnOk, OnErr, is_err, if◌then◌else◌};
 ghost use Rattle.ebl_base.specs.Faults.{HasCause, risen};
 ghost use Rattle.disk_model.specs.Disk.{written, Torn, Follows, NoneNew, Only};
@@ -9,17 +10,17 @@ use ebl_base::{Copied, Failed, NoMemory, count_fault};
 use std::alloc::Global;
 use std::marker::Model;
 
-/// A disk in memory that was taken before. It fails exactly where a write or a sync goes past that room, and does
-/// nothing there.
+/// A disk in memory of fixed, preallocated capacity. A write or a sync fails if and only if it goes past that capacity,
+/// and then does nothing.
 ///
-/// It keeps each write and each sync, so that it can tell what a crash may leave at any moment. Reads take no room.
+/// It keeps each write and each sync, so that it is known what a crash may leave at any moment. Reads take no room.
 #[derive(Debug, Drop)]
-pub struct RoomyDisk {
+pub struct BoundedDisk {
     log: DiskLog,
     faults: u64,
 }
 
-impl Model for RoomyDisk {
+impl Model for BoundedDisk {
     ghost use Rattle.std.specs.Prelude.{◌≡◌, []};
     ghost use Rattle.disk_model.specs.Record.{RoomRecord};
 
@@ -30,7 +31,7 @@ impl Model for RoomyDisk {
     ghost invariant = { λ s. s.log.start ≡ [] };
 }
 
-impl RoomyDisk {
+impl BoundedDisk {
     /// A blank disk with room for writes of so many bytes together, and for so many writes and syncs.
     pub fn new(alloc: Global, bytes: usize, events: usize) -> Result<Self, NoMemory>
         ensures seen { IfOk result (λ disk. disk.log.seen ≡ []) }
@@ -40,7 +41,7 @@ impl RoomyDisk {
         ensures events { IfOk result (λ disk. disk.log.event_room ≡ events) }
         ensures faults { IfOk result (λ disk. disk.faults ≡ 0) }
     {
-        Ok(RoomyDisk {
+        Ok(BoundedDisk {
             log: DiskLog::with_room(alloc, bytes, events)?,
             faults: 0,
         })
@@ -72,7 +73,7 @@ impl RoomyDisk {
     }
 }
 
-impl Disk for RoomyDisk {
+impl Disk for BoundedDisk {
     ghost tells = { λ _. true };
 
     ghost seen = { λ s. s.log.seen };
@@ -164,9 +165,9 @@ impl Disk for RoomyDisk {
     ghost only_now = { λ s c told left. events.only_now s.log.start s.log.events c left };
 }
 
-impl Copied for RoomyDisk {
+impl Copied for BoundedDisk {
     fn copy(&self, alloc: Global) -> Result<Self, NoMemory> {
-        Ok(RoomyDisk {
+        Ok(BoundedDisk {
             log: self.log.copy(alloc)?,
             faults: self.faults,
         })
