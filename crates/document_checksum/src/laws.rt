@@ -1,3 +1,4 @@
+//! What holds of every checksum.
 ghost use Rattle.std.specs.Prelude.{◌≡◌, ℕ, List, Some, IfSome};
 ghost use Rattle.ebl_base.specs.declared.checksum.Checksum.{Checksum};
 ghost use Rattle.document_checksum.specs.Digest.{IsChecksum, checksum_of};

@@ -1,3 +1,4 @@
+//! The text of a checksum, and the checksum with a text.
 ghost use Rattle.std.specs.Prelude.{◌≡◌, ◌↔◌, length, IsSome};
 ghost use Rattle.std.specs.List.{AllPass, list_all};
 ghost use Rattle.document_checksum.specs.Text.{checksum_text, checksum_of_text, is_lower_digit};
@@ -19,7 +20,7 @@ fn are_lower_digits(text: &[u8]) -> bool
 
 /// The text of a checksum: two hexadecimal digits for each byte, in lower case (RFC 4648, section 8).
 ///
-/// Takes no memory.
+/// Allocates nothing.
 pub fn to_text(checksum: Checksum) -> [u8; 64]
     ensures { result ≡ checksum_text checksum }
 {
@@ -28,9 +29,9 @@ pub fn to_text(checksum: Checksum) -> [u8; 64]
     text
 }
 
-/// The checksum with this text; `None` exactly where the text isn't 64 characters `0` to `9`, `a` to `f`.
+/// The checksum with this text; `None` exactly when the text isn't 64 characters `0` to `9`, `a` to `f`.
 ///
-/// Takes no memory.
+/// Allocates nothing.
 pub fn from_text(text: &[u8]) -> Option<Checksum>
     ensures form { IsSome result ↔ (length text.now ≡ 64) × AllPass is_lower_digit text.now }
     ensures value { result ≡ checksum_of_text text.now }
