@@ -1,8 +1,9 @@
--- A list and members that grow at their ends while what is left of a reading shrinks.
-use Rattle.std.proofs.Common.{◌≡◌, List, [], ◌∷◌, ◌++◌, length, IsUtf8, refl, sym, ap, subst, arith}
+-- A list and members that grow at their ends while what is left of a tree shrinks.
+use Rattle.std.proofs.Common.{◌≡◌, ℕ, List, [], ◌∷◌, ◌++◌, Bool, true, false, not, ◌||◌, IsUtf8, refl, sym, ap, subst, true≢false}
 use Rattle.canonical_json.specs.Value.{Value, Values, no_values, item, Members, no_members, member}
 use Rattle.canonical_json.specs.View.{Entry, view, member_view, items_view, members_view}
 use Rattle.canonical_json.specs.Lawful.{HasTexts, HaveTexts, MembersHaveTexts}
+use Rattle.canonical_json.specs.Reading.{names_of}
 use Rattle.canonical_json.specs.declared.value.Json.{Json}
 use Rattle.canonical_json.specs.declared.value.Member.{Member}
 
@@ -40,6 +41,32 @@ pub MembersHaveTexts-push : (ms : List Member) (m : Member) (e : Entry) → Memb
 MembersHaveTexts-push [] m e h is k l = (subst (λ (p : Entry). IsUtf8 p.0) (sym is) k, subst (λ (p : Entry). HasTexts p.1) (sym is) l, tt)
 MembersHaveTexts-push (n ∷ ms) m e h is k l = (h.0, h.1, MembersHaveTexts-push ms m e h.2 is k l)
 
-pub nothing_left : {X : Type 0} (xs : List X) → length xs ≡ 0 → xs ≡ []
-nothing_left [] e = refl
-nothing_left (x ∷ xs) e = absurd (omega arith)
+-- the names of the items, and the rest behind them
+abbrev pub names_before : List Member → List (List ℕ) → List (List ℕ)
+names_before [] rest = rest
+names_before (m ∷ ms) rest = (member_view m).0 ∷ names_before ms rest
+
+pub names_before-push : (ms : List Member) (m : Member) (e : Entry) (rest : List (List ℕ)) → member_view m ≡ e → names_before (ms ++ m ∷ []) rest ≡ names_before ms (e.0 ∷ rest)
+names_before-push [] m e rest is = ap (λ (p : Entry). p.0 ∷ rest) is
+names_before-push (n ∷ ms) m e rest is = ap (λ l. (member_view n).0 ∷ l) (names_before-push ms m e rest is)
+
+pub names_before-none : (ms : List Member) → names_before ms [] ≡ names_of (members_view ms)
+names_before-none [] = refl
+names_before-none (m ∷ ms) = ap (λ l. (member_view m).0 ∷ l) (names_before-none ms)
+
+-- a fault of one more tree
+pub moved : (a b c : Bool) → (b || (a || c)) ≡ ((a || b) || c)
+moved true true c = refl
+moved true false c = refl
+moved false b c = refl
+
+pub last_noted : (l r m o : Bool) → l ≡ (m || o) → (l || not (not r)) ≡ ((r || m) || o)
+last_noted true true m o e = refl
+last_noted false true m o e = refl
+last_noted true false m o e = e
+last_noted false false m o e = e
+
+pub none_noted : (l a : Bool) → (l || not a) ≡ false → (l ≡ false) × (a ≡ true)
+none_noted true a e = absurd (true≢false e)
+none_noted false true e = (refl, refl)
+none_noted false false e = absurd (true≢false e)

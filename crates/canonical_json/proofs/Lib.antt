@@ -2,9 +2,13 @@ pub mod Views
 pub mod Units
 pub mod Order
 pub mod Sorting
+pub mod Numbers
+pub mod Trees
 pub mod Growing
+pub mod Decimals
 pub mod Texts
 pub mod Readings
-pub mod Refusals
-pub mod Parts
 pub mod TakingLemmas
+pub mod Parts
+pub mod Refusals
+pub mod Former

@@ -1,14 +1,12 @@
 -- For crates above: the parts of a lawful value are lawful, and a text reads as one value.
-use Rattle.std.proofs.Common.{◌≡◌, ℕ, List, Bool, true, false, cond, Some, bytes_eq, unwrap_or, sym, ap, ◌∙◌}
+use Rattle.std.proofs.Common.{◌≡◌, ℕ, List, Bool, true, false, cond, Ok, Err, Result, Some, bytes_eq, unwrap_or, sym, ap, ◌∙◌}
 use Rattle.std.proofs.lemmas.Bool.{and_parts}
-use Rattle.serde_json.specs.Data.{Data}
-use Rattle.serde_json.specs.Data as reading
-use Rattle.canonical_json.specs.Value.{Value, null, flag, int, text, list, object, Members, no_members, member}
+use Rattle.canonical_json.specs.Value.{Value, null, flag, int, decimal, text, list, object, Members, no_members, member}
 use Rattle.canonical_json.specs.Name.{names_rise}
 use Rattle.canonical_json.specs.Lawful.{IsLawful, is_lawful, members_are_lawful}
-use Rattle.canonical_json.specs.Reading.{Reads, value_of}
+use Rattle.canonical_json.specs.Reading.{Reads}
 use Rattle.canonical_json.specs.Field.{under, member_of}
-use Rattle.canonical_json.proofs.Readings.{is_lawful-value_of}
+use Rattle.canonical_json.specs.declared.fault.ReadError.{ReadError}
 
 is_lawful-under : (name : List ℕ) (ms : Members) (w : Value) → members_are_lawful ms ≡ true → under name ms ≡ Some w → IsLawful w
 is_lawful-under name no_members w h e = absurd (cc)
@@ -24,15 +22,15 @@ pub is_lawful-member_of : (name : List ℕ) (v w : Value) → IsLawful v → mem
 is_lawful-member_of name null w h e = absurd (cc)
 is_lawful-member_of name (flag b) w h e = absurd (cc)
 is_lawful-member_of name (int z) w h e = absurd (cc)
+is_lawful-member_of name (decimal z s) w h e = absurd (cc)
 is_lawful-member_of name (text s) w h e = absurd (cc)
 is_lawful-member_of name (list vs) w h e = absurd (cc)
 is_lawful-member_of name (object ms) w h e = is_lawful-under name ms w (and_parts (names_rise ms) (members_are_lawful ms) h).1 e
 
--- what a text reads as is lawful
-pub is_lawful-Reads : (bytes : List ℕ) (v : Value) → Reads bytes v → IsLawful v
-is_lawful-Reads bytes v r = ap is_lawful r.4 ∙ is_lawful-value_of r.0 r.3
+abbrev or_else : Value → Result Value ReadError → Value
+or_else v (Ok w) = w
+or_else v (Err e) = v
 
 -- a text reads as one value at most
 pub Reads_once : (bytes : List ℕ) (v w : Value) → Reads bytes v → Reads bytes w → v ≡ w
-Reads_once bytes v w r s =
-    let same : r.0 ≡ s.0 = ap (λ o. unwrap_or o reading.null) (sym r.1.1 ∙ s.1.1) in r.4 ∙ ap value_of same ∙ sym s.4
+Reads_once bytes v w r s = ap (or_else v) (sym r ∙ s)

@@ -1,259 +1,92 @@
--- What `serde_json` reads of a canonical text, and what is made of a reading.
-use Rattle.std.proofs.Common.{◌≡◌, ℕ, ℤ, pos, negsuc, suc, ◌^◌, ◌≤◌, max, Bool, true, false, not, cond, ◌||◌, nat_lt, List, Some, None, option_map, unwrap_or, option_and_then, IsUtf8, Ordering, Less, Equal, Greater, nat_cmp, refl, sym, ap, ap₂, ◌∙◌, subst, arith, true≢false, lt-ltb}
-use Rattle.std.proofs.lemmas.Bool.{and_parts, and_from, or_parts}
-use Rattle.std.proofs.lemmas.Cmp.{tied_itself}
-use Rattle.std.proofs.lemmas.Map.Text.{is_eq-slice_cmp}
-use Rattle.std.proofs.lemmas.Slice.Eq.{bytes_eq-Decides}
-use Rattle.std.specs.Ordering.{match_ordering, is_eq}
-use Rattle.std.specs.Cmp.Lexicographic.{slice_cmp}
+-- What is read is lawful, nests at most as deep as its text, and the canonical text of a value is read as that value.
+use Rattle.std.proofs.Common.{◌≡◌, ℕ, ℤ, pos, zero, suc, ◌<◌, ◌≤◌, ◌⊎◌, ◌==◌, inl, inr, length, max, Bool, true, false, not, cond, ◌||◌, nat_le, List, [], ◌∷◌, Some, None, Ok, Err, Result, Option, option_and_then, unsigned_abs, Ordering, Less, Equal, Greater, refl, sym, ap, ap₂, ◌∙◌, subst, arith}
+use Rattle.std.proofs.lemmas.Bool.{and_parts, and_from, leb-true, le-ltb, cases_lt}
+use Rattle.std.proofs.lemmas.Str.{is_utf8-from_IsUtf8}
+use Rattle.std.specs.Ordering.{match_ordering}
+use Rattle.fast_float.specs.Text.{Parts, with_sign, digits_of}
+use Rattle.std.specs.Prelude.{⊤}
+use Rattle.std.specs.Str.{is_utf8}
+use Rattle.std.specs.Fmt.{signed_decimal}
+use Rattle.json.specs.Token.{Token}
 use Rattle.json.specs.Json as json
+use Rattle.json.specs.Lex.{tokens}
+use Rattle.json.specs.Strict.{keys}
 use Rattle.json.specs.Tree as tree
-use Rattle.serde_json.specs.Data as reading
-use Rattle.serde_json.specs.Data.{Data, Num, unsigned, negative, float}
-use Rattle.serde_json.specs.Find.{of_integer, is_float}
-use Rattle.serde_json.specs.Read as serde
-use Rattle.serde_json.specs.Read.{number_of, of_json, of_items, of_members, max_depth}
-use Rattle.serde_json.specs.Written.{outline, items_outline, members_outline, has_float, items_have_float, members_have_float}
+use Rattle.json.proofs.Nesting.{value-depth}
 use Rattle.canonical_json.specs.Value.{Value, null, flag, int, text, list, object, Values, no_values, item, Members, no_members, member, depth, values_depth, members_depth}
-use Rattle.canonical_json.specs.Name.{name_cmp, comes_before, names_rise, IsApart, put, put_all}
-use Rattle.canonical_json.specs.Lawful.{is_out_of_range, is_lawful, are_lawful, members_are_lawful, HasTexts, MembersHaveTexts}
-use Rattle.canonical_json.specs.Canon.{canon}
-use Rattle.canonical_json.specs.Reading.{Reads, is_big, has_big, items_have_big, members_have_big, whole_number, value_of, values_of_items, members_of_members}
-use Rattle.canonical_json.proofs.Order.{order, back as behind, is_lt-Less, names_rise-put_all, put_all-names_rise, put_all-put}
-use Rattle.canonical_json.proofs.Texts.{in_range-pos, number_text-of_integer, number_of-signed_decimal, as_integer-of_integer, not-true, plain, plain_values, plain_members, tokens-canon, read_tokens, IsUtf8-canon}
+use Rattle.canonical_json.specs.Value as value
+use Rattle.canonical_json.specs.Name.{name_cmp, names_rise, put, put_all, in_order}
+use Rattle.canonical_json.specs.Lawful.{is_out_of_range, is_lawful, are_lawful, members_are_lawful, HasTexts}
+use Rattle.canonical_json.specs.Canon.{canon, decimal_text}
+use Rattle.canonical_json.specs.declared.fault.ReadError.{ReadError}
+use Rattle.canonical_json.specs.declared.fault.ReadError.TheVariants.{Repeated, Fraction, Range}
+use Rattle.canonical_json.specs.Number.{lowest, is_decimal, greatest, exact, from_parts, parts_of, is_negative, number_in, number_value, fails_by_fraction, fails_by_range, or_null, is_fraction, is_big}
+use Rattle.canonical_json.specs.Reading.{tree_of, names_of, repeats, has_repeated, items_have_repeated, members_have_repeated, has_number, items_have_number, members_have_number, value_of, values_of_items, members_of_members, value_in_tree, Reads}
+use Rattle.canonical_json.proofs.Order.{names_rise-put_all, put_all-names_rise}
+use Rattle.canonical_json.proofs.Sorting.{repeats-apart, AreApart-rise}
+use Rattle.canonical_json.proofs.Decimals.{number_in-signed_decimal, number_in-decimal_text}
+use Rattle.canonical_json.proofs.Texts.{outline, items_outline, members_outline, depth-outline, tokens-canon, read_tokens, outline_same, IsUtf8-canon}
+use Rattle.canonical_json.proofs.Trees.{value_in-tree}
 
--- ---- what is read of a value's JSON
+-- ---- a number that was read is lawful
 
-abbrev mutual
-  data_of : Value → Data
-  data_of null = reading.null
-  data_of (flag b) = reading.boolean b
-  data_of (int z) = reading.number (of_integer z)
-  data_of (text s) = reading.string s
-  data_of (list vs) = reading.array (items_of vs)
-  data_of (object ms) = reading.object (in_bytes ms reading.no_members)
-
-  items_of : Values → reading.Items
-  items_of no_values = reading.no_items
-  items_of (item v vs) = reading.item (data_of v) (items_of vs)
-
-  -- the members put one after another by their bytes
-  in_bytes : Members → reading.Members → reading.Members
-  in_bytes no_members found = found
-  in_bytes (member name v ms) found = in_bytes ms (reading.put name (data_of v) found)
-
-mutual
-  of_json-plain : (v : Value) → is_lawful v ≡ true → of_json (outline (plain v)) ≡ Some (data_of v)
-  of_json-plain null h = refl
-  of_json-plain (flag b) h = refl
-  of_json-plain (int z) h = ap (λ s. option_map reading.number (number_of s)) (number_text-of_integer z) ∙ ap (option_map reading.number) (number_of-signed_decimal z h)
-  of_json-plain (text s) h = refl
-  of_json-plain (list vs) h = ap (option_map reading.array) (of_items-plain vs h)
-  of_json-plain (object ms) h = ap (option_map reading.object) (of_members-plain ms reading.no_members (and_parts (names_rise ms) _ h).1)
-
-  of_items-plain : (vs : Values) → are_lawful vs ≡ true → of_items (items_outline (plain_values vs)) ≡ Some (items_of vs)
-  of_items-plain no_values h = refl
-  of_items-plain (item v vs) h =
-      let p = and_parts (is_lawful v) _ h in
-      ap (option_and_then (λ d. option_map (reading.item d) (of_items (items_outline (plain_values vs))))) (of_json-plain v p.0)
-      ∙ ap (option_map (reading.item (data_of v))) (of_items-plain vs p.1)
-
-  of_members-plain : (ms : Members) (found : reading.Members) → members_are_lawful ms ≡ true → of_members (members_outline (plain_members ms)) found ≡ Some (in_bytes ms found)
-  of_members-plain no_members found h = refl
-  of_members-plain (member name v ms) found h =
-      let p = and_parts (is_lawful v) _ h in
-      ap (option_and_then (λ d. of_members (members_outline (plain_members ms)) (reading.put name d found))) (of_json-plain v p.0)
-      ∙ of_members-plain ms (reading.put name (data_of v) found) p.1
-
-mutual
-  depth-plain : (v : Value) → tree.depth (outline (plain v)) ≡ depth v
-  depth-plain null = refl
-  depth-plain (flag b) = refl
-  depth-plain (int z) = refl
-  depth-plain (text s) = refl
-  depth-plain (list vs) = ap suc (items_depth-plain vs)
-  depth-plain (object ms) = ap suc (members_depth-plain ms)
-
-  items_depth-plain : (vs : Values) → tree.items_depth (items_outline (plain_values vs)) ≡ values_depth vs
-  items_depth-plain no_values = refl
-  items_depth-plain (item v vs) = ap₂ max (depth-plain v) (items_depth-plain vs)
-
-  members_depth-plain : (ms : Members) → tree.members_depth (members_outline (plain_members ms)) ≡ members_depth ms
-  members_depth-plain no_members = refl
-  members_depth-plain (member name v ms) = ap₂ max (depth-plain v) (members_depth-plain ms)
-
-read-canon : (v : Value) → is_lawful v ≡ true → depth v ≤ 127 → serde.read (canon v) ≡ Some (data_of v)
-read-canon v h shallow =
-    ap (λ ts. option_and_then of_json (option_and_then (λ p. json.if_last p.0 p.1) (json.value max_depth ts))) (tokens-canon v h)
-    ∙ ap (λ o. option_and_then of_json (option_and_then (λ p. json.if_last p.0 p.1) o)) (read_tokens (outline (plain v)) max_depth (subst (λ n. n ≤ max_depth) (sym (depth-plain v)) shallow))
-    ∙ of_json-plain v h
-
--- ---- its numbers
-
-members_have_float-put : (k : List ℕ) (d : Data) (ms : reading.Members) → has_float d ≡ false → members_have_float ms ≡ false → members_have_float (reading.put k d ms) ≡ false
-members_have_float-put k d reading.no_members p q = either (has_float d) false p refl
+in_range : (negative : Bool) (n : ℕ) → n ≤ greatest → not (is_out_of_range (with_sign negative n)) ≡ true
+in_range false n h = by (cases_lt 9007199254740991 n)
   where
-    either : (a b : Bool) → a ≡ false → b ≡ false → (a || b) ≡ false
-    either a b p q = ap₂ (λ x y. x || y) p q
-members_have_float-put k d (reading.member l e ms) p q =
-    let parts = or_parts (has_float e) (members_have_float ms) q in by parts.0 parts.1 (members_have_float-put k d ms p parts.1) (slice_cmp nat_cmp k l)
+    by : (9007199254740991 < n) ⊎ (n ≤ 9007199254740991) → not (is_out_of_range (pos n)) ≡ true
+    by (inl l) = absurd (omega arith)
+    by (inr g) = ap not (le-ltb 9007199254740991 n g)
+in_range true zero h = refl
+in_range true (suc n) h =
+    ap (λ b. not (b || false)) (le-ltb 9007199254740990 n (omega arith))
+
+size_of-sign : (negative : Bool) (n : ℕ) → unsigned_abs (with_sign negative n) ≡ n
+size_of-sign false n = refl
+size_of-sign true zero = refl
+size_of-sign true (suc n) = refl
+
+abbrev IsLawfulIfOk : Result Value ReadError → Type 0
+IsLawfulIfOk (Ok v) = is_lawful v ≡ true
+IsLawfulIfOk (Err e) = ⊤
+
+choose : (b : Bool) (x y : Result Value ReadError) → (b ≡ true → IsLawfulIfOk x) → IsLawfulIfOk y → IsLawfulIfOk (cond b x y)
+choose true x y p q = p refl
+choose false x y p q = q
+
+lawful-exact : (negative : Bool) (r : ℕ × ℕ) → IsLawfulIfOk (exact negative r)
+lawful-exact negative (n, zero) = choose (nat_le n greatest) _ _ (λ e. in_range negative n (leb-true n greatest e)) tt
+lawful-exact negative (n, suc s) = choose (is_decimal n (suc s)) _ _ (λ e. ap (λ m. is_decimal m (suc s)) (size_of-sign negative n) ∙ e) tt
+
+lawful-from_parts : (negative : Bool) (p : Parts) → IsLawfulIfOk (from_parts negative p)
+lawful-from_parts negative p = choose (length p.exponent == 0) _ _ (λ e. lawful-exact negative (lowest (digits_of p) (length p.fraction))) tt
+
+lawful-number_in : (s : List ℕ) → IsLawfulIfOk (number_in s)
+unfolding number_in
+lawful-number_in s = lawful-from_parts (is_negative s) (parts_of s)
+
+lawful-or_null : (r : Result Value ReadError) → IsLawfulIfOk r → is_lawful (or_null r) ≡ true
+lawful-or_null (Ok v) h = h
+lawful-or_null (Err e) h = refl
+
+flat-exact : (negative : Bool) (r : ℕ × ℕ) → depth (or_null (exact negative r)) ≡ 0
+flat-exact negative (n, zero) = either (nat_le n greatest)
   where
-    either : (a b : Bool) → a ≡ false → b ≡ false → (a || b) ≡ false
-    either a b p q = ap₂ (λ x y. x || y) p q
-
-    by : has_float e ≡ false → members_have_float ms ≡ false → members_have_float (reading.put k d ms) ≡ false → (o : Ordering)
-        → members_have_float (match_ordering o (reading.member k d (reading.member l e ms)) (reading.member l d ms) (reading.member l e (reading.put k d ms))) ≡ false
-    by first rest ih Less = either _ _ p q
-    by first rest ih Equal = either _ _ p rest
-    by first rest ih Greater = either _ _ first ih
-
-members_have_big-put : (k : List ℕ) (d : Data) (ms : reading.Members) → has_big d ≡ false → members_have_big ms ≡ false → members_have_big (reading.put k d ms) ≡ false
-members_have_big-put k d reading.no_members p q = ap₂ (λ x y. x || y) p q
-members_have_big-put k d (reading.member l e ms) p q =
-    let parts = or_parts (has_big e) (members_have_big ms) q in by parts.0 parts.1 (members_have_big-put k d ms p parts.1) (slice_cmp nat_cmp k l)
+    either : (b : Bool) → depth (or_null (cond b (Ok (int (with_sign negative n))) (Err Range))) ≡ 0
+    either true = refl
+    either false = refl
+flat-exact negative (n, suc s) = either (is_decimal n (suc s))
   where
-    by : has_big e ≡ false → members_have_big ms ≡ false → members_have_big (reading.put k d ms) ≡ false → (o : Ordering)
-        → members_have_big (match_ordering o (reading.member k d (reading.member l e ms)) (reading.member l d ms) (reading.member l e (reading.put k d ms))) ≡ false
-    by first rest ih Less = ap₂ (λ x y. x || y) p q
-    by first rest ih Equal = ap₂ (λ x y. x || y) p rest
-    by first rest ih Greater = ap₂ (λ x y. x || y) first ih
+    either : (b : Bool) → depth (or_null (cond b (Ok (value.decimal (with_sign negative n) (suc s))) (Err Fraction))) ≡ 0
+    either true = refl
+    either false = refl
 
-is_float-of_integer : (z : ℤ) → is_float (of_integer z) ≡ false
-is_float-of_integer (pos n) = refl
-is_float-of_integer (negsuc n) = refl
+flat-from_parts : (negative : Bool) (p : Parts) (b : Bool) → depth (or_null (cond b (exact negative (lowest (digits_of p) (length p.fraction))) (Err Fraction))) ≡ 0
+flat-from_parts negative p true = flat-exact negative (lowest (digits_of p) (length p.fraction))
+flat-from_parts negative p false = refl
 
-mutual
-  has_float-data_of : (v : Value) → has_float (data_of v) ≡ false
-  has_float-data_of null = refl
-  has_float-data_of (flag b) = refl
-  has_float-data_of (int z) = is_float-of_integer z
-  has_float-data_of (text s) = refl
-  has_float-data_of (list vs) = items_have_float-items_of vs
-  has_float-data_of (object ms) = members_have_float-in_bytes ms reading.no_members refl
-
-  items_have_float-items_of : (vs : Values) → items_have_float (items_of vs) ≡ false
-  items_have_float-items_of no_values = refl
-  items_have_float-items_of (item v vs) = ap₂ (λ x y. x || y) (has_float-data_of v) (items_have_float-items_of vs)
-
-  members_have_float-in_bytes : (ms : Members) (found : reading.Members) → members_have_float found ≡ false → members_have_float (in_bytes ms found) ≡ false
-  members_have_float-in_bytes no_members found p = p
-  members_have_float-in_bytes (member name v ms) found p = members_have_float-in_bytes ms (reading.put name (data_of v) found) (members_have_float-put name (data_of v) found (has_float-data_of v) p)
-
-mutual
-  has_big-data_of : (v : Value) → is_lawful v ≡ true → has_big (data_of v) ≡ false
-  has_big-data_of null h = refl
-  has_big-data_of (flag b) h = refl
-  has_big-data_of (int z) h = ap (λ o. unwrap_or (option_map is_out_of_range o) false) (as_integer-of_integer z) ∙ not-true (is_out_of_range z) h
-  has_big-data_of (text s) h = refl
-  has_big-data_of (list vs) h = items_have_big-items_of vs h
-  has_big-data_of (object ms) h = members_have_big-in_bytes ms reading.no_members (and_parts (names_rise ms) _ h).1 refl
-
-  items_have_big-items_of : (vs : Values) → are_lawful vs ≡ true → items_have_big (items_of vs) ≡ false
-  items_have_big-items_of no_values h = refl
-  items_have_big-items_of (item v vs) h = let p = and_parts (is_lawful v) _ h in ap₂ (λ x y. x || y) (has_big-data_of v p.0) (items_have_big-items_of vs p.1)
-
-  members_have_big-in_bytes : (ms : Members) (found : reading.Members) → members_are_lawful ms ≡ true → members_have_big found ≡ false → members_have_big (in_bytes ms found) ≡ false
-  members_have_big-in_bytes no_members found h p = p
-  members_have_big-in_bytes (member name v ms) found h p =
-      let parts = and_parts (is_lawful v) _ h in
-      members_have_big-in_bytes ms (reading.put name (data_of v) found) parts.1 (members_have_big-put name (data_of v) found (has_big-data_of v parts.0) p)
-
--- ---- members in order of their bytes, and then of their code units
-
-same_name : (k l : List ℕ) → slice_cmp nat_cmp k l ≡ Equal → name_cmp k l ≡ Equal
-same_name k l e =
-    let same : k ≡ l = (bytes_eq-Decides k l).0 (sym (is_eq-slice_cmp k l) ∙ ap is_eq e) in
-    subst (λ n. name_cmp k n ≡ Equal) same (tied_itself order k)
-
-put_all-reading_put : (k : List ℕ) (d : Data) (found : reading.Members) (rows : Members) → IsApart k (members_of_members found)
-    → put_all (members_of_members (reading.put k d found)) rows ≡ put k (value_of d) (put_all (members_of_members found) rows)
-put_all-reading_put k d reading.no_members rows apart = refl
-put_all-reading_put k d (reading.member l e fs) rows apart =
-    by (put_all-reading_put k d fs (put l (value_of e) rows) apart.1) (slice_cmp nat_cmp k l) refl
-  where
-    by : put_all (members_of_members (reading.put k d fs)) (put l (value_of e) rows) ≡ put k (value_of d) (put_all (members_of_members fs) (put l (value_of e) rows))
-        → (o : Ordering) → slice_cmp nat_cmp k l ≡ o
-        → put_all (members_of_members (match_ordering o (reading.member k d (reading.member l e fs)) (reading.member l d fs) (reading.member l e (reading.put k d fs)))) rows
-        ≡ put k (value_of d) (put_all (members_of_members fs) (put l (value_of e) rows))
-    by ih Less p = put_all-put (members_of_members (reading.member l e fs)) rows k (value_of d) apart
-    by ih Equal p = absurd (apart.0 (same_name k l p))
-    by ih Greater p = ih
-
--- each name that was read is below k
-abbrev Below : reading.Members → List ℕ → Type 0
-Below reading.no_members k = Unit {0}
-Below (reading.member l e fs) k = (name_cmp l k ≡ Less) × Below fs k
-
-Below-trans : (fs : reading.Members) (j k : List ℕ) → name_cmp j k ≡ Less → Below fs j → Below fs k
-Below-trans reading.no_members j k less below = tt
-Below-trans (reading.member l e fs) j k less below = (order.trans l j k below.0 less, Below-trans fs j k less below.1)
-
-Below-put : (j : List ℕ) (d : Data) (fs : reading.Members) (k : List ℕ) → name_cmp j k ≡ Less → Below fs k → Below (reading.put j d fs) k
-Below-put j d reading.no_members k less below = (less, tt)
-Below-put j d (reading.member l e fs) k less below = by (Below-put j d fs k less below.1) (slice_cmp nat_cmp j l)
-  where
-    by : Below (reading.put j d fs) k → (o : Ordering) → Below (match_ordering o (reading.member j d (reading.member l e fs)) (reading.member l d fs) (reading.member l e (reading.put j d fs))) k
-    by ih Less = (less, below)
-    by ih Equal = below
-    by ih Greater = (below.0, ih)
-
-Apart-Below : (fs : reading.Members) (k : List ℕ) → Below fs k → IsApart k (members_of_members fs)
-Apart-Below reading.no_members k below = tt
-Apart-Below (reading.member l e fs) k below = (λ same. absurd (true≢false (sym (ap is_eq (sym (behind l k below.0) ∙ same)))), Apart-Below fs k below.1)
-
-abbrev BelowFirst : reading.Members → Members → Type 0
-BelowFirst fs no_members = Unit {0}
-BelowFirst fs (member k v ms) = Below fs k
-
-BelowFirst-put : (k : List ℕ) (d : Data) (fs : reading.Members) (ms : Members) → Below fs k → comes_before k ms ≡ true → BelowFirst (reading.put k d fs) ms
-BelowFirst-put k d fs no_members below e = tt
-BelowFirst-put k d fs (member l v ms) below e = let less = is_lt-Less (name_cmp k l) e in Below-put k d fs l less (Below-trans fs k l less below)
-
-whole_number-of_integer : (z : ℤ) → not (is_out_of_range z) ≡ true → whole_number (of_integer z) ≡ z
-whole_number-of_integer (pos n) h = let k = in_range-pos n h in rw (lt-ltb n (2 ^ 63) (omega arith))
-whole_number-of_integer (negsuc n) h = refl
-
-mutual
-  value_of-data_of : (v : Value) → is_lawful v ≡ true → value_of (data_of v) ≡ v
-  value_of-data_of null h = refl
-  value_of-data_of (flag b) h = refl
-  value_of-data_of (int z) h = ap int (whole_number-of_integer z h)
-  value_of-data_of (text s) h = refl
-  value_of-data_of (list vs) h = ap list (values_of_items-items_of vs h)
-  value_of-data_of (object ms) h =
-      let p = and_parts (names_rise ms) (members_are_lawful ms) h in
-      ap object (put_all-in_bytes ms reading.no_members no_members p.1 p.0 (none ms) ∙ put_all-names_rise ms p.0)
-
-  values_of_items-items_of : (vs : Values) → are_lawful vs ≡ true → values_of_items (items_of vs) ≡ vs
-  values_of_items-items_of no_values h = refl
-  values_of_items-items_of (item v vs) h = let p = and_parts (is_lawful v) _ h in ap₂ item (value_of-data_of v p.0) (values_of_items-items_of vs p.1)
-
-  none : (ms : Members) → BelowFirst reading.no_members ms
-  none no_members = tt
-  none (member k v ms) = tt
-
-  put_all-in_bytes : (ms : Members) (found : reading.Members) (rows : Members) → members_are_lawful ms ≡ true → names_rise ms ≡ true → BelowFirst found ms
-      → put_all (members_of_members (in_bytes ms found)) rows ≡ put_all ms (put_all (members_of_members found) rows)
-  put_all-in_bytes no_members found rows h e below = refl
-  put_all-in_bytes (member k v ms) found rows h e below =
-      let p = and_parts (is_lawful v) (members_are_lawful ms) h in
-      let q = and_parts (comes_before k ms) (names_rise ms) e in
-      put_all-in_bytes ms (reading.put k (data_of v) found) rows p.1 q.1 (BelowFirst-put k (data_of v) found ms below q.0)
-      ∙ ap (put_all ms) (put_all-reading_put k (data_of v) found rows (Apart-Below found k below) ∙ ap (λ w. put k w (put_all (members_of_members found) rows)) (value_of-data_of v p.0))
-
-pub canon_reads : (v : Value) → is_lawful v ≡ true → HasTexts v → depth v ≤ 127 → Reads (canon v) v
-canon_reads v h t shallow = (data_of v, (IsUtf8-canon v h t, read-canon v h shallow), has_float-data_of v, has_big-data_of v h, sym (value_of-data_of v h))
-
--- ---- what is read is lawful
-
-in_range : (n : Num) → is_big n ≡ false → not (is_out_of_range (whole_number n)) ≡ true
-in_range (unsigned n) h = by (nat_lt n (2 ^ 63))
-  where
-    by : (b : Bool) → not (is_out_of_range (unwrap_or (cond b (Some (pos n)) None) (pos 0))) ≡ true
-    by true = ap not h
-    by false = refl
-in_range (negative z) h = ap not h
-in_range (float x) h = refl
+flat-number_value : (s : List ℕ) → depth (number_value s) ≡ 0
+unfolding number_in
+flat-number_value s = flat-from_parts (is_negative s) (parts_of s) (length (parts_of s).exponent == 0)
 
 members_are_lawful-put : (k : List ℕ) (v : Value) (ms : Members) → is_lawful v ≡ true → members_are_lawful ms ≡ true → members_are_lawful (put k v ms) ≡ true
 members_are_lawful-put k v no_members p q = and_from _ _ p refl
@@ -273,35 +106,167 @@ members_are_lawful-put_all (member k v ms) rows p q =
     members_are_lawful-put_all ms (put k v rows) parts.1 (members_are_lawful-put k v rows parts.0 q)
 
 mutual
-  pub is_lawful-value_of : (d : Data) → has_big d ≡ false → is_lawful (value_of d) ≡ true
-  is_lawful-value_of reading.null h = refl
-  is_lawful-value_of (reading.boolean b) h = refl
-  is_lawful-value_of (reading.number n) h = in_range n h
-  is_lawful-value_of (reading.string s) h = refl
-  is_lawful-value_of (reading.array ds) h = are_lawful-values_of_items ds h
-  is_lawful-value_of (reading.object ms) h =
-      and_from _ _ (names_rise-put_all (members_of_members ms) no_members refl) (members_are_lawful-put_all (members_of_members ms) no_members (members_are_lawful-members_of_members ms h) refl)
+  pub is_lawful-value_of : (t : json.Json) → is_lawful (value_of t) ≡ true
+  is_lawful-value_of json.null = refl
+  is_lawful-value_of (json.boolean b) = refl
+  is_lawful-value_of (json.number s) = lawful-or_null (number_in s) (lawful-number_in s)
+  is_lawful-value_of (json.string s) = refl
+  is_lawful-value_of (json.array js) = are_lawful-values_of_items js
+  is_lawful-value_of (json.object ms) =
+      and_from _ _ (names_rise-put_all (members_of_members ms) no_members refl) (members_are_lawful-put_all (members_of_members ms) no_members (members_are_lawful-members_of_members ms) refl)
 
-  are_lawful-values_of_items : (ds : reading.Items) → items_have_big ds ≡ false → are_lawful (values_of_items ds) ≡ true
-  are_lawful-values_of_items reading.no_items h = refl
-  are_lawful-values_of_items (reading.item d ds) h = let p = or_parts (has_big d) _ h in and_from _ _ (is_lawful-value_of d p.0) (are_lawful-values_of_items ds p.1)
+  are_lawful-values_of_items : (js : json.Items) → are_lawful (values_of_items js) ≡ true
+  are_lawful-values_of_items json.no_items = refl
+  are_lawful-values_of_items (json.item j js) = and_from _ _ (is_lawful-value_of j) (are_lawful-values_of_items js)
 
-  members_are_lawful-members_of_members : (ms : reading.Members) → members_have_big ms ≡ false → members_are_lawful (members_of_members ms) ≡ true
-  members_are_lawful-members_of_members reading.no_members h = refl
-  members_are_lawful-members_of_members (reading.member name d ms) h =
-      let p = or_parts (has_big d) _ h in and_from _ _ (is_lawful-value_of d p.0) (members_are_lawful-members_of_members ms p.1)
+  members_are_lawful-members_of_members : (ms : json.Members) → members_are_lawful (members_of_members ms) ≡ true
+  members_are_lawful-members_of_members json.no_members = refl
+  members_are_lawful-members_of_members (json.member name j ms) = and_from _ _ (is_lawful-value_of j) (members_are_lawful-members_of_members ms)
 
--- ---- texts of members that were put
+-- ---- it nests as deep as its tree at most
 
-MembersHaveTexts-put : (k : List ℕ) (v : Value) (ms : Members) → IsUtf8 k → HasTexts v → MembersHaveTexts ms → MembersHaveTexts (put k v ms)
-MembersHaveTexts-put k v no_members p q r = (p, q, tt)
-MembersHaveTexts-put k v (member l w ms) p q r = by (MembersHaveTexts-put k v ms p q r.2) (name_cmp k l)
+members_depth-put : (k : List ℕ) (v : Value) (ms : Members) → members_depth (put k v ms) ≤ max (depth v) (members_depth ms)
+members_depth-put k v no_members = omega arith
+members_depth-put k v (member l w ms) = by (members_depth-put k v ms) (name_cmp k l)
   where
-    by : MembersHaveTexts (put k v ms) → (o : Ordering) → MembersHaveTexts (match_ordering o (member k v (member l w ms)) (member l v ms) (member l w (put k v ms)))
-    by ih Less = (p, q, r)
-    by ih Equal = (r.0, q, r.2)
-    by ih Greater = (r.0, r.1, ih)
+    by : members_depth (put k v ms) ≤ max (depth v) (members_depth ms) → (o : Ordering)
+        → members_depth (match_ordering o (member k v (member l w ms)) (member l v ms) (member l w (put k v ms))) ≤ max (depth v) (max (depth w) (members_depth ms))
+    by ih Less = omega arith
+    by ih Equal = omega arith
+    by ih Greater = omega (arith, ih)
 
-pub MembersHaveTexts-put_all : (ms rows : Members) → MembersHaveTexts ms → MembersHaveTexts rows → MembersHaveTexts (put_all ms rows)
-MembersHaveTexts-put_all no_members rows p q = q
-MembersHaveTexts-put_all (member k v ms) rows p q = MembersHaveTexts-put_all ms (put k v rows) p.2 (MembersHaveTexts-put k v rows p.0 p.1 q)
+members_depth-put_all : (ms rows : Members) → members_depth (put_all ms rows) ≤ max (members_depth ms) (members_depth rows)
+members_depth-put_all no_members rows = omega arith
+members_depth-put_all (member k v ms) rows = omega (arith, members_depth-put_all ms (put k v rows), members_depth-put k v rows)
+
+mutual
+  depth-value_of : (t : json.Json) → depth (value_of t) ≤ tree.depth t
+  depth-value_of json.null = omega arith
+  depth-value_of (json.boolean b) = omega arith
+  depth-value_of (json.number s) = omega (arith, flat-number_value s)
+  depth-value_of (json.string s) = omega arith
+  depth-value_of (json.array js) = let h = depth-values_of_items js in omega arith
+  depth-value_of (json.object ms) = let h = depth-members_of_members ms in let k = members_depth-put_all (members_of_members ms) no_members in omega arith
+
+  depth-values_of_items : (js : json.Items) → values_depth (values_of_items js) ≤ tree.items_depth js
+  depth-values_of_items json.no_items = omega arith
+  depth-values_of_items (json.item j js) = let h = depth-value_of j in let k = depth-values_of_items js in omega arith
+
+  depth-members_of_members : (ms : json.Members) → members_depth (members_of_members ms) ≤ tree.members_depth ms
+  depth-members_of_members json.no_members = omega arith
+  depth-members_of_members (json.member name j ms) = let h = depth-value_of j in let k = depth-members_of_members ms in omega arith
+
+abbrev AtMost : Option json.Json → Type 0
+AtMost None = ⊤
+AtMost (Some t) = tree.depth t ≤ 127
+
+last-depth : (j : json.Json) (ts : List Token) → tree.depth j ≤ 127 → AtMost (json.if_last j ts)
+last-depth j [] h = h
+last-depth j (t ∷ ts) h = tt
+
+document-depth : (ts : List Token) (o : Option (json.Json × List Token)) → json.value 127 ts ≡ o → AtMost (option_and_then (λ p. json.if_last p.0 p.1) o)
+document-depth ts None e = tt
+document-depth ts (Some p) e = last-depth p.0 p.1 (value-depth 127 ts p.1 p.0 e)
+
+tree_of-depth : (bytes : List ℕ) → AtMost (tree_of bytes)
+tree_of-depth bytes = by (is_utf8 bytes)
+  where
+    by : (b : Bool) → AtMost (cond b (option_and_then (λ p. json.if_last p.0 p.1) (json.value 127 (tokens bytes))) None)
+    by true = document-depth (tokens bytes) (json.value 127 (tokens bytes)) refl
+    by false = tt
+
+pub value_of-depth : (bytes : List ℕ) (t : json.Json) → tree_of bytes ≡ Some t → depth (value_of t) ≤ 127
+value_of-depth bytes t e = let h : tree.depth t ≤ 127 = subst AtMost e (tree_of-depth bytes) in omega (arith, depth-value_of t, h)
+
+-- ---- the canonical text's tree has no fault and is the value
+
+number-outline : (z : ℤ) → not (is_out_of_range z) ≡ true → (is_fraction (signed_decimal z) ≡ false) × (is_big (signed_decimal z) ≡ false) × (number_value (signed_decimal z) ≡ int z)
+number-outline z h = let e = number_in-signed_decimal z h in (ap fails_by_fraction e, ap fails_by_range e, ap or_null e)
+
+decimal-outline : (z : ℤ) (s : ℕ) → is_decimal (unsigned_abs z) s ≡ true → (is_fraction (decimal_text z s) ≡ false) × (is_big (decimal_text z s) ≡ false) × (number_value (decimal_text z s) ≡ value.decimal z s)
+decimal-outline z s h = let e = number_in-decimal_text z s h in (ap fails_by_fraction e, ap fails_by_range e, ap or_null e)
+
+-- of a tree: no fault, and its value
+record Means (t : json.Json) (v : Value) : Type 0 where
+  once : has_repeated t ≡ false
+  exact_numbers : has_number is_fraction t ≡ false
+  in_range_numbers : has_number is_big t ≡ false
+  value_is : value_of t ≡ v
+
+record ItemsMean (js : json.Items) (vs : Values) : Type 0 where
+  once : items_have_repeated js ≡ false
+  exact_numbers : items_have_number is_fraction js ≡ false
+  in_range_numbers : items_have_number is_big js ≡ false
+  value_is : values_of_items js ≡ vs
+
+record MembersMean (js : json.Members) (ms : Members) : Type 0 where
+  once : members_have_repeated js ≡ false
+  exact_numbers : members_have_number is_fraction js ≡ false
+  in_range_numbers : members_have_number is_big js ≡ false
+  names_are : keys js ≡ names_of ms
+  value_is : members_of_members js ≡ ms
+
+either : (a b : Bool) → a ≡ false → b ≡ false → (a || b) ≡ false
+either a b p q = ap₂ (λ x y. x || y) p q
+
+mutual
+  means-outline : (v : Value) → is_lawful v ≡ true → Means (outline v) v
+  means-outline null h = record { once = refl; exact_numbers = refl; in_range_numbers = refl; value_is = refl }
+  means-outline (flag b) h = record { once = refl; exact_numbers = refl; in_range_numbers = refl; value_is = refl }
+  means-outline (int z) h = let n = number-outline z h in record { once = refl; exact_numbers = n.0; in_range_numbers = n.1; value_is = n.2 }
+  means-outline (value.decimal z s) h = let n = decimal-outline z s h in record { once = refl; exact_numbers = n.0; in_range_numbers = n.1; value_is = n.2 }
+  means-outline (text s) h = record { once = refl; exact_numbers = refl; in_range_numbers = refl; value_is = refl }
+  means-outline (list vs) h = let m = means-items vs h in record { once = m.once; exact_numbers = m.exact_numbers; in_range_numbers = m.in_range_numbers; value_is = ap list m.value_is }
+  means-outline (object ms) h =
+      let p = and_parts (names_rise ms) (members_are_lawful ms) h in
+      let m = means-members ms p.1 in
+      record {
+        once = either _ _ (ap repeats m.names_are ∙ repeats-apart ms (AreApart-rise ms p.0)) m.once;
+        exact_numbers = m.exact_numbers;
+        in_range_numbers = m.in_range_numbers;
+        value_is = ap object (ap in_order m.value_is ∙ put_all-names_rise ms p.0);
+      }
+
+  means-items : (vs : Values) → are_lawful vs ≡ true → ItemsMean (items_outline vs) vs
+  means-items no_values h = record { once = refl; exact_numbers = refl; in_range_numbers = refl; value_is = refl }
+  means-items (item v vs) h =
+      let p = and_parts (is_lawful v) (are_lawful vs) h in
+      let m = means-outline v p.0 in
+      let n = means-items vs p.1 in
+      record { once = either _ _ m.once n.once; exact_numbers = either _ _ m.exact_numbers n.exact_numbers; in_range_numbers = either _ _ m.in_range_numbers n.in_range_numbers; value_is = ap₂ item m.value_is n.value_is }
+
+  means-members : (ms : Members) → members_are_lawful ms ≡ true → MembersMean (members_outline ms) ms
+  means-members no_members h = record { once = refl; exact_numbers = refl; in_range_numbers = refl; names_are = refl; value_is = refl }
+  means-members (member name v ms) h =
+      let p = and_parts (is_lawful v) (members_are_lawful ms) h in
+      let m = means-outline v p.0 in
+      let n = means-members ms p.1 in
+      record {
+        once = either _ _ m.once n.once;
+        exact_numbers = either _ _ m.exact_numbers n.exact_numbers;
+        in_range_numbers = either _ _ m.in_range_numbers n.in_range_numbers;
+        names_are = ap (λ l. name ∷ l) n.names_are;
+        value_is = ap₂ (member name) m.value_is n.value_is;
+      }
+
+-- a tree without a fault is its value
+pub value_in_tree-none : (t : json.Json) → has_repeated t ≡ false → has_number is_fraction t ≡ false → has_number is_big t ≡ false → value_in_tree t ≡ Ok (value_of t)
+value_in_tree-none t once exact_numbers in_range_numbers =
+    ap (λ b. cond b (Err Repeated) (cond (has_number is_fraction t) (Err Fraction) (cond (has_number is_big t) (Err Range) (Ok (value_of t))))) once
+    ∙ ap (λ b. cond b (Err Fraction) (cond (has_number is_big t) (Err Range) (Ok (value_of t)))) exact_numbers
+    ∙ ap (λ b. cond b (Err Range) (Ok (value_of t))) in_range_numbers
+
+tree_of-canon : (v : Value) → is_lawful v ≡ true → HasTexts v → depth v ≤ 127 → tree_of (canon v) ≡ Some (outline v)
+tree_of-canon v h t shallow =
+    ap (λ b. cond b (option_and_then (λ p. json.if_last p.0 p.1) (json.value 127 (tokens (canon v)))) None) (is_utf8-from_IsUtf8 (canon v) (IsUtf8-canon v h t))
+    ∙ ap (λ ts. option_and_then (λ p. json.if_last p.0 p.1) (json.value 127 ts)) (tokens-canon v h)
+    ∙ ap (option_and_then (λ p. json.if_last p.0 p.1)) (read_tokens (outline v) 127 (subst (λ n. n ≤ 127) (sym (depth-outline v)) shallow))
+
+pub canon_reads : (v : Value) → is_lawful v ≡ true → HasTexts v → depth v ≤ 127 → Reads (canon v) v
+canon_reads v h t shallow =
+    let m = means-outline v h in
+    value_in-tree (canon v) (Some (outline v)) (tree_of-canon v h t shallow) ∙ value_in_tree-none (outline v) m.once m.exact_numbers m.in_range_numbers ∙ ap Ok m.value_is
+
+-- equal texts have equal values
+pub canon_same : (v w : Value) → is_lawful v ≡ true → is_lawful w ≡ true → canon v ≡ canon w → v ≡ w
+canon_same v w h k e = let m = means-outline v h in let n = means-outline w k in sym m.value_is ∙ ap value_of (outline_same v w h k e) ∙ n.value_is

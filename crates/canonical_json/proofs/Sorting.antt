@@ -1,23 +1,20 @@
 -- A sort of members with names that differ puts them in order.
-use Rattle.std.proofs.Common.{String, Global, string_bytes, string_cmp, nat_cmp, IsUtf8, ◌≡◌, ◌≢◌, ℕ, zero, suc, ◌+◌, ◌<◌, true, false, List, [], ◌∷◌, length, get_or, set, Ordering, Less, Equal, Greater, refl, sym, ap, ◌∙◌, subst, arith, true≢false}
-use Rattle.std.proofs.lemmas.Bool.{and_from}
-use Rattle.std.proofs.lemmas.Cmp.{nat_list_cmp_total, tied_itself, tied_back}
-use Rattle.std.proofs.lemmas.List.Sorted.{IsPermutation-keeps}
-use Rattle.std.specs.List.Sorted.{IsPermutation, IsStrictlySortedBy}
-use Rattle.std.specs.List.{AllByRecursion, swap}
+use Rattle.std.proofs.Common.{IsUtf8, bytes_eq, not, Bool, ◌||◌, ◌≡◌, ◌≢◌, ℕ, zero, suc, ◌+◌, ◌<◌, true, false, List, [], ◌∷◌, length, get_or, set, Ordering, Less, Equal, Greater, refl, sym, ap, ◌∙◌, subst, arith, true≢false}
+use Rattle.std.proofs.lemmas.Bool.{and_from, and_parts, or_parts}
+use Rattle.std.proofs.lemmas.Cmp.{tied_itself, tied_back}
+use Rattle.std.proofs.lemmas.Slice.Eq.{bytes_eq-Decides}
+use Rattle.std.proofs.lemmas.List.Sorted.{IsPermutation-keeps, IsPermutation-sym}
+use Rattle.std.specs.List.Sorted.{IsPermutation}
+use Rattle.std.specs.List.{swap}
 use Rattle.std.specs.Ordering.{is_lt}
-use Rattle.std.specs.Cmp.Lexicographic.{slice_cmp}
-use Rattle.std.specs.Map.{keys_of}
-use Rattle.serde_json.specs.View as serde
-use Rattle.serde_json.specs.declared.value.Value.{Value as Read}
-use Rattle.canonical_json.specs.Value.{Members, no_members}
+use Rattle.canonical_json.specs.Value.{Members, no_members, member}
 use Rattle.canonical_json.specs.View.{member_view, members_view}
-use Rattle.canonical_json.specs.Name.{name_cmp, names_rise, IsApart, AreApart, put, put_all, in_order}
-use Rattle.canonical_json.specs.Lawful.{MembersHaveTexts}
-use Rattle.canonical_json.specs.Reading.{members_of_members}
+use Rattle.canonical_json.specs.Name.{name_cmp, comes_before, names_rise, IsApart, AreApart, put, put_all, in_order}
+use Rattle.canonical_json.specs.Lawful.{HasTexts, MembersHaveTexts}
+use Rattle.canonical_json.specs.Reading.{has_name, repeats, names_of}
 use Rattle.canonical_json.specs.declared.value.Member.{Member}
 use Rattle.canonical_json.proofs.Units.{name_cmp_same_name}
-use Rattle.canonical_json.proofs.Order.{order, turned, put_all-names_rise}
+use Rattle.canonical_json.proofs.Order.{order, turned, is_lt-Less, put_all-names_rise}
 use Rattle.canonical_json.proofs.Order.{swap as put_swap}
 
 apart_back : (a b : List ℕ) → name_cmp a b ≢ Equal → name_cmp b a ≢ Equal
@@ -122,20 +119,98 @@ sorted_in_order xs ys are moved sorted =
     let keeps = IsPermutation-keeps xs (Keeps (in_order (members_view xs))) (record { apart = are; ordered = refl }) (λ l i j. Keeps-swap (in_order (members_view xs)) l i j) ys moved in
     sym (put_all-names_rise (members_view ys) (names_rise-sorted ys keeps.apart sorted)) ∙ keeps.ordered
 
--- ---- the members of a map
+-- ---- names that come once
 
-name_apart : (a b : List ℕ) → IsUtf8 a → IsUtf8 b → slice_cmp nat_cmp a b ≡ Less → name_cmp a b ≢ Equal
-name_apart a b u v less e =
-    let same = name_cmp_same_name a b u v e in
-    let tie : slice_cmp nat_cmp a b ≡ Equal = subst (λ n. slice_cmp nat_cmp a n ≡ Equal) same (tied_itself nat_list_cmp_total a) in
-    true≢false (ap is_lt (sym less ∙ tie))
+-- as long as the names differ by their code units, they differ
+no_name : (k : List ℕ) (ms : Members) → IsApart k ms → has_name k (names_of ms) ≡ false
+no_name k no_members apart = refl
+no_name k (member l v ms) apart = by (no_name k ms apart.1) (bytes_eq l k) refl
+  where
+    by : has_name k (names_of ms) ≡ false → (b : Bool) → bytes_eq l k ≡ b → has_name k (names_of (member l v ms)) ≡ false
+    by none true e = absurd (apart.0 (subst (λ n. name_cmp k n ≡ Equal) (sym ((bytes_eq-Decides l k).0 e)) (tied_itself order k)))
+    by none false e = ap (λ b. b || has_name k (names_of ms)) e ∙ none
 
-IsApart-keys : (k : String Global) (es : List (String Global × Read)) → AllByRecursion (λ l. string_cmp k l ≡ Less) (keys_of es) → IsUtf8 (string_bytes k) → MembersHaveTexts (members_of_members (serde.members_view es))
-    → IsApart (string_bytes k) (members_of_members (serde.members_view es))
-IsApart-keys k [] above u texts = tt
-IsApart-keys k (e ∷ es) above u texts = (name_apart (string_bytes k) (string_bytes e.0) u texts.0 above.0, IsApart-keys k es above.1 u texts.2)
+pub repeats-apart : (ms : Members) → AreApart ms → repeats (names_of ms) ≡ false
+repeats-apart no_members apart = refl
+repeats-apart (member k v ms) apart = ap (λ b. b || repeats (names_of ms)) (no_name k ms apart.0) ∙ repeats-apart ms apart.1
 
-pub AreApart-keys : (es : List (String Global × Read)) → IsStrictlySortedBy string_cmp (keys_of es) → MembersHaveTexts (members_of_members (serde.members_view es)) → AreApart (members_of_members (serde.members_view es))
-unfolding IsStrictlySortedBy
-AreApart-keys [] sorted texts = tt
-AreApart-keys (e ∷ es) sorted texts = (IsApart-keys e.0 es sorted.0 texts.0 texts.2, AreApart-keys es sorted.1 texts.2)
+-- and the other way round, for names in UTF-8
+IsApart-no_name : (k : List ℕ) (ms : Members) → IsUtf8 k → MembersHaveTexts ms → has_name k (names_of ms) ≡ false → IsApart k ms
+IsApart-no_name k no_members u texts none = tt
+IsApart-no_name k (member l v ms) u texts none =
+    let p = or_parts (bytes_eq l k) (has_name k (names_of ms)) none in
+    (λ e. true≢false (sym ((bytes_eq-Decides l k).1 (sym (name_cmp_same_name k l u texts.0 e))) ∙ p.0), IsApart-no_name k ms u texts.2 p.1)
+
+pub AreApart-repeats : (ms : Members) → MembersHaveTexts ms → repeats (names_of ms) ≡ false → AreApart ms
+AreApart-repeats no_members texts none = tt
+AreApart-repeats (member k v ms) texts none =
+    let p = or_parts (has_name k (names_of ms)) (repeats (names_of ms)) none in
+    (IsApart-no_name k ms texts.0 texts.2 p.0, AreApart-repeats ms texts.2 p.1)
+
+-- names that rise differ
+IsApart-above : (j k : List ℕ) (ms : Members) → name_cmp j k ≡ Less → comes_before k ms ≡ true → names_rise ms ≡ true → IsApart j ms
+IsApart-above j k no_members less before rise = tt
+IsApart-above j k (member l v ms) less before rise =
+    let next = order.trans j k l less (is_lt-Less (name_cmp k l) before) in
+    let p = and_parts (comes_before l ms) (names_rise ms) rise in
+    (λ e. true≢false (sym (ap is_lt next) ∙ ap is_lt e), IsApart-above j l ms next p.0 p.1)
+
+IsApart-first : (k : List ℕ) (ms : Members) → comes_before k ms ≡ true → names_rise ms ≡ true → IsApart k ms
+IsApart-first k no_members before rise = tt
+IsApart-first k (member l v ms) before rise =
+    let next = is_lt-Less (name_cmp k l) before in
+    let p = and_parts (comes_before l ms) (names_rise ms) rise in
+    (λ e. true≢false (sym (ap is_lt next) ∙ ap is_lt e), IsApart-above k l ms next p.0 p.1)
+
+pub AreApart-rise : (ms : Members) → names_rise ms ≡ true → AreApart ms
+AreApart-rise no_members rise = tt
+AreApart-rise (member k v ms) rise =
+    let p = and_parts (comes_before k ms) (names_rise ms) rise in (IsApart-first k ms p.0 p.1, AreApart-rise ms p.1)
+
+AreApart-swap : (xs : List Member) (i j : ℕ) → i < length xs → j < length xs → AreApart (members_view xs) → AreApart (members_view (swap xs i j))
+AreApart-swap [] i j p q are = are
+AreApart-swap (x ∷ xs) i j p q are = AreApart-exchanged x (x ∷ xs) i j p q are
+
+pub AreApart-permutation : (xs ys : List Member) → IsPermutation xs ys → AreApart (members_view xs) → AreApart (members_view ys)
+AreApart-permutation xs ys moved are = IsPermutation-keeps xs (λ l. AreApart (members_view l)) are AreApart-swap ys moved
+
+-- ---- what a sort says of the names
+
+-- ys is xs sorted
+module _ (xs ys : List Member) (texts : MembersHaveTexts (members_view xs)) (moved : IsPermutation xs ys)
+    (sorted : (k : ℕ) (d : Member) → k + 1 < length ys → is_lt (name_cmp (member_view (get_or ys (k + 1) d)).0 (member_view (get_or ys k d)).0) ≡ false) where
+  pub rise_if_apart : (b : Bool) → names_rise (members_view ys) ≡ b → b ≡ not (repeats (names_of (members_view xs)))
+  rise_if_apart true e = ap not (sym (repeats-apart (members_view xs) (AreApart-permutation ys xs (IsPermutation-sym xs ys moved) (AreApart-rise (members_view ys) e))))
+  rise_if_apart false e = by (repeats (names_of (members_view xs))) refl
+    where
+      by : (r : Bool) → repeats (names_of (members_view xs)) ≡ r → false ≡ not (repeats (names_of (members_view xs)))
+      by true f = ap not (sym f)
+      by false f =
+          absurd (true≢false (sym (names_rise-sorted ys (AreApart-permutation xs ys moved (AreApart-repeats (members_view xs) texts f)) sorted) ∙ e))
+
+  pub in_order_if_rise : names_rise (members_view ys) ≡ true → members_view ys ≡ in_order (members_view xs)
+  in_order_if_rise e =
+      sorted_in_order xs ys (AreApart-permutation ys xs (IsPermutation-sym xs ys moved) (AreApart-rise (members_view ys) e)) moved sorted
+
+-- ---- texts of members in another order
+
+MembersHaveTexts-get_or : (xs : List Member) (n : ℕ) (d : Member) → MembersHaveTexts (members_view xs) → n < length xs → IsUtf8 (member_view (get_or xs n d)).0 × HasTexts (member_view (get_or xs n d)).1
+MembersHaveTexts-get_or [] n d t h = absurd (omega arith)
+MembersHaveTexts-get_or (x ∷ xs) zero d t h = (t.0, t.1)
+MembersHaveTexts-get_or (x ∷ xs) (suc n) d t h = MembersHaveTexts-get_or xs n d t.2 (omega arith)
+
+MembersHaveTexts-set : (xs : List Member) (n : ℕ) (x : Member) → IsUtf8 (member_view x).0 → HasTexts (member_view x).1 → MembersHaveTexts (members_view xs) → MembersHaveTexts (members_view (set xs n x))
+MembersHaveTexts-set [] n x u v t = t
+MembersHaveTexts-set (y ∷ ys) zero x u v t = (u, v, t.2)
+MembersHaveTexts-set (y ∷ ys) (suc n) x u v t = (t.0, t.1, MembersHaveTexts-set ys n x u v t.2)
+
+MembersHaveTexts-swap : (xs : List Member) (i j : ℕ) → i < length xs → j < length xs → MembersHaveTexts (members_view xs) → MembersHaveTexts (members_view (swap xs i j))
+MembersHaveTexts-swap [] i j p q t = t
+MembersHaveTexts-swap (x ∷ xs) i j p q t =
+    let all = x ∷ xs in
+    let first = MembersHaveTexts-get_or all i x t p in
+    let second = MembersHaveTexts-get_or all j x t q in
+    MembersHaveTexts-set (set all i (get_or all j x)) j (get_or all i x) first.0 first.1 (MembersHaveTexts-set all i (get_or all j x) second.0 second.1 t)
+
+pub MembersHaveTexts-permutation : (xs ys : List Member) → IsPermutation xs ys → MembersHaveTexts (members_view xs) → MembersHaveTexts (members_view ys)
+MembersHaveTexts-permutation xs ys moved t = IsPermutation-keeps xs (λ l. MembersHaveTexts (members_view l)) t MembersHaveTexts-swap ys moved

@@ -1,19 +1,21 @@
 -- Which values have a canonical text: numbers that IEEE 754 doubles tell apart (RFC 8785, section 3.2.2.3), and names in order.
-use Rattle.std.specs.Prelude.{ℤ, pos, negsuc, Bool, true, not, ◌&&◌, ◌||◌, IsTrue, int_lt}
+use Rattle.std.specs.Prelude.{ℤ, pos, negsuc, Bool, true, not, ◌&&◌, ◌||◌, IsTrue, int_lt, unsigned_abs}
 use Rattle.std.specs.Str.{IsUtf8}
-use Rattle.canonical_json.specs.Value.{Value, null, flag, int, text, list, object, Values, no_values, item, Members, no_members, member}
+use Rattle.canonical_json.specs.Value.{Value, null, flag, int, decimal, text, list, object, Values, no_values, item, Members, no_members, member}
 use Rattle.canonical_json.specs.Name.{names_rise}
+use Rattle.canonical_json.specs.Number.{is_decimal}
 
 -- below -(2^53 - 1) or above 2^53 - 1
 abbrev pub is_out_of_range : ℤ → Bool
 is_out_of_range z = int_lt z (negsuc 9007199254740990) || int_lt (pos 9007199254740991) z
 
--- each number is in range, and the names of each object rise strictly
+-- each whole number is in range, each decimal is one, and the names of each object rise strictly
 abbrev mutual
   pub is_lawful : Value → Bool
   is_lawful null = true
   is_lawful (flag b) = true
   is_lawful (int z) = not (is_out_of_range z)
+  is_lawful (decimal z s) = is_decimal (unsigned_abs z) s
   is_lawful (text s) = true
   is_lawful (list vs) = are_lawful vs
   is_lawful (object ms) = names_rise ms && members_are_lawful ms
@@ -36,6 +38,7 @@ abbrev mutual
   HasTexts null = Unit {0}
   HasTexts (flag b) = Unit {0}
   HasTexts (int z) = Unit {0}
+  HasTexts (decimal z s) = Unit {0}
   HasTexts (text s) = IsUtf8 s
   HasTexts (list vs) = HaveTexts vs
   HasTexts (object ms) = MembersHaveTexts ms

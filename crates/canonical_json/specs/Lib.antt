@@ -1,8 +1,11 @@
 pub mod Value
 pub mod View
 pub mod Name
+pub mod Number
 pub mod Lawful
 pub mod Canon
 pub mod Reading
+pub mod Former
+pub mod Faults
 pub mod Field
 pub mod Taking

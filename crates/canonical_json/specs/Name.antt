@@ -30,7 +30,7 @@ abbrev pub names_rise : Members → Bool
 names_rise no_members = true
 names_rise (member name v ms) = comes_before name ms && names_rise ms
 
--- for private clauses: the name differs from that of each member, and the names from one another
+-- the name differs from that of each member, and the names from one another
 abbrev pub IsApart : List ℕ → Members → Type 0
 IsApart name no_members = Unit {0}
 IsApart name (member other v ms) = (name_cmp name other ≢ Equal) × IsApart name ms

@@ -1,72 +1,139 @@
--- Which value a text of JSON is, over the reading of `serde_json`, and which fault it has.
-use Rattle.std.specs.Prelude.{◌≡◌, ℕ, ℤ, pos, List, Bool, true, false, ◌||◌, Some, option_map, unwrap_or}
-use Rattle.std.specs.Str.{IsUtf8}
-use Rattle.serde_json.specs.Data as reading
-use Rattle.serde_json.specs.Data.{Num, Data}
-use Rattle.serde_json.specs.Find.{as_i64, as_integer}
-use Rattle.serde_json.specs.Read as serde
-use Rattle.serde_json.specs.Written.{has_float}
-use Rattle.canonical_json.specs.Value.{Value, null, flag, int, text, list, object, Values, no_values, item, Members, no_members, member}
-use Rattle.canonical_json.specs.Name.{in_order}
-use Rattle.canonical_json.specs.Lawful.{is_out_of_range}
+-- Which value a text is, or why it is none: the grammar of RFC 8259 over UTF-8 as the kit's `json` defines it (`Lex` for sections 2 and 7, `Word` for 3 and 6, `Json` for 4 and 5), and the value of a tree of that grammar.
+use Rattle.std.specs.Prelude.{◌≡◌, ℕ, List, [], ◌∷◌, Bool, false, ◌||◌, bytes_eq, if◌then◌else◌, Option, Some, None, option_and_then, Result, Ok, Err}
+use Rattle.std.specs.Str.{is_utf8}
+use Rattle.json.specs.Json as json
+use Rattle.json.specs.Lex.{tokens}
+use Rattle.json.specs.Strict.{keys}
+use Rattle.canonical_json.specs.Value.{Value, null, flag, text, list, object, Values, no_values, item, Members, no_members, member}
+use Rattle.canonical_json.specs.Name.{AreApart, in_order}
+use Rattle.canonical_json.specs.Number.{is_fraction, is_big, number_value}
 use Rattle.canonical_json.specs.declared.fault.ReadError.{ReadError}
-use Rattle.canonical_json.specs.declared.fault.ReadError.TheVariants.{NotJson, Fraction, Range, NoMemory}
+use Rattle.canonical_json.specs.declared.fault.ReadError.TheVariants.{NotJson, Repeated, Fraction, Range, NoMemory}
 
--- serde_json reads the bytes as this data
-abbrev pub IsReading : List ℕ → Data → Type 0
-IsReading bytes d = IsUtf8 bytes × (serde.read bytes ≡ Some d)
+-- how deep lists and objects may nest in a text
+abbrev pub deepest : ℕ
+deepest = 127
 
--- a number is whole and out of range
-abbrev pub is_big : Num → Bool
-is_big n = unwrap_or (option_map is_out_of_range (as_integer n)) false
+-- the tree that UTF-8 bytes are in the grammar, nested at most 127 deep; a lone surrogate has none
+abbrev pub tree_of : List ℕ → Option json.Json
+tree_of bytes =
+    if is_utf8 bytes then option_and_then (λ p. json.if_last p.0 p.1) (json.value deepest (tokens bytes)) else None
 
--- some number of the data is whole and out of range
+-- some name stands among the names, and some name twice
+abbrev pub has_name : List ℕ → List (List ℕ) → Bool
+has_name name [] = false
+has_name name (other ∷ names) = bytes_eq other name || has_name name names
+
+abbrev pub repeats : List (List ℕ) → Bool
+repeats [] = false
+repeats (name ∷ names) = has_name name names || repeats names
+
+-- the names of members
+abbrev pub names_of : Members → List (List ℕ)
+names_of no_members = []
+names_of (member name v ms) = name ∷ names_of ms
+
+-- some object of the tree has a name twice, when its escapes are read
 abbrev mutual
-  pub has_big : Data → Bool
-  has_big reading.null = false
-  has_big (reading.boolean b) = false
-  has_big (reading.number n) = is_big n
-  has_big (reading.string s) = false
-  has_big (reading.array ds) = items_have_big ds
-  has_big (reading.object ms) = members_have_big ms
+  pub has_repeated : json.Json → Bool
+  has_repeated json.null = false
+  has_repeated (json.boolean b) = false
+  has_repeated (json.number s) = false
+  has_repeated (json.string s) = false
+  has_repeated (json.array js) = items_have_repeated js
+  has_repeated (json.object ms) = repeats (keys ms) || members_have_repeated ms
 
-  pub items_have_big : reading.Items → Bool
-  items_have_big reading.no_items = false
-  items_have_big (reading.item d ds) = has_big d || items_have_big ds
+  pub items_have_repeated : json.Items → Bool
+  items_have_repeated json.no_items = false
+  items_have_repeated (json.item j js) = has_repeated j || items_have_repeated js
 
-  pub members_have_big : reading.Members → Bool
-  members_have_big reading.no_members = false
-  members_have_big (reading.member name d ms) = has_big d || members_have_big ms
+  pub members_have_repeated : json.Members → Bool
+  members_have_repeated json.no_members = false
+  members_have_repeated (json.member name j ms) = has_repeated j || members_have_repeated ms
 
--- the whole number, or 0 where it is none of 64 bits with a sign
-abbrev pub whole_number : Num → ℤ
-whole_number n = unwrap_or (as_i64 n) (pos 0)
-
--- the value of the data, with the members of each object in order
+-- some number of the tree passes the test
 abbrev mutual
-  pub value_of : Data → Value
-  value_of reading.null = null
-  value_of (reading.boolean b) = flag b
-  value_of (reading.number n) = int (whole_number n)
-  value_of (reading.string s) = text s
-  value_of (reading.array ds) = list (values_of_items ds)
-  value_of (reading.object ms) = object (in_order (members_of_members ms))
+  pub has_number : (List ℕ → Bool) → json.Json → Bool
+  has_number test json.null = false
+  has_number test (json.boolean b) = false
+  has_number test (json.number s) = test s
+  has_number test (json.string s) = false
+  has_number test (json.array js) = items_have_number test js
+  has_number test (json.object ms) = members_have_number test ms
 
-  pub values_of_items : reading.Items → Values
-  values_of_items reading.no_items = no_values
-  values_of_items (reading.item d ds) = item (value_of d) (values_of_items ds)
+  pub items_have_number : (List ℕ → Bool) → json.Items → Bool
+  items_have_number test json.no_items = false
+  items_have_number test (json.item j js) = has_number test j || items_have_number test js
 
-  pub members_of_members : reading.Members → Members
-  members_of_members reading.no_members = no_members
-  members_of_members (reading.member name d ms) = member name (value_of d) (members_of_members ms)
+  pub members_have_number : (List ℕ → Bool) → json.Members → Bool
+  members_have_number test json.no_members = false
+  members_have_number test (json.member name j ms) = has_number test j || members_have_number test ms
 
--- the bytes are JSON with whole numbers in range alone, and this is its value
+-- the value of a tree, with the members of each object in order
+abbrev mutual
+  pub value_of : json.Json → Value
+  value_of json.null = null
+  value_of (json.boolean b) = flag b
+  value_of (json.number s) = number_value s
+  value_of (json.string s) = text s
+  value_of (json.array js) = list (values_of_items js)
+  value_of (json.object ms) = object (in_order (members_of_members ms))
+
+  pub values_of_items : json.Items → Values
+  values_of_items json.no_items = no_values
+  values_of_items (json.item j js) = item (value_of j) (values_of_items js)
+
+  pub members_of_members : json.Members → Members
+  members_of_members json.no_members = no_members
+  members_of_members (json.member name j ms) = member name (value_of j) (members_of_members ms)
+
+-- the value of a tree, or the first of its faults: a name twice, a fraction or an exponent, a whole number out of range
+abbrev pub value_in_tree : json.Json → Result Value ReadError
+value_in_tree t =
+    if has_repeated t then Err Repeated
+    else (if has_number is_fraction t then Err Fraction else (if has_number is_big t then Err Range else Ok (value_of t)))
+
+abbrev pub if_tree : Option json.Json → Result Value ReadError
+if_tree None = Err NotJson
+if_tree (Some t) = value_in_tree t
+
+-- the value of a text, or why it has none
+unfoldable pub value_in : List ℕ → Result Value ReadError
+value_in bytes = if_tree (tree_of bytes)
+
+-- the text is read as the value
 abbrev pub Reads : List ℕ → Value → Type 0
-Reads bytes v = (d : Data) × IsReading bytes d × (has_float d ≡ false) × (has_big d ≡ false) × (v ≡ value_of d)
+Reads bytes v = value_in bytes ≡ Ok v
 
--- why the bytes are not read: no JSON, a number with a fraction or an exponent or past 64 bits, a whole number out of range
+-- the text is refused for this reason; memory may run out on any text
 abbrev pub IsFault : List ℕ → ReadError → Type 0
-IsFault bytes NotJson = (d : Data) → ¬ IsReading bytes d
-IsFault bytes Fraction = (d : Data) × IsReading bytes d × (has_float d ≡ true)
-IsFault bytes Range = (d : Data) × IsReading bytes d × (has_float d ≡ false) × (has_big d ≡ true)
+IsFault bytes NotJson = value_in bytes ≡ Err NotJson
+IsFault bytes Repeated = value_in bytes ≡ Err Repeated
+IsFault bytes Fraction = value_in bytes ≡ Err Fraction
+IsFault bytes Range = value_in bytes ≡ Err Range
 IsFault bytes NoMemory = Unit {0}
+
+-- the text has no value
+abbrev pub IsUnread : List ℕ → Type 0
+IsUnread bytes = (v : Value) → ¬ Reads bytes v
+
+-- each object of the tree has a name once, as names are compared by RFC 8259, section 8.3: code unit by code unit
+abbrev mutual
+  pub HasNamesOnce : json.Json → Type 0
+  HasNamesOnce json.null = Unit {0}
+  HasNamesOnce (json.boolean b) = Unit {0}
+  HasNamesOnce (json.number s) = Unit {0}
+  HasNamesOnce (json.string s) = Unit {0}
+  HasNamesOnce (json.array js) = ItemsHaveNamesOnce js
+  HasNamesOnce (json.object ms) = AreApart (members_of_members ms) × MembersHaveNamesOnce ms
+
+  pub ItemsHaveNamesOnce : json.Items → Type 0
+  ItemsHaveNamesOnce json.no_items = Unit {0}
+  ItemsHaveNamesOnce (json.item j js) = HasNamesOnce j × ItemsHaveNamesOnce js
+
+  pub MembersHaveNamesOnce : json.Members → Type 0
+  MembersHaveNamesOnce json.no_members = Unit {0}
+  MembersHaveNamesOnce (json.member name j ms) = HasNamesOnce j × MembersHaveNamesOnce ms
+
+abbrev pub NamesOnce : List ℕ → Type 0
+NamesOnce bytes = (t : json.Json) → tree_of bytes ≡ Some t → HasNamesOnce t

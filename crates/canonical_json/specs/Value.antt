@@ -1,4 +1,4 @@
--- What a JSON value is: RFC 8259 with whole numbers, and with texts as their UTF-8 bytes.
+-- What a JSON value is: RFC 8259 with whole numbers and decimals, and with texts as their UTF-8 bytes.
 use Rattle.std.specs.Prelude.{ℕ, ℤ, suc, max, List, Bool}
 
 mutual
@@ -6,6 +6,8 @@ mutual
     null : Value
     flag : Bool → Value
     int : ℤ → Value
+    -- the digits with their sign, and how many of them stand behind the full stop
+    decimal : ℤ → ℕ → Value
     text : List ℕ → Value
     list : Values → Value
     object : Members → Value
@@ -26,6 +28,7 @@ abbrev mutual
   depth null = 0
   depth (flag b) = 0
   depth (int z) = 0
+  depth (decimal z s) = 0
   depth (text s) = 0
   depth (list vs) = suc (values_depth vs)
   depth (object ms) = suc (members_depth ms)

@@ -1,6 +1,6 @@
 -- How contracts see a `Json` and its lists: as the values of the model.
 use Rattle.std.specs.Prelude.{ℕ, List, [], ◌∷◌, map}
-use Rattle.canonical_json.specs.Value.{Value, null, flag, int, text, list, object, Values, no_values, item, Members, no_members, member}
+use Rattle.canonical_json.specs.Value.{Value, null, flag, int, decimal, text, list, object, Values, no_values, item, Members, no_members, member}
 use Rattle.canonical_json.specs.declared.value.Json.{Json, fold-Json}
 use Rattle.canonical_json.specs.declared.value.JsonList.{JsonList, fold-JsonList}
 use Rattle.canonical_json.specs.declared.value.Member.{Member, fold-Member}
@@ -25,6 +25,7 @@ abbrev pub json_step : Json-F Value Values Entry Members → Value
 json_step Json-F.Null = null
 json_step (Json-F.Flag b) = flag b
 json_step (Json-F.Int z) = int z
+json_step (Json-F.Decimal z s) = decimal z s
 json_step (Json-F.Text s) = text s
 json_step (Json-F.List vs) = list vs
 json_step (Json-F.Object ms) = object ms

@@ -5,9 +5,11 @@ use ebl_base::NoMemory;
 /// Why a text is not read as a value.
 #[derive(Clone, Copy, Debug, PartialEq, Eq)]
 pub enum ReadError {
-    /// The bytes are no text of JSON (RFC 8259), or nest deeper than 127.
+    /// The bytes are no text of JSON (RFC 8259) in UTF-8, have a lone surrogate, or nest deeper than 127.
     NotJson,
-    /// Some number has a fraction or an exponent, is `-0`, or is past 64 bits.
+    /// Some object has a name twice, when its escapes are read.
+    Repeated,
+    /// Some number has an exponent, or a fraction that no decimal has.
     Fraction,
     /// Some whole number is below -(2^53 - 1) or above 2^53 - 1.
     Range,

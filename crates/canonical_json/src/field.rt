@@ -1,7 +1,7 @@
 //! The members of an object by their names. None takes memory; each looks at the members one by one.
 ghost use Rattle.std.specs.Prelude.{◌≡◌, option_map};
 ghost use Rattle.canonical_json.specs.View.{view, list_view, object_view};
-ghost use Rattle.canonical_json.specs.Field.{under, member_of, text_of, int_of, flag_of, list_of};
+ghost use Rattle.canonical_json.specs.Field.{under, member_of, text_of, int_of, decimal_of, flag_of, list_of};
 
 use crate::value::{Json, JsonList, MemberList};
 use ebl_base::CharList;
@@ -27,12 +27,23 @@ pub fn text_of<'a>(json: &'a Json, name: &str) -> Option<&'a CharList>
     }
 }
 
-/// The member of that name where it is a number.
+/// The member of that name where it is a whole number.
 pub fn int_of(json: &Json, name: &str) -> Option<i64>
     ensures { result ≡ int_of name.now (view json.now) }
 {
     match member_of(json, name) {
         Some(Json::Int(number)) => Some(*number),
+        _ => None,
+    }
+}
+
+/// The digits and the scale of the member of that name where it is a decimal. None if and only if
+/// the value is no object with such a member that is a decimal.
+pub fn decimal_of(json: &Json, name: &str) -> Option<(i64, u32)>
+    ensures { result ≡ decimal_of name.now (view json.now) }
+{
+    match member_of(json, name) {
+        Some(Json::Decimal { digits, scale }) => Some((*digits, *scale)),
         _ => None,
     }
 }

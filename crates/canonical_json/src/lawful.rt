@@ -4,13 +4,12 @@ ghost use Rattle.canonical_json.specs.View.{view, list_view, object_view};
 ghost use Rattle.canonical_json.specs.Lawful.{is_lawful, are_lawful, members_are_lawful, is_out_of_range};
 
 use crate::name::names_rise;
+use crate::number::{GREATEST, is_decimal};
 use crate::value::{Json, JsonList, MemberList};
 
-/// The greatest size of a number: 2^53 - 1 (RFC 8785, section 3.2.2.3; RFC 7493, section 2.2).
-pub(crate) const GREATEST: i128 = 9_007_199_254_740_991;
-
-/// Whether each number is at most 2^53 - 1 in size and the names of each object rise strictly
-/// as sequences of UTF-16 code units. It goes as deep as the value nests.
+/// Whether each whole number is at most 2^53 - 1 in size, each decimal has at most 15 digits, the
+/// last of them not 0, and is at least 10^-6 in size, and the names of each object rise strictly as
+/// sequences of UTF-16 code units. It goes as deep as the value nests.
 #[cycle(lawful)]
 pub fn is_lawful(json: &Json) -> bool
     ensures { result ≡ is_lawful (view json.now) }
@@ -18,7 +17,8 @@ pub fn is_lawful(json: &Json) -> bool
     match json {
         Json::Null => true,
         Json::Flag(_) => true,
-        Json::Int(number) => !is_out_of_range(*number as i128),
+        Json::Int(number) => !is_out_of_range(*number),
+        Json::Decimal { digits, scale } => is_decimal(digits.unsigned_abs(), *scale as usize),
         Json::Text(_) => true,
         Json::List(list) => are_lawful(list),
         Json::Object(members) => names_rise(members.as_slice()) && members_are_lawful(members),
@@ -49,9 +49,8 @@ fn members_are_lawful(members: &MemberList) -> bool
     true
 }
 
-/// Whether a whole number is below -(2^53 - 1) or above 2^53 - 1.
-pub(crate) fn is_out_of_range(number: i128) -> bool
+fn is_out_of_range(number: i64) -> bool
     ensures { result ≡ is_out_of_range number }
 {
-    number < -GREATEST || GREATEST < number
+    GREATEST < number.unsigned_abs()
 }

@@ -1,11 +1,13 @@
-//! Canonical JSON (RFC 8785) for values whose numbers are whole: reading, writing, and looking into them.
+//! Canonical JSON (RFC 8785) for values whose numbers are whole or decimals: reading, writing, and looking into them.
 #![tactic(auto)]
 
 mod fault;
+mod faults;
 mod field;
 mod lawful;
 mod laws;
 mod name;
+mod number;
 mod reading;
 mod taking;
 #[cfg(test)]
@@ -14,10 +16,10 @@ mod value;
 mod writing;
 
 pub use fault::ReadError;
-pub use field::{flag_of, int_of, list_of, member_of, text_of};
+pub use field::{decimal_of, flag_of, int_of, list_of, member_of, text_of};
 pub use lawful::is_lawful;
-pub use laws::{canonical_reads, equal_texts_have_equal_values};
-pub use reading::read;
+pub use laws::{canonical_reads, equal_texts_have_equal_values, formerly_read_is_read_alike};
+pub use reading::{read, read_if_any};
 pub use taking::take_member;
 pub use value::{Json, JsonList, Member, MemberList};
-pub use writing::{write, write_text};
+pub use writing::{append, write, write_text};

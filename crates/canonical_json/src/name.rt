@@ -1,7 +1,9 @@
 //! The order of names: by their UTF-16 code units (RFC 8785, section 3.2.3).
-ghost use Rattle.std.specs.Prelude.{◌≡◌, OnOk};
+ghost use Rattle.std.specs.Prelude.{◌≡◌, true, not, IfOk};
 ghost use Rattle.canonical_json.specs.View.{member_view, members_view};
-ghost use Rattle.canonical_json.specs.Name.{name_cmp, units_rank, names_rise, AreApart, in_order};
+ghost use Rattle.canonical_json.specs.Name.{name_cmp, units_rank, names_rise, in_order};
+ghost use Rattle.canonical_json.specs.Lawful.{MembersHaveTexts};
+ghost use Rattle.canonical_json.specs.Reading.{repeats, names_of};
 
 use crate::value::Member;
 use ebl_base::NoMemory;
@@ -49,17 +51,21 @@ pub(crate) fn names_rise(members: &[Member]) -> bool
     true
 }
 
-/// Puts the members in order, each name of which comes once. Members in the order of their bytes
-/// are mostly in the order of their code units already, and then only looked at.
-pub(crate) fn sort_by_names(members: &mut Vec<Member>) -> Result<(), NoMemory>
-    requires { AreApart (members_view members.old.items) }
-    ensures { OnOk result (members_view members.new.items
+/// Puts the members in order, and gives whether each name comes once. Members that are in order
+/// already are only looked at.
+pub(crate) fn sort_by_names(members: &mut Vec<Member>) -> Result<bool, NoMemory>
+    requires { MembersHaveTexts (members_view members.old.items) }
+    ensures apart { IfOk result (λ apart. apart
+        ≡ not (repeats (names_of (members_view members.old.items)))) }
+    ensures ordered { IfOk result (λ apart. apart ≡ true → members_view members.new.items
         ≡ in_order (members_view members.old.items)) }
+    ensures texts { IfOk result (λ apart. MembersHaveTexts (members_view members.new.items)) }
 {
-    if !names_rise(members.as_slice()) {
-        members.sort_by(by_name)?;
+    if names_rise(members.as_slice()) {
+        return Ok(true);
     }
-    Ok(())
+    members.sort_by(by_name)?;
+    Ok(names_rise(members.as_slice()))
 }
 
 fn by_name(a: &Member, b: &Member) -> Ordering

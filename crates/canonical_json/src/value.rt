@@ -6,7 +6,7 @@ ghost use Rattle.canonical_json.specs.View.{view, list_view, member_view, object
 use ebl_base::{CharList, Copied, NoMemory};
 use std::alloc::Global;
 
-/// A value of JSON (RFC 8259) whose numbers are whole.
+/// A value of JSON (RFC 8259) whose numbers are whole, or decimals of at most 15 digits.
 #[derive(Drop)]
 #[cycle(json)]
 pub enum Json {
@@ -16,6 +16,9 @@ pub enum Json {
     Flag(bool),
     /// A whole number.
     Int(i64),
+    /// The number digits / 10^scale. In a lawful value its text is the shortest: the scale is at
+    /// least 1 and the last digit isn't 0.
+    Decimal { digits: i64, scale: u32 },
     /// A text of Unicode.
     Text(CharList),
     /// Values in their order.
@@ -58,6 +61,10 @@ impl Json {
             Json::Null => Ok(Json::Null),
             Json::Flag(flag) => Ok(Json::Flag(*flag)),
             Json::Int(number) => Ok(Json::Int(*number)),
+            Json::Decimal { digits, scale } => Ok(Json::Decimal {
+                digits: *digits,
+                scale: *scale,
+            }),
             Json::Text(text) => Ok(Json::Text(text.copy(alloc)?)),
             Json::List(list) => Ok(Json::List(list.copy(alloc)?)),
             Json::Object(members) => Ok(Json::Object(members.copy(alloc)?)),
@@ -71,6 +78,16 @@ impl Member {
         ensures { member_view result ≡ (name, view value) }
     {
         Member { name, value }
+    }
+
+    /// A member equal to this one. It goes as deep as the value nests.
+    #[cycle(copy)]
+    pub fn copy(&self, alloc: Global) -> Result<Member, NoMemory>
+        ensures { IfOk result (λ c. member_view c ≡ member_view self.now) }
+    {
+        let name = self.name.copy(alloc)?;
+        let value = self.value.copy(alloc)?;
+        Ok(Member { name, value })
     }
 }
 
@@ -174,9 +191,7 @@ impl MemberList {
     {
         let mut copies = Vec::with_capacity(alloc, self.items.len())?;
         for member in &self.items {
-            let name = member.name.copy(alloc)?;
-            let value = member.value.copy(alloc)?;
-            copies.push(Member { name, value })?;
+            copies.push(member.copy(alloc)?)?;
         }
         Ok(MemberList { items: copies })
     }

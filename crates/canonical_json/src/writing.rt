@@ -1,18 +1,23 @@
 //! The canonical text of a value (RFC 8785).
-ghost use Rattle.std.specs.Prelude.{◌≡◌, ◌≤◌, ◌<◌, ◌+◌, ◌++◌, [], ◌∷◌, false, take, drop, length, IfOk, OnOk};
+ghost use Rattle.std.specs.Prelude.{◌≡◌, ◌≤◌, ◌<◌, ◌+◌, ◌++◌, [], ◌∷◌, false, take, drop, length, replicate, IfOk, OnOk};
 ghost use Rattle.std.specs.Char.{digit_char};
 ghost use Rattle.std.specs.Str.{IsUtf8};
-ghost use Rattle.std.specs.Fmt.{signed_decimal};
+ghost use Rattle.std.specs.Fmt.{signed_decimal, decimal as digits_of};
 ghost use Rattle.std.specs.List.{prefix_len};
 ghost use Rattle.json.specs.Print.{quoted, escape_letter, escape_byte};
 ghost use Rattle.json.specs.Run.{is_plain};
 ghost use Rattle.canonical_json.specs.View.{view, list_view, object_view};
 ghost use Rattle.canonical_json.specs.Lawful.{HasTexts, HaveTexts, MembersHaveTexts};
-ghost use Rattle.canonical_json.specs.Canon.{comma_if, canon, values_text, members_text};
+ghost use Rattle.canonical_json.specs.Canon.{comma_if, canon, with_stop, decimal_text, values_text, members_text};
 
 use crate::value::{Json, JsonList, MemberList};
 use ebl_base::{ByteList, NoMemory};
+use json::Writer;
 use std::alloc::Global;
+use std::mem;
+
+// From this length on a text is written by the kit's writer, which pays once for its start.
+const LONG: usize = 64;
 
 /// The canonical text of a value: RFC 8785, sections 3.2.1 to 3.2.3. It takes one buffer that
 /// grows, and goes as deep as the value nests.
@@ -21,8 +26,17 @@ pub fn write(alloc: Global, json: &Json) -> Result<ByteList, NoMemory>
     ensures texts { OnOk result (HasTexts (view json.now)) }
 {
     let mut out = Vec::new(alloc);
-    push_value(&mut out, json)?;
+    append(&mut out, json)?;
     Ok(ByteList::from_vec(out))
+}
+
+/// Appends the canonical text of a value to a buffer. Where memory runs out, some first part of the
+/// text stands there.
+pub fn append(out: &mut Vec<u8>, json: &Json) -> Result<(), NoMemory>
+    ensures text { OnOk result (out.new.items ≡ out.old.items ++ canon (view json.now)) }
+    ensures texts { OnOk result (HasTexts (view json.now)) }
+{
+    push_value(out, json)
 }
 
 /// The canonical text of a text of these bytes, in quotation marks: RFC 8785, section 3.2.2.2. It is
@@ -31,7 +45,10 @@ pub fn write_text(alloc: Global, text: &[u8]) -> Result<ByteList, NoMemory>
     ensures { IfOk result (λ bytes. bytes ≡ quoted text.now) }
 {
     let mut out = Vec::with_capacity(alloc, text.len())?;
-    push_quoted(&mut out, text)?;
+    match simdutf8::basic::from_utf8(text) {
+        Ok(text) => push_text(&mut out, text)?,
+        Err(_) => push_quoted(&mut out, text)?,
+    }
     Ok(ByteList::from_vec(out))
 }
 
@@ -45,6 +62,7 @@ fn push_value(out: &mut Vec<u8>, json: &Json) -> Result<(), NoMemory>
         Json::Flag(true) => push_bytes(out, b"true"),
         Json::Flag(false) => push_bytes(out, b"false"),
         Json::Int(number) => push_number(out, *number),
+        Json::Decimal { digits, scale } => push_decimal(out, *digits, *scale as usize),
         Json::Text(text) => push_text(out, text.as_str()),
         Json::List(list) => {
             push_bytes(out, b"[")?;
@@ -117,11 +135,60 @@ fn push_number(out: &mut Vec<u8>, number: i64) -> Result<(), NoMemory>
     push_bytes(out, buffer.format(number).as_bytes())
 }
 
+fn push_decimal(out: &mut Vec<u8>, digits: i64, scale: usize) -> Result<(), NoMemory>
+    ensures { OnOk result (out.new.items ≡ out.old.items ++ decimal_text digits scale) }
+{
+    if digits < 0 {
+        push_bytes(out, b"-")?;
+    }
+    let mut buffer = itoa::Buffer::new();
+    push_with_stop(out, buffer.format(digits.unsigned_abs()).as_bytes(), scale)
+}
+
+// The digits with a full stop before the last `scale`, behind zeros where they are fewer.
+fn push_with_stop(out: &mut Vec<u8>, digits: &[u8], scale: usize) -> Result<(), NoMemory>
+    ensures { OnOk result (out.new.items ≡ out.old.items ++ with_stop scale digits.now) }
+{
+    if scale < digits.len() {
+        let (whole, fraction) = digits.split_at(digits.len() - scale);
+        push_bytes(out, whole)?;
+        push_bytes(out, b".")?;
+        return push_bytes(out, fraction);
+    }
+    push_bytes(out, b"0.")?;
+    push_zeros(out, scale - digits.len())?;
+    push_bytes(out, digits)
+}
+
+fn push_zeros(out: &mut Vec<u8>, count: usize) -> Result<(), NoMemory>
+    ensures { OnOk result (out.new.items ≡ out.old.items ++ replicate count 48) }
+{
+    for _ in 0..count {
+        out.push(b'0')?;
+    }
+    Ok(())
+}
+
 fn push_text(out: &mut Vec<u8>, text: &str) -> Result<(), NoMemory>
     ensures text { OnOk result (out.new.items ≡ out.old.items ++ quoted text.now) }
     ensures utf8 { IsUtf8 text.now }
 {
-    push_quoted(out, text.as_bytes())
+    if text.len() < LONG {
+        push_quoted(out, text.as_bytes())
+    } else {
+        push_long_text(out, text)
+    }
+}
+
+// The kit's writer looks at many bytes at a time.
+fn push_long_text(out: &mut Vec<u8>, text: &str) -> Result<(), NoMemory>
+    ensures { OnOk result (out.new.items ≡ out.old.items ++ quoted text.now) }
+{
+    let empty = Vec::new(*out.allocator());
+    let mut writer = Writer::new(mem::replace(out, empty));
+    let written = writer.string(text);
+    *out = writer.into_inner();
+    Ok(written?)
 }
 
 // RFC 8785, section 3.2.2.2. Bytes that stand for themselves are written together.

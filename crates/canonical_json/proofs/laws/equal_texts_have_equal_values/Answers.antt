@@ -1,4 +1,4 @@
-use Rattle.canonical_json.proofs.Texts.{canon_same}
+use Rattle.canonical_json.proofs.Readings.{canon_same}
 use Rattle.canonical_json.proofs.laws.equal_texts_have_equal_values.Goals as goal
 
 pub returns : goal.returns
