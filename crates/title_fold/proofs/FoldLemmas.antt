@@ -85,27 +85,6 @@ pub fold-append-refused : (front rest : List Transaction) (at : FoldAt)
 fold-append-refused front rest at stops =
     fold-append front rest ∙ ap (λ folded. fold_on folded rest (length front)) stops
 
--- the front of a list that folds does so too, and the rest does on its title
-pub record FoldsInParts (front rest : List Transaction) (before : Option Title) (place : ℕ)
-    (after : Option Title) : Type 0 where
-  pub between : Option Title
-  pub front_folds : fold_from front before place ≡ Ok between
-  pub rest_folds : fold_from rest between (place + length front) ≡ Ok after
-
-in_parts : (front rest : List Transaction) (before : Option Title) (place : ℕ) (after : Option Title) (folded : Folded)
-    → fold_from front before place ≡ folded
-    → fold_on folded rest (place + length front) ≡ Ok after
-    → FoldsInParts front rest before place after
-in_parts front rest before place after (Err at) first h = absurd (not_both h)
-in_parts front rest before place after (Ok between) first h =
-    record { between = between; front_folds = first; rest_folds = h }
-
-pub fold_from-parts : (front rest : List Transaction) (before : Option Title) (place : ℕ) (after : Option Title)
-    → fold_from (front ++ rest) before place ≡ Ok after → FoldsInParts front rest before place after
-fold_from-parts front rest before place after h =
-    in_parts front rest before place after (fold_from front before place) refl
-    (sym (fold_from-append front rest before place) ∙ h)
-
 -- what a list makes of a title doesn't depend on the place of its first transaction
 elsewhere_on : (ts : List Transaction) (p q : ℕ) (after : Option Title) (step : Result Title FoldRefusal)
     → ((title : Title) → fold_from ts (Some title) (p + 1) ≡ Ok after

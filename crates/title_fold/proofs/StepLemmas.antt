@@ -152,7 +152,7 @@ makes (Some (Asked asked c by)) SurrenderRefused actor (Some to) time after h = 
 makes (Some (Asked asked c by)) kind actor recipient time after h = absurd h
 makes (Some (Ended asked c)) kind actor recipient time after h = absurd h
 
--- a step makes a title exactly where the transaction is taken
+-- a step makes a title if and only if the transaction is taken
 pub step_title-taken : (before : Option Title) (t : Transaction) (after : Title)
     → step_title before t ≡ Ok after
     → IsTaken before t after

@@ -6,4 +6,4 @@ pub mod Fold
 pub mod Movement
 pub mod Taken
 pub mod Changes
-pub mod Chain
+pub mod Refusal

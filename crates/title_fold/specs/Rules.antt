@@ -34,9 +34,9 @@ is_named (Some named) party = party_eq named party
 
 -- whether a rule refuses a transaction on this title
 abbrev pub fits : FoldRefusal → Option Title → Transaction → Bool
--- a SIGN where a title stands
+-- a SIGN when there is a title
 fits F1 before t = is_sign t.kind && not (stands_at unsigned before)
--- another kind where none stands
+-- another kind when there is none
 fits F2 before t = not (is_sign t.kind) && stands_at unsigned before
 -- the title is ended
 fits F3 before t = stands_at ended before
@@ -57,6 +57,6 @@ fits F9 before t = is_handing_on t.kind && is_named t.recipient t.actor
 abbrev pub rules : List FoldRefusal
 rules = F1 ∷ F2 ∷ F3 ∷ F4 ∷ F5 ∷ F6 ∷ F7 ∷ F8 ∷ F9 ∷ []
 
--- the first rule that fits
+-- the first rule that applies
 abbrev pub first_refusal : Option Title → Transaction → Option FoldRefusal
 first_refusal before t = find (λ rule. fits rule before t) rules

@@ -12,7 +12,7 @@ use Rattle.title_fold.specs.Rules.{first_refusal}
 abbrev pub recipient_of : Transaction → Party
 recipient_of t = unwrap_or t.recipient t.actor
 
--- the title after a transaction that no rule refuses; where no title stands that is a SIGN
+-- the title after a transaction that no rule refuses; if there was no title that is a SIGN
 abbrev pub title_after : Option Title → Transaction → Title
 title_after None t = Signed t.actor
 title_after (Some title) t = (table t.kind).effect title t.actor (recipient_of t)
@@ -22,6 +22,6 @@ abbrev pub unless : Option FoldRefusal → Title → Result Title FoldRefusal
 unless None title = Ok title
 unless (Some rule) title = Err rule
 
--- the step: the first rule that fits refuses, else the table's row says the title after
+-- the step: the first rule that applies refuses, else the table's row says the title after
 abbrev pub step_title : Option Title → Transaction → Result Title FoldRefusal
 step_title before t = unless (first_refusal before t) (title_after before t)

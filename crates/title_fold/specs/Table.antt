@@ -106,7 +106,7 @@ abbrev pub is_for_title_holder : Actor → Bool
 is_for_title_holder the_possessor_who_is_title_holder = true
 is_for_title_holder actor = false
 
--- whether there is a recipient exactly where the kind has one
+-- whether there is a recipient if and only if the kind has one
 abbrev pub is_recipient_right : Recipient → Option Party → Bool
 is_recipient_right no_recipient None = true
 is_recipient_right no_recipient (Some party) = false

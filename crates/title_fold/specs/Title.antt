@@ -10,7 +10,7 @@ carrier (Live c p h) = c
 carrier (Asked kind c by) = c
 carrier (Ended kind c) = c
 
--- the party that has possession: the carrier, but where the bill is live
+-- the party that has possession: the carrier, except while the bill is live
 abbrev pub possessor : Title → Party
 possessor (Signed c) = c
 possessor (Live c p h) = p

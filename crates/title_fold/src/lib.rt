@@ -13,7 +13,7 @@ pub use fold_laws::{
     fold_begins_with_its_first_transaction, fold_of_front_and_rest, fold_of_one_more,
     fold_stops_at_the_first_refusal, refused_fold_stays_refused,
 };
-pub use folding::fold;
+pub use folding::{fold, fold_from};
 pub use movement::moves;
 pub use refusal::{FoldAt, FoldRefusal};
 pub use step::apply;

@@ -1,3 +1,4 @@
+//! Whether a transaction moves a bill.
 ghost use Rattle.std.specs.Bool.{OnTrue, OnFalse};
 ghost use Rattle.std.specs.Prelude.{◌≡◌, ◌≢◌, IsSomeAnd, IfSome};
 ghost use Rattle.title_fold.specs.Movement.{moves};

@@ -1,3 +1,4 @@
+//! The step of a title.
 ghost use Rattle.std.specs.Prelude.{◌≡◌, Some, None, Ok, Err, ok_or, is_none, if◌then◌else◌, IsTrue};
 ghost use Rattle.ebl_base.specs.Party.{party_eq};
 ghost use Rattle.title_fold.specs.Step.{step_title};

@@ -1,3 +1,4 @@
+//! Every kind of transaction in every state, by a table written by hand.
 use crate::{FoldAt, FoldRefusal, Title, apply, carrier, fold, moves, possessor, title_holder};
 use ebl_base::{Kind, Moment, Party, Transaction};
 use std::process::Abort;

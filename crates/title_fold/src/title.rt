@@ -1,3 +1,4 @@
+//! The title to a bill, and who has which part in it.
 ghost use Rattle.std.specs.Prelude.{◌≡◌};
 ghost use Rattle.title_fold.specs.Title.{carrier, possessor, title_holder};
 
