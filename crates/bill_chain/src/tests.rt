@@ -1,0 +1,81 @@
+//! What no contract says: each function once, on chains of two entries, with rules of titles that let them through.
+
+use crate::{
+    common_front, destination, ends_in, fold_after_chain, goes_beyond, has_entry, last_link,
+    possessor_after,
+};
+use ebl_base::{
+    ByteList, Chain, ChainLink, Checksum, Entry, Kind, Moment, Party, SignedText, Transaction,
+    TransactionList,
+};
+use std::alloc::Global;
+use std::test::Fail;
+use title_fold::FoldRefusal;
+
+fn act(kind: Kind, actor: &[u8], recipient: Option<&[u8]>) -> Result<Transaction, Fail> {
+    let recipient = match recipient {
+        Some(text) => Some(Party::from_text(text).ok_or("a party")?),
+        None => None,
+    };
+    Ok(Transaction {
+        kind,
+        actor: Party::from_text(actor).ok_or("a party")?,
+        recipient,
+        time: Moment::try_new(0).ok_or("a moment")?,
+    })
+}
+
+fn link(alloc: Global, name: u8, transactions: &[Transaction]) -> Result<ChainLink, Fail> {
+    let first = transactions.first().ok_or("a transaction")?;
+    Ok(ChainLink {
+        text: SignedText(ByteList::new(alloc)),
+        name: Checksum([name; 32]),
+        entry: Entry {
+            platform: first.actor.platform,
+            bill: Checksum([0; 32]),
+            previous: None,
+            attempt: 1,
+            transactions: TransactionList::from_slice(alloc, transactions)?,
+        },
+    })
+}
+
+// An entry that issues to BETA, and one of this name that transfers from there to GAMM.
+fn two_links(alloc: Global, second: u8) -> Result<Chain, Fail> {
+    let mut chain = Chain::new(alloc);
+    let sign = act(Kind::Sign, b"ALPH/CARRIER", None)?;
+    let issue = act(Kind::Issue, b"ALPH/CARRIER", Some(b"BETA/EXPORT"))?;
+    let transfer = act(Kind::Transfer, b"BETA/EXPORT", Some(b"GAMM/BANK"))?;
+    chain.push(link(alloc, 1, &[sign, issue])?)?;
+    chain.push(link(alloc, second, &[transfer])?)?;
+    Ok(chain)
+}
+
+#[test]
+fn names_of_a_chain(rt: HostRuntime) -> Result<(), Fail> {
+    let chain = two_links(rt.alloc(), 2)?;
+    let other = two_links(rt.alloc(), 3)?;
+    let (links, others) = (chain.as_slice(), other.as_slice());
+    assert!(rt; last_link(links).is_some_and(|link| link.name == Checksum([2; 32])));
+    assert!(rt; ends_in(links, Checksum([2; 32])));
+    assert!(rt; has_entry(links, Checksum([1; 32])));
+    assert!(rt; !has_entry(links, Checksum([3; 32])));
+    assert_eq!(rt; common_front(links, others), 1);
+    assert!(rt; goes_beyond(&links[..1], others));
+    assert!(rt; !goes_beyond(links, others));
+    Ok(())
+}
+
+#[test]
+fn the_title_after_a_chain(rt: HostRuntime) -> Result<(), Fail> {
+    let chain = two_links(rt.alloc(), 2)?;
+    let links = chain.as_slice();
+    let bank = Party::from_text(b"GAMM/BANK").ok_or("a party")?;
+    assert_eq!(rt; possessor_after(links), Some(bank));
+    assert_eq!(rt; destination(links), Some(bank.platform));
+    assert_eq!(rt; destination(&[]), None);
+    let again = act(Kind::Transfer, b"BETA/EXPORT", Some(b"GAMM/BANK"))?;
+    assert_eq!(rt; fold_after_chain(links, &[again]), Err(FoldRefusal::F7));
+    assert_eq!(rt; fold_after_chain(&[], &[]), Ok(None));
+    Ok(())
+}
