@@ -30,11 +30,3 @@ gathered-item form items i j read x lt is found =
     gathered-with_more read x (all_of form (items_view (drop (i + 1) items)))
     ∙ ap (λ first. gathered read (with_more first (all_of form (items_view (drop (i + 1) items))))) found
     ∙ ap (λ vs. gathered read (all_of form vs)) (sym (items_view-drop items i j lt is))
-
--- an item that is in another form ends the reading
-pub gathered-other : {T : Type 0} (form : Value → Option T) (items : List Json) (i : ℕ) (j : Json) (read : List T)
-    → i < length items → j ≡ get_or items i j → None ≡ form (view j)
-    → gathered read (all_of form (items_view (drop i items))) ≡ None
-gathered-other form items i j read lt is none =
-    ap (λ vs. gathered read (all_of form vs)) (items_view-drop items i j lt is)
-    ∙ ap (λ first. gathered read (with_more first (all_of form (items_view (drop (i + 1) items))))) (sym none)

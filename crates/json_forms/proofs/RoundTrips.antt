@@ -12,10 +12,6 @@ use Rattle.ebl_base.proofs.TextLemmas.{code_text-code_of, party_text-party_of}
 use Rattle.json_forms.specs.Reading.{platform_in, party_in, checksum_in, number_in, count_of, each, all_of, with_more}
 use Rattle.json_forms.specs.Writing.{each_written, platform_value, party_value, checksum_value}
 
--- what is written of an item that a value was read as reads as that item
-abbrev pub ReadsBack : {T : Type 0} → (Value → Option T) → (T → Value) → Type 0
-ReadsBack {T} form write = (v : Value) (x : T) → form v ≡ Some x → form (write x) ≡ Some x
-
 -- a value that some text gave
 text_behind : {T : Type 0} (read : List ℕ → Option T) (said : Option (List ℕ)) (x : T)
     → option_and_then read said ≡ Some x → (t : List ℕ) × (read t ≡ Some x)
@@ -30,24 +26,6 @@ again read written same said x h =
     let behind = text_behind read said x h in
     ap read (same behind.0 x behind.1) ∙ behind.1
 
-pub platform-reads_back : ReadsBack platform_in platform_value
-platform-reads_back v x h = again code_of code_text code_text-code_of (as_text v) x h
-
-pub party-reads_back : ReadsBack party_in party_value
-party-reads_back v x h = again party_of party_text party_text-party_of (as_text v) x h
-
--- what holds where something is there holds of what is there
-if_some : {T : Type 0} (P : T → Type 0) (o : Option T) (x : T) → o ≡ Some x → IfSome o P → P x
-if_some P None x h all = cc
-if_some P (Some y) x h all = let same : y ≡ x = cc in subst P same all
-
-checksum_text-read : (t : List ℕ) (x : Checksum) → checksum_of_text t ≡ Some x → checksum_text x ≡ t
-checksum_text-read t x h =
-    if_some (λ c. checksum_text c ≡ t) (checksum_of_text t) x h (checksum_text-checksum_of_text t)
-
-pub checksum-reads_back : ReadsBack checksum_in checksum_value
-checksum-reads_back v x h = again checksum_of_text checksum_text checksum_text-read (as_text v) x h
-
 -- a choice of what is there
 pub kept : {T : Type 0} (b : Bool) (x y : T) → cond b (Some x) None ≡ Some y → (b ≡ true) × (x ≡ y)
 kept true x y h = (refl, cc)
@@ -60,11 +38,6 @@ number_in-within least most (pos m) n h =
     let both = kept (nat_le least m && nat_le m most) m n h in
     (ap (λ k. nat_le least k && nat_le k most) (sym both.1) ∙ both.0, ap pos both.1)
 number_in-within least most (negsuc m) n h = cc
-
-pub number-reads_back : (least most : ℕ) (z : ℤ) (n : ℕ) → number_in least most z ≡ Some n
-    → number_in least most (pos n) ≡ Some n
-number-reads_back least most z n h =
-    ap (λ b. cond b (Some n) None) (number_in-within least most z n h).0
 
 -- as many values as forms
 pub count_of-each : {T : Type 0} (form : Value → T) (values : Values) → count_of values ≡ length (each form values)
@@ -84,18 +57,6 @@ with_more-parts : {T : Type 0} (first : Option T) (more : Option (List T)) (xs :
 with_more-parts None more xs h = cc
 with_more-parts (Some y) None xs h = cc
 with_more-parts (Some y) (Some ys) xs h = (y, ys, refl, refl, cc)
-
--- a list that was read is read again as it is written
-pub all_of-each_written : {T : Type 0} (form : Value → Option T) (write : T → Value) → ReadsBack form write
-    → (values : Values) (xs : List T) → all_of form values ≡ Some xs → all_of form (each_written write xs) ≡ Some xs
-all_of-each_written form write back no_values [] h = refl
-all_of-each_written form write back no_values (x ∷ xs) h = cc
-all_of-each_written form write back (item v values) xs h =
-    let parts = with_more-parts (form v) (all_of form values) xs h in
-    ap (λ zs. all_of form (each_written write zs)) (sym parts.4)
-    ∙ ap (λ first. with_more first (all_of form (each_written write parts.1))) (back v parts.0 parts.2)
-    ∙ ap (λ rest. with_more (Some parts.0) rest) (all_of-each_written form write back values parts.1 parts.3)
-    ∙ ap Some parts.4
 
 -- as many items as values
 pub count_of-all_of : {T : Type 0} (form : Value → Option T) (values : Values) (xs : List T)

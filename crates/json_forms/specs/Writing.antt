@@ -1,5 +1,5 @@
 -- Small forms as they are written.
-use Rattle.std.specs.Prelude.{ℕ, pos, List, Option, Some, None, map}
+use Rattle.std.specs.Prelude.{◌≡◌, length, ℕ, pos, List, Option, Some, None, map, min}
 use Rattle.canonical_json.specs.Value.{Value, int, text, list, Values, Members, member}
 use Rattle.canonical_json.specs.View.{values_of}
 use Rattle.document_checksum.specs.Text.{checksum_text}
@@ -17,6 +17,10 @@ each_written write xs = values_of (map write xs)
 abbrev pub number_value : ℕ → Value
 number_value n = int (pos n)
 
+-- a whole number as it is written: past 2^53 - 1, the greatest of canonical JSON (RFC 7493, section 2.2), as that
+abbrev pub capped_value : ℕ → Value
+capped_value n = number_value (min n 9007199254740991)
+
 -- a platform code is its text
 abbrev pub platform_value : PlatformCode → Value
 platform_value platform = text (code_text platform)
@@ -29,11 +33,15 @@ party_value party = text (party_text party)
 abbrev pub checksum_value : Checksum → Value
 checksum_value checksum = text (checksum_text checksum)
 
+-- the text of a checksum has its 64 digits, as each has that code makes
+abbrev pub HasDigits : Checksum → Type 0
+HasDigits checksum = length (checksum_text checksum) ≡ 64
+
 -- checksums, in their order
 abbrev pub checksums_value : List Checksum → Value
 checksums_value checksums = list (each_written checksum_value checksums)
 
 -- a member that may be left out, in front of those that follow
-abbrev pub member_if_any : {T : Type 0} → List ℕ → (T → Value) → Option T → Members → Members
-member_if_any name write None ms = ms
-member_if_any name write (Some x) ms = member name (write x) ms
+abbrev pub optional_member : {T : Type 0} → List ℕ → (T → Value) → Option T → Members → Members
+optional_member name write None ms = ms
+optional_member name write (Some x) ms = member name (write x) ms

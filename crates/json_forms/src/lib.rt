@@ -2,15 +2,17 @@
 //! whole numbers in a range, lists of a stated length, and members that may be left out.
 #![tactic(auto)]
 
+mod bytes;
 mod reading;
 #[cfg(test)]
 mod tests;
 mod writing;
 
+pub use bytes::{bytes_have_one_spelling, bytes_member, bytes_of, required_bytes};
 pub use reading::{
-    OtherForm, carrier_code_under, checksum_if_any, checksum_in, checksum_under, checksums_in,
-    items_under, number_under, party_if_any, party_in, party_under, platform_in, platform_under,
-    provider_under, text_if_any,
+    Malformed, checksum_in, checksums_in, optional_checksum, optional_party, optional_text,
+    party_in, platform_in, required_carrier_code, required_checksum, required_items,
+    required_number, required_party, required_platform, required_provider,
 };
 pub use writing::{
     checksum_json, checksum_member, checksums_json, list_json, member, number_json, number_member,

@@ -1,7 +1,7 @@
-//! The forms as they are read. None takes memory, but for [`checksums_in`].
+//! The forms as they are read. None allocates except [`checksums_in`].
 ghost use Rattle.std.specs.Prelude.{◌≡◌, ◌&&◌, nat_le, option_map, IfOk};
 ghost use Rattle.canonical_json.specs.View.{view, list_view, items_view};
-ghost use Rattle.json_forms.specs.Reading.{items_under, within, number_in, number_under, party_in, party_under, platform_in, platform_under, checksum_in, checksum_under, provider_under, carrier_code_under, in_form, party_if_any, checksum_if_any, text_if_any, all_of, IsTextIfAny};
+ghost use Rattle.json_forms.specs.Reading.{required_items, within, number_in, required_number, party_in, required_party, platform_in, required_platform, checksum_in, required_checksum, required_provider, required_carrier_code, in_form, optional_party, optional_checksum, optional_text, all_of, IsOptionalText};
 
 use canonical_json::{Json, JsonList, int_of, list_of, member_of, text_of};
 use document_checksum::from_text;
@@ -10,11 +10,11 @@ use ebl_base::{
 };
 use std::alloc::Global;
 
-/// A member that may be left out is there, and has another form.
+/// A member that may be left out is there, and is malformed.
 #[derive(Clone, Copy, Debug, PartialEq, Eq)]
-pub struct OtherForm;
+pub struct Malformed;
 
-/// The platform code that a value is, a text of four characters. None exactly where it is of another form.
+/// The platform code that a value is, a text of four characters. None exactly when it is malformed.
 pub fn platform_in(json: &Json) -> Option<PlatformCode>
     ensures { result ≡ platform_in (view json.now) }
 {
@@ -24,7 +24,7 @@ pub fn platform_in(json: &Json) -> Option<PlatformCode>
     }
 }
 
-/// The party that a value is, a text as `ALPH/EXPORT`. None exactly where it is of another form.
+/// The party that a value is, a text as `ALPH/EXPORT`. None exactly when it is malformed.
 pub fn party_in(json: &Json) -> Option<Party>
     ensures { result ≡ party_in (view json.now) }
 {
@@ -34,7 +34,7 @@ pub fn party_in(json: &Json) -> Option<Party>
     }
 }
 
-/// The checksum that a value is, a text of 64 hexadecimal digits in lower case. None exactly where it is of
+/// The checksum that a value is, a text of 64 hexadecimal digits in lower case. None exactly when it is of
 /// another form.
 pub fn checksum_in(json: &Json) -> Option<Checksum>
     ensures { result ≡ checksum_in (view json.now) }
@@ -45,53 +45,53 @@ pub fn checksum_in(json: &Json) -> Option<Checksum>
     }
 }
 
-/// The platform code that the member of that name is. None exactly where the value is no object with
+/// The platform code that the member of that name is. None exactly when the value is no object with
 /// such a member.
-pub fn platform_under(json: &Json, name: &str) -> Option<PlatformCode>
-    ensures { result ≡ platform_under name.now (view json.now) }
+pub fn required_platform(json: &Json, name: &str) -> Option<PlatformCode>
+    ensures { result ≡ required_platform name.now (view json.now) }
 {
     let text = text_of(json, name)?;
     PlatformCode::try_new(text.as_str().as_bytes())
 }
 
-/// The party that the member of that name is. None exactly where the value is no object with such a member.
-pub fn party_under(json: &Json, name: &str) -> Option<Party>
-    ensures { result ≡ party_under name.now (view json.now) }
+/// The party that the member of that name is. None exactly when the value is no object with such a member.
+pub fn required_party(json: &Json, name: &str) -> Option<Party>
+    ensures { result ≡ required_party name.now (view json.now) }
 {
     let text = text_of(json, name)?;
     Party::from_text(text.as_str().as_bytes())
 }
 
-/// The checksum that the member of that name is. None exactly where the value is no object with such a member.
-pub fn checksum_under(json: &Json, name: &str) -> Option<Checksum>
-    ensures { result ≡ checksum_under name.now (view json.now) }
+/// The checksum that the member of that name is. None exactly when the value is no object with such a member.
+pub fn required_checksum(json: &Json, name: &str) -> Option<Checksum>
+    ensures { result ≡ required_checksum name.now (view json.now) }
 {
     let text = text_of(json, name)?;
     from_text(text.as_str().as_bytes())
 }
 
-/// The provider that the member of that name is, `SMDG` or `NMFTA`. None exactly where the value is no
+/// The provider that the member of that name is, `SMDG` or `NMFTA`. None exactly when the value is no
 /// object with such a member.
-pub fn provider_under(json: &Json, name: &str) -> Option<Provider>
-    ensures { result ≡ provider_under name.now (view json.now) }
+pub fn required_provider(json: &Json, name: &str) -> Option<Provider>
+    ensures { result ≡ required_provider name.now (view json.now) }
 {
     let text = text_of(json, name)?;
     Provider::from_text(text.as_str().as_bytes())
 }
 
-/// The carrier's code that the member of that name is, a text of 1 to 4 characters. None exactly where
+/// The carrier's code that the member of that name is, a text of 1 to 4 characters. None exactly when
 /// the value is no object with such a member.
-pub fn carrier_code_under(json: &Json, name: &str) -> Option<CarrierCode>
-    ensures { result ≡ carrier_code_under name.now (view json.now) }
+pub fn required_carrier_code(json: &Json, name: &str) -> Option<CarrierCode>
+    ensures { result ≡ required_carrier_code name.now (view json.now) }
 {
     let text = text_of(json, name)?;
     CarrierCode::try_new(text.as_str().as_bytes())
 }
 
-/// The whole number from `least` to `most` that the member of that name is. None exactly where the value is no
+/// The whole number from `least` to `most` that the member of that name is. None exactly when the value is no
 /// object with such a member.
-pub fn number_under(json: &Json, name: &str, least: u64, most: u64) -> Option<u64>
-    ensures { result ≡ number_under name.now least most (view json.now) }
+pub fn required_number(json: &Json, name: &str, least: u64, most: u64) -> Option<u64>
+    ensures { result ≡ required_number name.now least most (view json.now) }
 {
     number_in(int_of(json, name)?, least, most)
 }
@@ -110,10 +110,10 @@ fn number_in(number: i64, least: u64, most: u64) -> Option<u64>
     }
 }
 
-/// The party that the member of that name is, or none where there is no such member. [`OtherForm`] exactly where
+/// The party that the member of that name is, or none where there is no such member. [`Malformed`] exactly when
 /// the member is there and is no party.
-pub fn party_if_any(json: &Json, name: &str) -> Result<Option<Party>, OtherForm>
-    ensures { result ≡ party_if_any name.now (view json.now) }
+pub fn optional_party(json: &Json, name: &str) -> Result<Option<Party>, Malformed>
+    ensures { result ≡ optional_party name.now (view json.now) }
 {
     match member_of(json, name) {
         Some(member) => in_form(party_in(member)),
@@ -121,10 +121,10 @@ pub fn party_if_any(json: &Json, name: &str) -> Result<Option<Party>, OtherForm>
     }
 }
 
-/// The checksum that the member of that name is, or none where there is no such member. [`OtherForm`] exactly where
+/// The checksum that the member of that name is, or none where there is no such member. [`Malformed`] exactly when
 /// the member is there and is no checksum.
-pub fn checksum_if_any(json: &Json, name: &str) -> Result<Option<Checksum>, OtherForm>
-    ensures { result ≡ checksum_if_any name.now (view json.now) }
+pub fn optional_checksum(json: &Json, name: &str) -> Result<Option<Checksum>, Malformed>
+    ensures { result ≡ optional_checksum name.now (view json.now) }
 {
     match member_of(json, name) {
         Some(member) => in_form(checksum_in(member)),
@@ -132,28 +132,28 @@ pub fn checksum_if_any(json: &Json, name: &str) -> Result<Option<Checksum>, Othe
     }
 }
 
-/// The text that the member of that name is, or none where there is no such member. [`OtherForm`] exactly where the
+/// The text that the member of that name is, or none where there is no such member. [`Malformed`] exactly when the
 /// member is there and is no text.
-pub fn text_if_any<'a>(json: &'a Json, name: &str) -> Result<Option<&'a CharList>, OtherForm>
-    ensures { IsTextIfAny (option_map (λ t. t.now)) result (text_if_any name.now (view json.now)) }
+pub fn optional_text<'a>(json: &'a Json, name: &str) -> Result<Option<&'a CharList>, Malformed>
+    ensures { IsOptionalText (option_map (λ t. t.now)) result (optional_text name.now (view json.now)) }
 {
     match member_of(json, name) {
         Some(Json::Text(text)) => Ok(Some(text)),
-        Some(_) => Err(OtherForm),
+        Some(_) => Err(Malformed),
         None => Ok(None),
     }
 }
 
-fn in_form<T>(form: Option<T>) -> Result<Option<T>, OtherForm>
+fn in_form<T>(form: Option<T>) -> Result<Option<T>, Malformed>
     ensures { result ≡ in_form form }
 {
     match form {
         Some(form) => Ok(Some(form)),
-        None => Err(OtherForm),
+        None => Err(Malformed),
     }
 }
 
-/// The checksums that the values are. None exactly where one of them is of another form. It looks at each once.
+/// The checksums that the values are. None exactly when one of them is malformed. It looks at each once.
 pub fn checksums_in(alloc: Global, items: &[Json]) -> Result<Option<ChecksumList>, NoMemory>
     ensures { IfOk result (λ found. found ≡ all_of checksum_in (items_view items.now)) }
 {
@@ -169,8 +169,13 @@ pub fn checksums_in(alloc: Global, items: &[Json]) -> Result<Option<ChecksumList
 
 /// The values of the list that the member of that name is, where it has `least` to `most`. None exactly
 /// where the value is no object with such a member.
-pub fn items_under<'a>(json: &'a Json, name: &str, least: usize, most: usize) -> Option<&'a [Json]>
-    ensures { option_map (λ items. items_view items.now) result ≡ items_under name.now least most (view json.now) }
+pub fn required_items<'a>(
+    json: &'a Json,
+    name: &str,
+    least: usize,
+    most: usize,
+) -> Option<&'a [Json]>
+    ensures { option_map (λ items. items_view items.now) result ≡ required_items name.now least most (view json.now) }
 {
     within(list_of(json, name)?, least, most)
 }

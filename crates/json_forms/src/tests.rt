@@ -29,16 +29,16 @@ fn members_under_their_names(rt: HostRuntime) -> Result<(), Fail> {
     )
     .ok()
     .ok_or("json")?;
-    assert!(rt; platform_under(&object, "at") == PlatformCode::try_new(b"ALPH"));
-    assert!(rt; platform_under(&object, "by").is_none());
-    assert!(rt; party_under(&object, "by") == Party::from_text(b"ALPH/EXPORT"));
-    assert!(rt; party_under(&object, "at").is_none());
-    assert!(rt; checksum_under(&object, "at").is_none());
-    assert!(rt; party_if_any(&object, "by") == Ok(Party::from_text(b"ALPH/EXPORT")));
-    assert!(rt; party_if_any(&object, "to") == Ok(None));
-    assert!(rt; party_if_any(&object, "none") == Err(OtherForm));
-    assert!(rt; checksum_if_any(&object, "none") == Err(OtherForm));
-    assert!(rt; text_if_any(&object, "n").is_err());
+    assert!(rt; required_platform(&object, "at") == PlatformCode::try_new(b"ALPH"));
+    assert!(rt; required_platform(&object, "by").is_none());
+    assert!(rt; required_party(&object, "by") == Party::from_text(b"ALPH/EXPORT"));
+    assert!(rt; required_party(&object, "at").is_none());
+    assert!(rt; required_checksum(&object, "at").is_none());
+    assert!(rt; optional_party(&object, "by") == Ok(Party::from_text(b"ALPH/EXPORT")));
+    assert!(rt; optional_party(&object, "to") == Ok(None));
+    assert!(rt; optional_party(&object, "none") == Err(Malformed));
+    assert!(rt; optional_checksum(&object, "none") == Err(Malformed));
+    assert!(rt; optional_text(&object, "n").is_err());
     Ok(())
 }
 
@@ -47,22 +47,22 @@ fn whole_numbers_in_their_range(rt: HostRuntime) -> Result<(), Fail> {
     let object = json(rt.alloc(), "{'n':3,'below':-1,'text':'3'}")
         .ok()
         .ok_or("json")?;
-    assert_eq!(rt; number_under(&object, "n", 3, 3), Some(3));
-    assert_eq!(rt; number_under(&object, "n", 4, 9), None);
-    assert_eq!(rt; number_under(&object, "n", 0, 2), None);
-    assert_eq!(rt; number_under(&object, "below", 0, u64::MAX), None);
-    assert_eq!(rt; number_under(&object, "text", 0, 9), None);
-    assert_eq!(rt; number_under(&object, "other", 0, 9), None);
+    assert_eq!(rt; required_number(&object, "n", 3, 3), Some(3));
+    assert_eq!(rt; required_number(&object, "n", 4, 9), None);
+    assert_eq!(rt; required_number(&object, "n", 0, 2), None);
+    assert_eq!(rt; required_number(&object, "below", 0, u64::MAX), None);
+    assert_eq!(rt; required_number(&object, "text", 0, 9), None);
+    assert_eq!(rt; required_number(&object, "other", 0, 9), None);
     Ok(())
 }
 
 #[test]
 fn lists_of_a_stated_length(rt: HostRuntime) -> Result<(), Fail> {
     let object = json(rt.alloc(), "{'l':[1,2],'o':{}}").ok().ok_or("json")?;
-    assert!(rt; items_under(&object, "l", 2, 2).is_some());
-    assert!(rt; items_under(&object, "l", 0, 1).is_none());
-    assert!(rt; items_under(&object, "l", 3, 4).is_none());
-    assert!(rt; items_under(&object, "o", 0, 1).is_none());
+    assert!(rt; required_items(&object, "l", 2, 2).is_some());
+    assert!(rt; required_items(&object, "l", 0, 1).is_none());
+    assert!(rt; required_items(&object, "l", 3, 4).is_none());
+    assert!(rt; required_items(&object, "o", 0, 1).is_none());
     Ok(())
 }
 
@@ -116,5 +116,21 @@ fn members_written(rt: HostRuntime) -> Result<(), Fail> {
     assert!(rt;
         text.as_slice() == b"{\"actor\":\"ALPH/EXPORT\",\"time\":9007199254740991}".as_slice()
     );
+    Ok(())
+}
+
+#[test]
+fn numbers_past_the_greatest_are_the_greatest(rt: HostRuntime) -> Result<(), Fail> {
+    for (number, canonical) in [
+        (0, "0"),
+        (9_007_199_254_740_991, "9007199254740991"),
+        (9_007_199_254_740_992, "9007199254740991"),
+        (u64::MAX, "9007199254740991"),
+    ] {
+        let text = write(rt.alloc(), &number_json(number))
+            .ok()
+            .ok_or("memory")?;
+        assert!(rt; text.as_slice() == canonical.as_bytes());
+    }
     Ok(())
 }

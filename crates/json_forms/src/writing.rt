@@ -1,8 +1,9 @@
 //! The forms as they are written. Members are put into an object in the order of their names.
-ghost use Rattle.std.specs.Prelude.{◌≡◌, ◌≤◌, IfOk};
+ghost use Rattle.std.specs.Prelude.{◌≡◌, ◌≤◌, All, IfOk};
+ghost use Rattle.canonical_json.specs.Lawful.{IsLawful};
 ghost use Rattle.canonical_json.specs.Value.{text, list, object};
 ghost use Rattle.canonical_json.specs.View.{view, member_view, members_view, items_view};
-ghost use Rattle.json_forms.specs.Writing.{number_value, platform_value, party_value, checksum_value, checksums_value};
+ghost use Rattle.json_forms.specs.Writing.{HasDigits, capped_value, number_value, platform_value, party_value, checksum_value, checksums_value};
 
 use canonical_json::{Json, JsonList, Member, MemberList};
 use ebl_base::{CharList, Checksum, NoMemory, Party, PlatformCode};
@@ -16,16 +17,23 @@ pub fn text_json(alloc: Global, chars: &str) -> Result<Json, NoMemory>
     Ok(Json::Text(CharList::from_text(alloc, chars)?))
 }
 
-/// A whole number. It is canonical up to 2^53 - 1.
+/// The greatest number of canonical JSON: 2^53 - 1 (RFC 7493, section 2.2).
+const GREATEST: u64 = 9_007_199_254_740_991;
+
+/// A whole number; one past 2^53 - 1, which is the greatest of canonical JSON (RFC 7493, section 2.2), is written as
+/// that.
 pub fn number_json(number: u64) -> Json
-    ensures { number ≤ 9007199254740991 → view result ≡ number_value number }
+    ensures value { view result ≡ capped_value number }
+    ensures small { number ≤ 9007199254740991 → view result ≡ number_value number }
+    ensures lawful { IsLawful (view result) }
 {
-    Json::Int(i64::try_from(number).unwrap_or(i64::MAX))
+    Json::Int(number.min(GREATEST) as i64)
 }
 
 /// A checksum, as 64 hexadecimal digits in lower case.
 pub fn checksum_json(alloc: Global, checksum: Checksum) -> Result<Json, NoMemory>
-    ensures { IfOk result (λ json. view json ≡ checksum_value checksum) }
+    ensures value { IfOk result (λ json. view json ≡ checksum_value checksum) }
+    ensures digits { IfOk result (λ json. HasDigits checksum) }
 {
     let digits = encode(alloc, checksum.0.as_slice())?;
     Ok(Json::Text(CharList::from_string(digits)))
@@ -33,7 +41,8 @@ pub fn checksum_json(alloc: Global, checksum: Checksum) -> Result<Json, NoMemory
 
 /// A list of checksums, in their order.
 pub fn checksums_json(alloc: Global, checksums: &[Checksum]) -> Result<Json, NoMemory>
-    ensures { IfOk result (λ json. view json ≡ checksums_value checksums.now) }
+    ensures value { IfOk result (λ json. view json ≡ checksums_value checksums.now) }
+    ensures digits { IfOk result (λ json. All HasDigits checksums.now) }
 {
     let mut items = Vec::with_capacity(alloc, checksums.len())?;
     for checksum in checksums {
@@ -64,9 +73,11 @@ pub fn member(alloc: Global, name: &str, value: Json) -> Result<Member, NoMemory
     Ok(Member { name, value })
 }
 
-/// A whole number under a name. It is canonical up to 2^53 - 1.
+/// A whole number under a name, as [`number_json`] writes it.
 pub fn number_member(alloc: Global, name: &str, number: u64) -> Result<Member, NoMemory>
-    ensures { IfOk result (λ m. number ≤ 9007199254740991 → member_view m ≡ (name.now, number_value number)) }
+    ensures value { IfOk result (λ m. member_view m ≡ (name.now, capped_value number)) }
+    ensures small { IfOk result (λ m. number ≤ 9007199254740991
+        → member_view m ≡ (name.now, number_value number)) }
 {
     member(alloc, name, number_json(number))
 }
