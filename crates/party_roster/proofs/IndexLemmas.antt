@@ -97,7 +97,7 @@ party_for-none (c ∷ carriers) one absent = by_test (same_carrier one c) (party
     by_test true rest h = cc
     by_test false rest h = rest h
 
--- a carrier is in the list exactly where a party is found for it
+-- a carrier is in the list exactly when a party is found for it
 pub is_some-party_for : (carriers : List Carrier) (one : Carrier)
     → is_some (party_for carriers one.provider one.code) ≡ is_member same_carrier carriers one
 is_some-party_for [] one = refl

@@ -1,3 +1,7 @@
 mod DistinctLemmas
 mod IndexLemmas
-mod WritingLemmas
+mod ListLemmas
+pub mod FormLemmas
+pub mod WritingLemmas
+mod PlaceLemmas
+pub mod CarrierLemmas

@@ -13,7 +13,7 @@ use Rattle.party_roster.specs.declared.fault.RosterPlace.{RosterPlace}
 use Rattle.party_roster.specs.declared.fault.RosterPlace.TheVariants.{Whole, Platform, Parties, PartyAt, Carriers, CarrierAt}
 use Rattle.party_roster.specs.declared.fault.RosterFault.{RosterFault}
 use Rattle.party_roster.specs.declared.fault.RosterFault.TheVariants.{RosterForm, NoMemory}
-use Rattle.json_forms.specs.Reading.{platform_in, party_in, party_under, provider_under, carrier_code_under, items_under, each}
+use Rattle.json_forms.specs.Reading.{then_read, platform_in, party_in, required_party, required_provider, required_carrier_code, required_items, each}
 use Rattle.party_roster.specs.Distinct.{distinct}
 use Rattle.party_roster.specs.RosterRecord.{RosterRecord, same_carrier}
 
@@ -29,7 +29,7 @@ distinct_platforms values = distinct code_eq Platform (each platform_in values)
 
 -- 1 to 8 of them
 abbrev pub platforms_of : Value → Result (List PlatformCode) RosterPlace
-platforms_of v = list_read Whole distinct_platforms (items_under (codes "platforms") 1 8 v)
+platforms_of v = list_read Whole distinct_platforms (required_items (codes "platforms") 1 8 v)
 
 -- the party, where its platform is listed
 abbrev pub on_listed : List PlatformCode → Option Party → Option Party
@@ -47,7 +47,7 @@ distinct_parties platforms values = distinct party_eq PartyAt (each (listed_part
 -- 1 to 1,024 of them
 abbrev pub parties_of : List PlatformCode → Value → Result (List Party) RosterPlace
 parties_of platforms v =
-    list_read Parties (distinct_parties platforms) (items_under (codes "parties") 1 1024 v)
+    list_read Parties (distinct_parties platforms) (required_items (codes "parties") 1 1024 v)
 
 -- the carrier with these parts, where each has its form
 abbrev pub carrier_with : Option Provider → Option CarrierCode → Option Party → Option Carrier
@@ -60,8 +60,8 @@ carrier_with (Some provider) (Some code) (Some party) =
 -- the carrier that an object is
 abbrev pub carrier_in : Value → Option Carrier
 carrier_in v =
-    carrier_with (provider_under (codes "provider") v) (carrier_code_under (codes "code") v)
-    (party_under (codes "party") v)
+    carrier_with (required_provider (codes "provider") v) (required_carrier_code (codes "code") v)
+    (required_party (codes "party") v)
 
 -- the carrier, where its party is listed
 abbrev pub of_listed : List Party → Option Carrier → Option Carrier
@@ -78,13 +78,7 @@ distinct_carriers parties values = distinct same_carrier CarrierAt (each (listed
 
 -- 1 to 64 of them
 abbrev pub carriers_of : List Party → Value → Result (List Carrier) RosterPlace
-carriers_of parties v = list_read Carriers (distinct_carriers parties) (items_under (codes "carriers") 1 64 v)
-
--- what is made of the value, unless a place is wrong
-abbrev pub then_read : {A B : Type 0} → Result A RosterPlace → (A → Result B RosterPlace)
-    → Result B RosterPlace
-then_read (Err place) next = Err place
-then_read (Ok x) next = next x
+carriers_of parties v = list_read Carriers (distinct_carriers parties) (required_items (codes "carriers") 1 64 v)
 
 -- the roster that a value is, or the first wrong place: of the platforms, then of the parties, then of the carriers
 abbrev pub roster_of : Value → Result RosterRecord RosterPlace
@@ -94,7 +88,7 @@ roster_of v =
     then_read (carriers_of parties v) (λ carriers.
     Ok (record { platforms = platforms; parties = parties; carriers = carriers }))))
 
--- the fault is the wrong place that was found, or a want of memory
+-- the fault is the wrong place that was found, or memory ran out
 abbrev pub IsFault : {A : Type 0} → Result A RosterPlace → RosterFault → Type 0
 IsFault read (RosterForm place) = read ≡ Err place
 IsFault read NoMemory = Unit {0}

@@ -1,3 +1,4 @@
+//! A carrier of a roster.
 use ebl_base::{CarrierCode, Party, Provider};
 
 /// The party for which a carrier's code stands in transport documents.

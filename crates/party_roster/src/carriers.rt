@@ -11,7 +11,7 @@ use crate::fault::{RosterFault, RosterPlace};
 use crate::parties::PartyList;
 use canonical_json::Json;
 use ebl_base::{CarrierCode, Copied, NoMemory, Party, Provider};
-use json_forms::{carrier_code_under, items_under, party_under, provider_under};
+use json_forms::{required_carrier_code, required_items, required_party, required_provider};
 use std::alloc::Global;
 use std::collections::BTreeMap;
 use std::marker::Model;
@@ -50,7 +50,7 @@ impl CarrierList {
         ensures ok { IfOk result (λ carriers. carriers_of parties.now (view json.now) ≡ Ok carriers) }
         ensures err { IfErr result (IsFault (carriers_of parties.now (view json.now))) }
     {
-        match items_under(json, "carriers", 1, MOST) {
+        match required_items(json, "carriers", 1, MOST) {
             Some(items) => distinct_carriers(alloc, parties, items),
             None => Err(RosterFault::RosterForm(RosterPlace::Carriers)),
         }
@@ -149,9 +149,9 @@ fn listed_carrier(parties: &PartyList, item: &Json) -> Option<Carrier>
 fn carrier_in(item: &Json) -> Option<Carrier>
     ensures { result ≡ carrier_in (view item.now) }
 {
-    let provider = provider_under(item, "provider")?;
-    let code = carrier_code_under(item, "code")?;
-    let party = party_under(item, "party")?;
+    let provider = required_provider(item, "provider")?;
+    let code = required_carrier_code(item, "code")?;
+    let party = required_party(item, "party")?;
     Some(Carrier {
         provider,
         code,

@@ -10,7 +10,7 @@ use crate::fault::{RosterFault, RosterPlace};
 use crate::platforms::has_platform;
 use canonical_json::Json;
 use ebl_base::{Copied, NoMemory, Party, PlatformCode};
-use json_forms::{items_under, party_in};
+use json_forms::{party_in, required_items};
 use std::alloc::Global;
 use std::collections::BTreeSet;
 use std::marker::Model;
@@ -71,7 +71,7 @@ impl PartyList {
         ensures ok { IfOk result (λ parties. parties_of platforms.now (view json.now) ≡ Ok parties) }
         ensures err { IfErr result (IsFault (parties_of platforms.now (view json.now))) }
     {
-        match items_under(json, "parties", 1, MOST) {
+        match required_items(json, "parties", 1, MOST) {
             Some(items) => distinct_parties(alloc, platforms, items),
             None => Err(RosterFault::RosterForm(RosterPlace::Parties)),
         }

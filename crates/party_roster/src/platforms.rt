@@ -10,7 +10,7 @@ ghost use Rattle.party_roster.specs.Reading.{platforms_of, distinct_platforms, I
 use crate::fault::{RosterFault, RosterPlace};
 use canonical_json::Json;
 use ebl_base::{Items, PlatformCode};
-use json_forms::{items_under, platform_in};
+use json_forms::{platform_in, required_items};
 use std::alloc::Global;
 
 /// The most platforms of a roster.
@@ -21,7 +21,7 @@ pub(crate) fn platforms_of(alloc: Global, json: &Json) -> Result<Items<PlatformC
     ensures ok { IfOk result (λ platforms. platforms_of (view json.now) ≡ Ok platforms) }
     ensures err { IfErr result (IsFault (platforms_of (view json.now))) }
 {
-    match items_under(json, "platforms", 1, MOST) {
+    match required_items(json, "platforms", 1, MOST) {
         Some(items) => distinct_platforms(alloc, items),
         None => Err(RosterFault::RosterForm(RosterPlace::Whole)),
     }

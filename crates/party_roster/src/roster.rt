@@ -1,6 +1,7 @@
 //! The roster.
 ghost use Rattle.std.specs.Prelude.{◌≡◌, Ok, IfOk, IfErr};
 ghost use Rattle.canonical_json.specs.View.{view};
+ghost use Rattle.party_roster.specs.RosterForm.{IsRoster};
 ghost use Rattle.party_roster.specs.RosterRecord.{has_platform, carrier, knows};
 ghost use Rattle.party_roster.specs.Reading.{roster_of, IsFault};
 
@@ -43,6 +44,7 @@ impl Roster {
     /// first, then the parties, then the carriers.
     pub fn read(alloc: Global, json: &Json) -> Result<Roster, RosterFault>
         ensures ok { IfOk result (λ roster. roster_of (view json.now) ≡ Ok roster) }
+        ensures form { IfOk result (λ roster. IsRoster roster) }
         ensures err { IfErr result (IsFault (roster_of (view json.now))) }
     {
         let platforms = platforms_of(alloc, json)?;

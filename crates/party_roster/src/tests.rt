@@ -1,7 +1,7 @@
 //! Rosters, and the first wrong place of values that are none. In these texts `'` stands for `"`.
 use crate::{Roster, RosterFault, RosterPlace};
 use canonical_json::{Json, ReadError, read};
-use ebl_base::{CarrierCode, Party, PlatformCode, Provider};
+use ebl_base::{CarrierCode, Copied, Party, PlatformCode, Provider};
 use std::alloc::{AllocError, Global};
 use std::test::Fail;
 
@@ -185,6 +185,23 @@ fn looks_up(rt: HostRuntime) -> Result<(), Fail> {
         ));
         assert_eq!(rt; party, Party::from_text(want.as_bytes()), "{code}");
     }
+    Ok(())
+}
+
+#[test]
+fn copied(rt: HostRuntime) -> Result<(), Fail> {
+    let alloc = rt.alloc();
+    let text = text_of(alloc, PLATFORMS, PARTIES, CARRIERS)?;
+    let json = json(alloc, &text).ok().ok_or("json")?;
+    let roster = Roster::read(alloc, &json).ok().ok_or("roster")?;
+    let copy = roster.copy(alloc).ok().ok_or("memory")?;
+    assert!(rt; copy.platforms() == roster.platforms() && copy.platforms().len() == 2);
+    assert!(rt; copy.parties() == roster.parties() && copy.parties().len() == 3);
+    assert!(rt; copy.carriers() == roster.carriers() && copy.carriers().len() == 2);
+    let bank = Party::from_text(b"ALPH/BANK").ok_or("party")?;
+    assert!(rt; copy.knows(bank) && copy.has_platform(bank.platform));
+    let code = CarrierCode::try_new(b"OCNL").ok_or("code")?;
+    assert!(rt; copy.carrier(Provider::Nmfta, code) == Party::from_text(b"ALPH/CARRIER"));
     Ok(())
 }
 

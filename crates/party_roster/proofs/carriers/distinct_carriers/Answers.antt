@@ -4,8 +4,14 @@ use Rattle.party_roster.specs.declared.fault.RosterPlace.TheVariants.{CarrierAt}
 use Rattle.json_forms.specs.Reading.{each}
 use Rattle.party_roster.specs.RosterRecord.{same_carrier}
 use Rattle.party_roster.specs.Reading.{listed_carrier}
-use Rattle.party_roster.proofs.DistinctLemmas.{goes_on, goes_on-item, fresh-is_member}
+use Rattle.party_roster.proofs.DistinctLemmas.{goes_on, goes_on-start, goes_on-item, fresh-is_member}
 use Rattle.party_roster.proofs.carriers.distinct_carriers.Goals as goal
+
+pub loop-item-init : goal.loop-item-init
+loop-item-init c =
+    let start =
+    goes_on-start same_carrier CarrierAt (each (listed_carrier c.args.parties.now) (items_view c.args.items.now)) in
+    rw (c.new-list.ensures) start
 
 pub with-requires : goal.with-requires
 with-requires c =
