@@ -18,7 +18,7 @@ use Rattle.canonical_json.specs.Field.{member_of, text_of, int_of, as_int}
 use Rattle.document_checksum.specs.Digest.{checksum_of}
 use Rattle.party_roster.specs.RosterRecord.{RosterRecord, knows}
 use Rattle.party_roster.specs.Reading.{roster_of}
-use Rattle.json_forms.specs.Reading.{platform_under}
+use Rattle.json_forms.specs.Reading.{required_platform}
 use Rattle.json_forms.specs.Reading as forms
 use Rattle.party_roster.specs.declared.carrier.Carrier.{Carrier}
 use Rattle.ebl_cli.specs.declared.event.Event.{Event}
@@ -77,7 +77,7 @@ is_the platform (Some other) = code_eq other platform
 
 -- `at`: the script's platform
 abbrev pub is_here : Start → Value → Bool
-is_here start v = is_the start.platform (platform_under (codes "at") v)
+is_here start v = is_the start.platform (required_platform (codes "at") v)
 
 -- `party`: a listed party
 abbrev pub party_in : RosterRecord → Value → Option Party

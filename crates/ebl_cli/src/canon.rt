@@ -25,6 +25,7 @@ pub fn canon<K: Sink>(alloc: Global, text: &[u8], sink: &mut K) -> Status
         Ok(value) => put_value(alloc, &value, sink),
         Err(ReadError::NoMemory) => Status::NoMemory,
         Err(ReadError::NotJson) => Status::BadJson(ReadError::NotJson),
+        Err(ReadError::Repeated) => Status::BadJson(ReadError::Repeated),
         Err(ReadError::Fraction) => Status::BadJson(ReadError::Fraction),
         Err(ReadError::Range) => Status::BadJson(ReadError::Range),
     }

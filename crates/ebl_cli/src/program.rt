@@ -22,13 +22,22 @@ usage:
   ebl --help      writes this text
   ebl --version   writes the version
 
+examples:
+  ebl drive < examples/first_run.jsonl
+  printf '{}' | ebl canon
+
+limits: 67,108,864 bytes of input, 100,000 lines of a script; whole numbers of at most
+2^53 - 1 in size, decimals of at most 15 digits, no exponents; no name twice in an
+object; values nest at most 127 deep. The input is read to its end before the first
+line is written.
+
 exits: 0 done; 2 usage; 3 a line is not a script line; 4 the input is too long;
 5 JSON is refused; 10 read fault; 11 write fault; 12 no memory
 ";
 
 const VERSION: &str = "ebl 0.1.0\n";
 
-/// Runs the program by its words, writes the line of its status to standard error, and answers its exit.
+/// Runs the program by its words, writes the lines of its status to standard error, and answers its exit.
 pub fn run_program<R: Alloc<A = Global> + Env + Eprint + Input + Print>(rt: &R) -> ExitCode {
     let status = match words(rt) {
         Ok(words) => run_words(rt, &words),
@@ -95,7 +104,7 @@ pub fn exit_of(status: Status) -> u8
 fn report<R: Eprint>(rt: &R, status: Status) -> io::Result<()> {
     match status {
         Status::Done => Ok(()),
-        Status::Usage => eprintln!(rt; "ebl: usage"),
+        Status::Usage => eprintln!(rt; "ebl: usage\nebl: the words are in ebl --help"),
         Status::BadScript(n) => eprintln!(rt; "ebl: line {n} is not a script line"),
         Status::TooLong => eprintln!(rt; "ebl: the input is too long"),
         Status::BadJson(error) => eprintln!(rt; "ebl: JSON is refused: {}", error_name(error)),
@@ -108,6 +117,7 @@ fn report<R: Eprint>(rt: &R, status: Status) -> io::Result<()> {
 fn error_name(error: ReadError) -> &'static str {
     match error {
         ReadError::NotJson => "NOT_JSON",
+        ReadError::Repeated => "REPEATED",
         ReadError::Fraction => "FRACTION",
         ReadError::Range => "RANGE",
         ReadError::NoMemory => "NO_MEMORY",

@@ -10,7 +10,7 @@ use crate::event::{Deed, Event};
 use canonical_json::{Json, ReadError, int_of, member_of, read, text_of, write};
 use document_checksum::checksum;
 use ebl_base::{Checksum, Kind, Moment, NoMemory, Party, PlatformCode};
-use json_forms::platform_under;
+use json_forms::required_platform;
 use party_roster::{Roster, RosterFault};
 use std::alloc::Global;
 
@@ -44,7 +44,7 @@ pub fn event_of_line(alloc: Global, start: &Start, line: &[u8]) -> Result<Option
     }
 }
 
-// The value of a line, `None` where it is no JSON with whole numbers in range.
+// The value of a line, `None` where `canonical_json` refuses it.
 fn value_of_line(alloc: Global, line: &[u8]) -> Result<Option<Json>, NoMemory>
     ensures { IfOk result (λ json. IsLineValue line.now json) }
 {
@@ -52,6 +52,7 @@ fn value_of_line(alloc: Global, line: &[u8]) -> Result<Option<Json>, NoMemory>
         Ok(json) => Ok(Some(json)),
         Err(ReadError::NoMemory) => Err(NoMemory),
         Err(ReadError::NotJson) => Ok(None),
+        Err(ReadError::Repeated) => Ok(None),
         Err(ReadError::Fraction) => Ok(None),
         Err(ReadError::Range) => Ok(None),
     }
@@ -121,7 +122,7 @@ fn listed(roster: &Roster, json: &Json) -> Option<Party>
 fn is_here(start: &Start, json: &Json) -> bool
     ensures { result ≡ is_here start.now (view json.now) }
 {
-    match platform_under(json, "at") {
+    match required_platform(json, "at") {
         Some(platform) => platform == start.platform,
         None => false,
     }

@@ -12,7 +12,7 @@ pub enum Status {
     ReadFault,
     /// The source has more than 67,108,864 bytes.
     TooLong,
-    /// `canon` alone: the input is no JSON with whole numbers in range, and why.
+    /// `canon` alone: the input is no JSON that `canonical_json` reads, and why.
     BadJson(ReadError),
     /// The line of this number, counted from 1, is the first outside the grammar, or the line 100,001. The answers before it stand.
     BadScript(u64),

@@ -25,7 +25,7 @@ const SIGNED_BILL: &str =
 "#;
 
 const FIRST_RUN: &str =
-    r#"{"at":"ALPH","do":"SIGN","document":{"carrierCode":"OCNL","carrierCodeListProvider":"NMFTA","grossWeight":{"unit":"KGM","value":24000},"isToOrder":true,"transportDocumentReference":"OCNL0000001","transportDocumentTypeCode":"BOL"},"now":1000,"party":"ALPH/CARRIER"}
+    r#"{"at":"ALPH","do":"SIGN","document":{"carrierCode":"OCNL","carrierCodeListProvider":"NMFTA","grossWeight":{"unit":"KGM","value":24000.5},"isToOrder":true,"transportDocumentReference":"OCNL0000001","transportDocumentTypeCode":"BOL"},"now":1000,"party":"ALPH/CARRIER"}
 {"at":"ALPH","bill":1,"do":"ISSUE","now":2000,"party":"ALPH/CARRIER","recipient":"ALPH/EXPORT"}
 {"at":"ALPH","bill":1,"do":"ENDORSE","now":3000,"party":"ALPH/EXPORT","recipient":"ALPH/BANK"}
 "#;
@@ -291,9 +291,14 @@ fn canonical_texts(rt: HostRuntime) -> Result<(), Fail> {
         Status::Done,
         greatest,
     )?;
+    let decimal = b"24000.5\ne7c9432e4925b5d64f14b32a08da55fa53730e10a0e9af0932197a9a4e39f27f\n";
+    expect_of(&rt, alloc, "canon", &["24000.50"], Status::Done, decimal)?;
+    let zero = b"0\n5feceb66ffc86f38d952786c6d696c79c2dbc239dd4e91b46729d73a27fb57e9\n";
+    expect_of(&rt, alloc, "canon", &["-0.00"], Status::Done, zero)?;
     let refused = [
         ("9007199254740992", ReadError::Range),
-        ("24000.5", ReadError::Fraction),
+        ("24000.5e0", ReadError::Fraction),
+        ("{\"a\":1e3,\"\\u0061\":2}", ReadError::Repeated),
         ("{", ReadError::NotJson),
         ("", ReadError::NotJson),
     ];

@@ -1,5 +1,5 @@
 use Rattle.canonical_json.specs.View.{view}
-use Rattle.canonical_json.specs.declared.fault.ReadError.TheVariants.{NotJson, Fraction, Range}
+use Rattle.canonical_json.specs.declared.fault.ReadError.TheVariants.{NotJson, Repeated, Fraction, Range}
 use Rattle.ebl_cli.proofs.CanonLemmas.{canon_stops, canon_refuses, EndsAs-value}
 use Rattle.ebl_cli.proofs.canon.canon.Goals as goal
 
@@ -14,6 +14,11 @@ pub returns-in-Err-NotJson-clause-ends : goal.returns-in-Err-NotJson-clause-ends
 returns-in-Err-NotJson-clause-ends g c =
     let fault = rw c.in-Err-NotJson.field-0-is at c.in-Err-NotJson.ensures.err in
     canon_refuses c.args.text.now (g.K.Sink.written c.args.sink.now) NotJson fault
+
+pub returns-in-Err-Repeated-clause-ends : goal.returns-in-Err-Repeated-clause-ends
+returns-in-Err-Repeated-clause-ends g c =
+    let fault = rw c.in-Err-Repeated.field-0-is at c.in-Err-Repeated.ensures.err in
+    canon_refuses c.args.text.now (g.K.Sink.written c.args.sink.now) Repeated fault
 
 pub returns-in-Err-Fraction-clause-ends : goal.returns-in-Err-Fraction-clause-ends
 returns-in-Err-Fraction-clause-ends g c =
