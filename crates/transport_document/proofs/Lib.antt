@@ -1,1 +1,1 @@
-mod DocumentLemmas
+pub mod DocumentLemmas

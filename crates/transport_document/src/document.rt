@@ -3,14 +3,14 @@ ghost use Rattle.std.specs.Prelude.{◌≡◌, ◌+◌, Ok, IfOk, IfErr};
 ghost use Rattle.canonical_json.specs.View.{view};
 ghost use Rattle.canonical_json.specs.Canon.{canon};
 ghost use Rattle.transport_document.specs.DocumentRecord.{bill_of};
-ghost use Rattle.transport_document.specs.Members.{members_of};
 ghost use Rattle.transport_document.specs.Reading.{document_of, within_limit, IsFault};
 
-use crate::fault::DocumentFault;
-use crate::members::{DocumentType, Members, members_of};
-use canonical_json::{Json, write};
+use crate::fault::{DocumentFault, DocumentField};
+use crate::members::{has_reference, required_title};
+use canonical_json::{Json, flag_of, write};
 use document_checksum::checksum;
 use ebl_base::{ByteList, CarrierCode, Checksum, Copied, NoMemory, Provider};
+use json_forms::{required_carrier_code, required_provider};
 use std::alloc::Global;
 use std::marker::Model;
 
@@ -19,7 +19,7 @@ const MOST: usize = 262_144;
 
 /// A transport document that gives title, by its canonical text (RFC 8785).
 ///
-/// Members that aren't read stand in the text, and so in the name of the bill.
+/// Members that aren't read are part of the text, and so of the name of the bill.
 #[derive(Drop)]
 pub struct Document {
     text: ByteList,
@@ -43,31 +43,43 @@ impl Model for Document {
 
 impl Document {
     /// The document that a value is: an object with `transportDocumentReference`, `carrierCode`,
-    /// `carrierCodeListProvider`,
-    /// `transportDocumentTypeCode` and `isToOrder`, each of the form that
-    /// [`DocumentField`](crate::DocumentField) says. Further members are kept unread.
+    /// `carrierCodeListProvider`, `transportDocumentTypeCode` and `isToOrder`, each of the form that
+    /// [`DocumentField`](crate::DocumentField) states. Further members are kept unread.
     ///
-    /// The first fault that fits is answered: [`DocumentFault::DocumentForm`] with the first wrong
-    /// field in that order,
-    /// [`DocumentFault::NotTitle`] for a sea waybill, [`DocumentFault::TooLarge`] past 262,144 bytes of
-    /// canonical text.
-    /// It writes the text once and computes one checksum.
+    /// The first fault that applies is answered: [`DocumentFault::DocumentForm`] with the first wrong field in that
+    /// order, [`DocumentFault::NotTitle`] for a sea waybill, [`DocumentFault::TooLarge`] past 262,144 bytes of
+    /// canonical text. It writes the text once and computes one checksum.
     pub fn of_json(alloc: Global, json: &Json) -> Result<Document, DocumentFault>
         ensures ok { IfOk result (λ document. document_of (view json.now) ≡ Ok document) }
         ensures err { IfErr result (IsFault (document_of (view json.now))) }
     {
-        let members = match members_of(json) {
-            Ok(members) => members,
-            Err(field) => return Err(DocumentFault::DocumentForm(field)),
-        };
-        match members.kind {
-            DocumentType::BillOfLading => Document::with_text(write(alloc, json)?, members),
-            DocumentType::SeaWaybill => Err(DocumentFault::NotTitle),
+        if !has_reference(json) {
+            return Err(DocumentFault::DocumentForm(DocumentField::TransportDocumentReference));
         }
+        let Some(code) = required_carrier_code(json, "carrierCode") else {
+            return Err(DocumentFault::DocumentForm(DocumentField::CarrierCode));
+        };
+        let Some(provider) = required_provider(json, "carrierCodeListProvider") else {
+            return Err(DocumentFault::DocumentForm(DocumentField::CarrierCodeListProvider));
+        };
+        let Some(gives_title) = required_title(json) else {
+            return Err(DocumentFault::DocumentForm(DocumentField::TransportDocumentTypeCode));
+        };
+        if flag_of(json, "isToOrder").is_none() {
+            return Err(DocumentFault::DocumentForm(DocumentField::IsToOrder));
+        }
+        if !gives_title {
+            return Err(DocumentFault::NotTitle);
+        }
+        Document::with_text(write(alloc, json)?, code, provider)
     }
 
-    fn with_text(text: ByteList, members: Members) -> Result<Document, DocumentFault>
-        ensures { result ≡ within_limit text members }
+    fn with_text(
+        text: ByteList,
+        code: CarrierCode,
+        provider: Provider,
+    ) -> Result<Document, DocumentFault>
+        ensures { result ≡ within_limit text code provider }
     {
         if text.len() > MOST {
             return Err(DocumentFault::TooLarge);
@@ -76,8 +88,8 @@ impl Document {
         Ok(Document {
             text,
             bill,
-            provider: members.provider,
-            code: members.code,
+            provider,
+            code,
         })
     }
 
@@ -95,7 +107,7 @@ impl Document {
         &self.text
     }
 
-    /// Who keeps the list in which the carrier's code stands.
+    /// Who keeps the list of the carrier's code.
     pub fn provider(&self) -> Provider
         ensures { result ≡ self.now.provider }
     {

@@ -17,7 +17,7 @@ pub enum DocumentField {
     IsToOrder,
 }
 
-/// Why a value is not taken as the document of a bill. The first that fits is answered.
+/// Why a value is not taken as the document of a bill. The first that applies is answered.
 #[derive(Clone, Copy, Debug, PartialEq, Eq)]
 pub enum DocumentFault {
     /// The value is no object (the field is then the first), or this is the first field that is absent

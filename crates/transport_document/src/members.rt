@@ -1,60 +1,17 @@
-//! The members of a transport document that are read, in the order in which they are tested.
+//! The members of a transport document that have a form of their own.
 ghost use Rattle.std.specs.Prelude.{◌≡◌, length, is_some};
 ghost use Rattle.std.specs.Str.{chars};
 ghost use Rattle.canonical_json.specs.View.{view};
-ghost use Rattle.transport_document.specs.Members.{members_of, type_of, type_under, reference_of, reference_under};
+ghost use Rattle.transport_document.specs.Members.{gives_title, reference_of, required_reference, required_title};
 
-use crate::fault::DocumentField;
-use canonical_json::{Json, flag_of, text_of};
-use ebl_base::{CarrierCode, Provider};
-use json_forms::{carrier_code_under, provider_under};
-
-/// What a document does: a bill of lading gives title, a sea waybill doesn't.
-#[derive(Clone, Copy, Debug, PartialEq, Eq)]
-pub(crate) enum DocumentType {
-    BillOfLading,
-    SeaWaybill,
-}
-
-/// The members that are kept. The others are tested alone.
-#[derive(Clone, Copy, Debug, PartialEq, Eq)]
-pub(crate) struct Members {
-    pub(crate) code: CarrierCode,
-    pub(crate) provider: Provider,
-    pub(crate) kind: DocumentType,
-}
+use canonical_json::{Json, text_of};
 
 /// The most characters of a reference.
 const MOST: usize = 20;
 
-/// The members of the document that a value is, or the first field that is absent or of another form.
-pub(crate) fn members_of(json: &Json) -> Result<Members, DocumentField>
-    ensures { result ≡ members_of (view json.now) }
-{
-    if !has_reference(json) {
-        return Err(DocumentField::TransportDocumentReference);
-    }
-    let Some(code) = carrier_code_under(json, "carrierCode") else {
-        return Err(DocumentField::CarrierCode);
-    };
-    let Some(provider) = provider_under(json, "carrierCodeListProvider") else {
-        return Err(DocumentField::CarrierCodeListProvider);
-    };
-    let Some(kind) = type_under(json) else {
-        return Err(DocumentField::TransportDocumentTypeCode);
-    };
-    let Some(_) = flag_of(json, "isToOrder") else {
-        return Err(DocumentField::IsToOrder);
-    };
-    Ok(Members {
-        code,
-        provider,
-        kind,
-    })
-}
-
-fn has_reference(json: &Json) -> bool
-    ensures { result ≡ is_some (reference_under (view json.now)) }
+/// Whether there is a reference of 1 to 20 characters.
+pub(crate) fn has_reference(json: &Json) -> bool
+    ensures { result ≡ is_some (required_reference (view json.now)) }
 {
     match text_of(json, "transportDocumentReference") {
         Some(text) => is_reference(text.as_str()),
@@ -76,22 +33,24 @@ fn count_of(text: &str) -> usize
     text.chars().count()
 }
 
-fn type_under(json: &Json) -> Option<DocumentType>
-    ensures { result ≡ type_under (view json.now) }
+/// Whether the document gives title: a bill of lading, `BOL`, does, and a sea waybill, `SWB`, doesn't. None exactly when
+/// its type is neither.
+pub(crate) fn required_title(json: &Json) -> Option<bool>
+    ensures { result ≡ required_title (view json.now) }
 {
-    type_of(
+    gives_title(
         text_of(json, "transportDocumentTypeCode")?
             .as_str()
             .as_bytes(),
     )
 }
 
-fn type_of(text: &[u8]) -> Option<DocumentType>
-    ensures { result ≡ type_of text.now }
+fn gives_title(text: &[u8]) -> Option<bool>
+    ensures { result ≡ gives_title text.now }
 {
     match text {
-        b"BOL" => Some(DocumentType::BillOfLading),
-        b"SWB" => Some(DocumentType::SeaWaybill),
+        b"BOL" => Some(true),
+        b"SWB" => Some(false),
         _ => None,
     }
 }

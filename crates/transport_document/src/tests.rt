@@ -2,7 +2,7 @@
 use crate::{Document, DocumentFault, DocumentField};
 use canonical_json::{Json, ReadError, read};
 use document_checksum::from_text;
-use ebl_base::{CarrierCode, Provider};
+use ebl_base::{CarrierCode, Copied, Provider};
 use std::alloc::{AllocError, Global};
 use std::test::Fail;
 
@@ -128,6 +128,11 @@ fn keeps_the_canonical_text(rt: HostRuntime) -> Result<(), Fail> {
     assert_eq!(rt; Some(document.bill()), from_text(BILL.as_bytes()));
     assert_eq!(rt; document.provider(), Provider::Nmfta);
     assert_eq!(rt; Some(document.code()), CarrierCode::try_new(b"OCNL"));
+    let copy = document.copy(rt.alloc())?;
+    assert_eq!(rt; copy.text().as_slice(), document.text().as_slice());
+    assert_eq!(rt; copy.bill(), document.bill());
+    assert_eq!(rt; copy.provider(), Provider::Nmfta);
+    assert_eq!(rt; copy.code(), document.code());
     Ok(())
 }
 
