@@ -16,6 +16,7 @@ use Rattle.canonical_json.specs.Lawful.{HasTexts, IsLawful}
 use Rattle.canonical_json.specs.Name.{name_cmp}
 use Rattle.canonical_json.specs.Value.{Value, depth}
 use Rattle.canonical_json.proofs.Readings.{canon_reads}
+use Rattle.canonical_json.proofs.Texts.{IsUtf8-canon}
 use Rattle.signed_envelope.specs.Compact.{signing_input}
 use Rattle.signed_envelope.specs.Header.{header_text, header_value, signer_of}
 use Rattle.signed_envelope.specs.KeyRing.{Keys}
@@ -90,6 +91,10 @@ header_has_texts Hs256 who =
 header_has_texts Es256 who =
     (ascii_text (codes "alg") refl, ascii_text (codes "ES256") refl, (ascii_text (codes "kid") refl, IsUtf8-from_ascii (code_text who) (code_is_ascii (code_text who) (code_characters who)), tt))
 
+-- it is UTF-8
+header_utf8 : (alg : Alg) (who : PlatformCode) → IsUtf8 (header_text alg who)
+header_utf8 alg who = rw (header_is_canonical alg who) (IsUtf8-canon (header_value alg who) (header_is_lawful alg who) (header_has_texts alg who))
+
 -- it names the platform
 header_names : (alg : Alg) (who : PlatformCode) → code_of (code_text who) ≡ Some who → signer_of alg (header_value alg who) ≡ Some who
 header_names Hs256 who h = h
@@ -122,8 +127,8 @@ composed_is_signed keys most text who value signature is fits code lawful texts 
       compact = record {
         layout = is.layout;
         fits = fits;
-        header = IsBytes-utf8 (header_text keys.alg who) header.reads.1.0;
-        payload = IsBytes-utf8 (canon value) payload.1.0;
+        header = IsBytes-utf8 (header_text keys.alg who) (header_utf8 keys.alg who);
+        payload = IsBytes-utf8 (canon value) (IsUtf8-canon value lawful texts);
         signature = is.form;
         input_len = refl;
       };

@@ -4,3 +4,5 @@ pub mod Refusals
 pub mod Readings
 pub mod Utf8Bytes
 pub mod Composed
+pub mod CompactLemmas
+pub mod LengthLemmas

@@ -4,7 +4,8 @@ use Rattle.std.specs.Prelude.{◌≢◌}
 use Rattle.ebl_base.specs.Signature.{signature_bytes, signature_of}
 use Rattle.ebl_base.specs.declared.platform_code.PlatformCode.{PlatformCode}
 use Rattle.ebl_base.specs.declared.signature.Signature.{Signature}
-use Rattle.canonical_json.specs.Reading.{Reads, value_of}
+use Rattle.canonical_json.specs.Reading.{Reads}
+use Rattle.canonical_json.proofs.Parts.{Reads_once}
 use Rattle.canonical_json.specs.Value.{Value}
 use Rattle.signed_envelope.specs.Compact.{IsCompact, base64url, signing_input}
 use Rattle.signed_envelope.specs.KeyRing.{Keys}
@@ -16,13 +17,6 @@ use Rattle.signed_envelope.specs.declared.compact.Parts.{Parts}
 use Rattle.signed_envelope.specs.declared.fault.BadSigned.{BadSigned}
 use Rattle.signed_envelope.specs.declared.fault.BadSigned.TheVariants.{NotCompact, HeaderForm, Critical, WrongKey, Wrong, PayloadForm, NoMemory}
 use Rattle.signed_envelope.proofs.PartsLemmas.{base64url-injective, base64url-no_stop, three_parts}
-
--- the bytes of two readings are those of one
-pub same_value : (bytes : List ℕ) (v w : Value) → Reads bytes v → Reads bytes w → v ≡ w
-same_value bytes v w a b =
-    let same_data : Some a.0 ≡ Some b.0 = sym a.1.1 ∙ b.1.1 in
-    let same : a.0 ≡ b.0 = cc same_data in
-    a.4 ∙ ap value_of same ∙ sym b.4
 
 -- parts with equal fields
 same_fields : (a b : Parts) → a.header ≡ b.header → a.payload ≡ b.payload → a.signature ≡ b.signature → a.input_len ≡ b.input_len → a ≡ b
@@ -51,7 +45,7 @@ same_parts most text a b p q =
 pub same_signer : (alg : Alg) (header : List ℕ) (v w : Value) (p q : PlatformCode) → IsHeader alg header v p → IsHeader alg header w q
     → (v ≡ w) × (p ≡ q)
 same_signer alg header v w p q a b =
-    let value = same_value header v w a.reads b.reads in
+    let value = Reads_once header v w a.reads b.reads in
     let some : Some p ≡ Some q = sym a.signer ∙ rw value b.signer in
     (value, cc some)
 
@@ -61,7 +55,7 @@ pub same_signed : (keys : Keys) (most : ℕ) (text : List ℕ) (p q : PlatformCo
 same_signed keys most text p q v w a b =
     let parts = same_parts most text a.parts b.parts a.compact b.compact in
     let signer = same_signer keys.alg b.parts.header a.head b.head p q (rw parts at a.header) b.header in
-    (signer.1, same_value b.parts.payload v w (rw parts at a.payload) b.payload)
+    (signer.1, Reads_once b.parts.payload v w (rw parts at a.payload) b.payload)
 
 -- the parts and the header of a signed text, where some were found
 same_header : (keys : Keys) (most : ℕ) (text : List ℕ) (who other : PlatformCode) (value : Value) (parts : Parts) (head : Value)

@@ -32,12 +32,6 @@ pub input_of : (most : ℕ) (text : List ℕ) (parts : Parts) → IsCompact most
 input_of most text parts is =
     rw (is.layout) (take_at (signing_input parts.header parts.payload) (46 ∷ base64url (signature_bytes parts.signature)) parts.input_len (sym is.input_len))
 
--- and within it
-pub input_within : (most : ℕ) (text : List ℕ) (parts : Parts) → IsCompact most text parts → parts.input_len ≤ length text
-input_within most text parts is =
-    let whole = length-append (signing_input parts.header parts.payload) (46 ∷ base64url (signature_bytes parts.signature)) in
-    rw (is.layout, is.input_len) (omega (arith, whole))
-
 -- a header that is refused
 pub refused_by_header : (keys : Keys) (most : ℕ) (asked : Option PlatformCode) (text : List ℕ) (parts : Parts) (e : BadSigned)
     → IsCompact most text parts → IsHeaderRefused keys.alg parts.header e → IsRefused keys most asked text e

@@ -18,7 +18,7 @@ signing_input header payload = base64url header ++ 46 ∷ base64url payload
 abbrev pub compact_text : List ℕ → List ℕ → List ℕ → List ℕ
 compact_text header payload signature = signing_input header payload ++ 46 ∷ base64url signature
 
--- no full stop stands in the text
+-- the text has no full stop
 abbrev pub HasNoStop : List ℕ → Type 0
 HasNoStop text = list_all (λ byte. not (byte == 46)) text ≡ true
 
@@ -30,3 +30,7 @@ pub record IsCompact (most : ℕ) (text : List ℕ) (parts : Parts) : Type 0 whe
   pub payload : IsBytes parts.payload
   pub signature : IsSignature parts.signature
   pub input_len : parts.input_len ≡ length (signing_input parts.header parts.payload)
+
+-- the text is in the compact layout, within the limit
+abbrev pub IsCompactText : ℕ → List ℕ → Type 0
+IsCompactText most text = (parts : Parts) × IsCompact most text parts

@@ -1,9 +1,9 @@
--- Why a text is not taken as signed: the first cause that fits.
-use Rattle.std.specs.Prelude.{◌≡◌, ℕ, Bool, true, false, List, Option, Some, None}
+-- Why a text is not taken as signed: the first cause that applies.
+use Rattle.std.specs.Prelude.{◌≡◌, ℕ, Bool, true, false, List, Option, Some, None, codes}
 use Rattle.ebl_base.specs.PlatformCode.{code_eq}
 use Rattle.ebl_base.specs.declared.platform_code.PlatformCode.{PlatformCode}
 use Rattle.canonical_json.specs.Value.{Value}
-use Rattle.canonical_json.specs.Reading.{Reads}
+use Rattle.canonical_json.specs.Reading.{IsUnread}
 use Rattle.signed_envelope.specs.Compact.{IsCompact}
 use Rattle.signed_envelope.specs.Header.{has_crit}
 use Rattle.signed_envelope.specs.KeyRing.{Keys}
@@ -26,10 +26,6 @@ pub record IsNamed (alg : Alg) (most : ℕ) (text : List ℕ) (parts : Parts) (w
   pub header : IsHeader alg parts.header head who
   pub crit : has_crit head ≡ critical
 
--- no value is that of the bytes
-abbrev pub ReadsNothing : List ℕ → Type 0
-ReadsNothing bytes = (value : Value) → ¬ Reads bytes value
-
 -- no parts; then no header of this algorithm; then a `crit`; then another platform than was asked for;
 -- then a signature that the keys don't take; then a payload that doesn't read
 abbrev pub IsRefused : Keys → ℕ → Option PlatformCode → List ℕ → BadSigned → Type 0
@@ -47,5 +43,15 @@ IsRefused keys most asked text Wrong =
     × (is_asked asked who ≡ true) × (is_verified keys parts who ≡ false)
 IsRefused keys most asked text PayloadForm =
     (parts : Parts) × (who : PlatformCode) × IsNamed keys.alg most text parts who false
-    × (is_asked asked who ≡ true) × (is_verified keys parts who ≡ true) × ReadsNothing parts.payload
+    × (is_asked asked who ≡ true) × (is_verified keys parts who ≡ true) × IsUnread parts.payload
 IsRefused keys most asked text NoMemory = Unit {0}
+
+-- the word of a cause
+abbrev pub cause_text : BadSigned → List ℕ
+cause_text NotCompact = codes "NOT_COMPACT"
+cause_text HeaderForm = codes "HEADER_FORM"
+cause_text Critical = codes "CRITICAL"
+cause_text WrongKey = codes "WRONG_KEY"
+cause_text Wrong = codes "WRONG"
+cause_text PayloadForm = codes "PAYLOAD_FORM"
+cause_text NoMemory = codes "NO_MEMORY"

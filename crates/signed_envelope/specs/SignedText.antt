@@ -42,7 +42,7 @@ pub record IsComposed (keys : Keys) (text : List ℕ) (who : PlatformCode) (valu
   pub signs : keys.signs who (signing_input (header_text keys.alg who) (canon value)) signature ≡ true
   pub form : IsSignature signature
 
--- the text with some signature of the platform would be longer than the limit
+-- the text with some signature that the keys take as the platform's is longer than the limit
 pub record IsTooLong (keys : Keys) (most : ℕ) (who : PlatformCode) (value : Value) : Type 0 where
   pub text : List ℕ
   pub signature : Signature

@@ -1,11 +1,10 @@
 -- What each step of verifying a text finds: its parts, the header, the payload.
 use Rattle.std.specs.Prelude.{◌≡◌, ℕ, true, false, List, take}
 use Rattle.ebl_base.specs.declared.platform_code.PlatformCode.{PlatformCode}
-use Rattle.canonical_json.specs.Reading.{Reads}
+use Rattle.canonical_json.specs.Reading.{IsUnread, Reads}
 use Rattle.canonical_json.specs.Value.{Value}
 use Rattle.signed_envelope.specs.Header.{has_crit}
 use Rattle.signed_envelope.specs.KeyRing.{Keys}
-use Rattle.signed_envelope.specs.Refusal.{ReadsNothing}
 use Rattle.signed_envelope.specs.SignedText.{IsHeader}
 use Rattle.signed_envelope.specs.declared.alg.Alg.{Alg}
 use Rattle.signed_envelope.specs.declared.compact.Parts.{Parts}
@@ -40,6 +39,6 @@ pub record IsPayload (keys : Keys) (text : List ℕ) (parts : Parts) (who : Plat
 abbrev pub IsPayloadRefused : Keys → List ℕ → Parts → PlatformCode → BadSigned → Type 0
 IsPayloadRefused keys text parts who Wrong = keys.signs who (take parts.input_len text) parts.signature ≡ false
 IsPayloadRefused keys text parts who PayloadForm =
-    (keys.signs who (take parts.input_len text) parts.signature ≡ true) × ReadsNothing parts.payload
+    (keys.signs who (take parts.input_len text) parts.signature ≡ true) × IsUnread parts.payload
 IsPayloadRefused keys text parts who NoMemory = Unit {0}
 IsPayloadRefused keys text parts who other = ⊥

@@ -1,3 +1,4 @@
+//! The algorithms of signatures.
 ghost use Rattle.std.specs.Prelude.{◌≡◌};
 ghost use Rattle.signed_envelope.specs.Alg.{alg_text};
 

@@ -1,11 +1,12 @@
-ghost use Rattle.std.specs.Prelude.{◌≡◌, IfOk};
-ghost use Rattle.signed_envelope.specs.Compact.{IsCompact};
+//! The compact layout: a signed text's three parts.
+ghost use Rattle.std.specs.Prelude.{◌≡◌, Ok, true, false, IfOk};
+ghost use Rattle.signed_envelope.specs.Compact.{IsCompact, IsCompactText};
 ghost use Rattle.signed_envelope.specs.declared.compact.Parts.{Parts};
 ghost use Rattle.signed_envelope.specs.declared.fault.SplitFault.TheVariants.{NotCompact};
 
 use crate::fault::SplitFault;
 use crate::part::{cut, decoded};
-use ebl_base::{ByteList, Signature};
+use ebl_base::{ByteList, Copied, NoMemory, Signature};
 use std::alloc::Global;
 
 /// The parts of a signed text.
@@ -18,6 +19,19 @@ pub struct Parts {
     pub signature: Signature,
     /// How many bytes of the text are signed: the first two parts and the full stop between them.
     pub input_len: usize,
+}
+
+impl Copied for Parts {
+    fn copy(&self, alloc: Global) -> Result<Self, NoMemory> {
+        let header = self.header.copy(alloc)?;
+        let payload = self.payload.copy(alloc)?;
+        Ok(Parts {
+            header,
+            payload,
+            signature: self.signature,
+            input_len: self.input_len,
+        })
+    }
 }
 
 /// The parts of a text in the compact layout of at most `most` bytes (RFC 7515, section 7.1).
@@ -48,5 +62,17 @@ pub fn split(alloc: Global, text: &[u8], most: usize) -> Result<Parts, SplitFaul
             input_len,
         }),
         None => Err(SplitFault::NotCompact),
+    }
+}
+
+/// Whether a text is in the compact layout within `most` bytes (RFC 7515, section 7.1). It decodes the parts.
+pub fn is_compact(alloc: Global, text: &[u8], most: usize) -> Result<bool, NoMemory>
+    ensures yes { result ≡ Ok true → IsCompactText most text.now }
+    ensures no { result ≡ Ok false → ¬ IsCompactText most text.now }
+{
+    match split(alloc, text, most) {
+        Ok(_) => Ok(true),
+        Err(SplitFault::NotCompact) => Ok(false),
+        Err(SplitFault::NoMemory) => Err(NoMemory),
     }
 }

@@ -1,9 +1,11 @@
-ghost use Rattle.std.specs.Prelude.{◌≡◌, ◌≤◌, ◌<◌, ◌++◌, ◌∷◌, [], length, IfOk, OnOk};
+//! Signed texts as they are composed.
+ghost use Rattle.std.specs.Prelude.{◌≡◌, ◌≤◌, ◌<◌, ◌+◌, ◌*◌, ◌++◌, ◌∷◌, [], length, IfOk, OnOk};
 ghost use Rattle.std.specs.String.{string_bytes};
 ghost use Rattle.canonical_json.specs.Canon.{canon};
 ghost use Rattle.canonical_json.specs.Lawful.{IsLawful};
 ghost use Rattle.canonical_json.specs.View.{view};
 ghost use Rattle.ebl_base.specs.Faults.{Rose};
+ghost use Rattle.ebl_base.specs.PlatformCode.{code_text};
 ghost use Rattle.ebl_base.specs.declared.signature.Signature.{Signature};
 ghost use Rattle.signed_envelope.specs.Compact.{base64url, signing_input};
 ghost use Rattle.signed_envelope.specs.Header.{header_text};
@@ -21,8 +23,9 @@ use std::alloc::Global;
 /// The text of a payload of this platform, signed by the ring, in at most `most` bytes.
 ///
 /// Its header is `{"alg":"HS256","kid":"ALPH"}` with the ring's algorithm and the platform, its payload canonical.
-/// Sign comes only where the ring's count of faults rose; else TooLong where the text with the signature that the ring
-/// made would pass the limit.
+/// Sign comes only when the ring's count of faults rose. TooLong comes only when the text with some signature that the
+/// keys take as the platform's passes the limit: the one that the ring made, though no contract shows which that is. So
+/// it comes only when the payload's canonical text is long, for a limit of 16,384 bytes more than 12,192.
 pub fn compose<G: KeyRing>(
     alloc: Global,
     ring: &mut G,
@@ -35,6 +38,7 @@ pub fn compose<G: KeyRing>(
     ensures fits { IfOk result (λ t. length t.0 ≤ most) }
     ensures sign { result ≡ Err Sign → Rose (G.faults ring.old) (G.faults ring.new) }
     ensures too_long { result ≡ Err TooLong → IsTooLong (G.keys ring.old) most who (view payload.now) }
+    ensures long { result ≡ Err TooLong → 3 * most < 4 * length (canon (view payload.now)) + 380 }
     ensures later { G.faults ring.old ≤ G.faults ring.new }
     ensures same { G.keys ring.new ≡ G.keys ring.old }
 {
@@ -51,7 +55,8 @@ pub fn compose<G: KeyRing>(
 
 // The text that is signed.
 fn input(alloc: Global, alg: Alg, who: PlatformCode, payload: &Json) -> Result<String, NoMemory>
-    ensures { IfOk result (λ t. string_bytes t ≡ signing_input (header_text alg who) (canon (view payload.now))) }
+    ensures text { IfOk result (λ t. string_bytes t ≡ signing_input (header_text alg who) (canon (view payload.now))) }
+    ensures code { IfOk result (λ t. length (code_text who) ≤ 4) }
 {
     let header = header(alloc, alg, who)?;
     let payload = write(alloc, payload)?;
@@ -62,7 +67,8 @@ fn input(alloc: Global, alg: Alg, who: PlatformCode, payload: &Json) -> Result<S
 }
 
 fn header(alloc: Global, alg: Alg, who: PlatformCode) -> Result<ByteList, NoMemory>
-    ensures { IfOk result (λ bytes. bytes ≡ header_text alg who) }
+    ensures text { IfOk result (λ bytes. bytes ≡ header_text alg who) }
+    ensures code { IfOk result (λ bytes. length (code_text who) ≤ 4) }
 {
     let mut text = ByteList::from_slice(alloc, b"{\"alg\":\"")?;
     text.extend_from_slice(alg.text().as_bytes())?;

@@ -1,4 +1,6 @@
+//! Why a text has no parts, isn't taken as signed, or wasn't composed.
 ghost use Rattle.std.specs.Prelude.{◌≡◌};
+ghost use Rattle.signed_envelope.specs.Refusal.{cause_text};
 ghost use Rattle.signed_envelope.specs.declared.fault.BadSigned.TheVariants as refusal;
 ghost use Rattle.signed_envelope.specs.declared.fault.ComposeFault.TheVariants as fault;
 
@@ -19,13 +21,14 @@ pub enum SplitFault {
 pub enum ComposeFault {
     /// The ring failed to sign, and its count of faults rose.
     Sign,
-    /// The text with the signature that the ring made would be longer than the limit.
+    /// The text would be longer than the limit. It depends on how long the signature is that the ring made, which
+    /// nobody sees: the contract says that with some signature of the platform the text is too long.
     TooLong,
     /// Memory ran out.
     NoMemory,
 }
 
-/// Why a text isn't taken as signed: the first cause that fits, in this order.
+/// Why a text isn't taken as signed: the first cause that applies, in this order.
 #[derive(Clone, Copy, Debug, PartialEq, Eq)]
 pub enum BadSigned {
     /// The text isn't in the compact layout, within the limit.
@@ -38,10 +41,27 @@ pub enum BadSigned {
     WrongKey,
     /// The ring doesn't take the signature as the platform's.
     Wrong,
-    /// The payload isn't JSON with whole numbers of at most 53 bits.
+    /// The payload isn't JSON that `canonical_json` reads.
     PayloadForm,
     /// Memory ran out.
     NoMemory,
+}
+
+impl BadSigned {
+    /// The word of the cause, as `WRONG_KEY`.
+    pub fn as_str(self) -> &'static str
+        ensures { result.now ≡ cause_text self }
+    {
+        match self {
+            BadSigned::NotCompact => "NOT_COMPACT",
+            BadSigned::HeaderForm => "HEADER_FORM",
+            BadSigned::Critical => "CRITICAL",
+            BadSigned::WrongKey => "WRONG_KEY",
+            BadSigned::Wrong => "WRONG",
+            BadSigned::PayloadForm => "PAYLOAD_FORM",
+            BadSigned::NoMemory => "NO_MEMORY",
+        }
+    }
 }
 
 impl From<SplitFault> for BadSigned {

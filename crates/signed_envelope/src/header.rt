@@ -1,3 +1,4 @@
+//! The header of a signed text, as it is read.
 ghost use Rattle.std.specs.Prelude.{◌≡◌, IfOk, IfErr};
 ghost use Rattle.canonical_json.specs.View.{view};
 ghost use Rattle.signed_envelope.specs.Header.{names_alg, signer_of};
@@ -5,8 +6,7 @@ ghost use Rattle.signed_envelope.specs.Steps.{HasSigner, IsHeaderRefused};
 
 use crate::alg::Alg;
 use crate::fault::BadSigned;
-use crate::reading::value_of;
-use canonical_json::{Json, member_of, text_of};
+use canonical_json::{Json, member_of, read_if_any, text_of};
 use ebl_base::PlatformCode;
 use std::alloc::Global;
 
@@ -15,7 +15,7 @@ pub(crate) fn signer(alloc: Global, alg: Alg, header: &[u8]) -> Result<PlatformC
     ensures ok { IfOk result (λ who. HasSigner alg header.now who) }
     ensures err { IfErr result (λ e. IsHeaderRefused alg header.now e) }
 {
-    let Some(head) = value_of(alloc, header)? else {
+    let Some(head) = read_if_any(alloc, header)? else {
         return Err(BadSigned::HeaderForm);
     };
     let Some(who) = named(alg, &head) else {

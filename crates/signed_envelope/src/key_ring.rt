@@ -1,3 +1,4 @@
+//! Rings of keys.
 ghost use Rattle.std.specs.Prelude.{◌≡◌, ℕ, true, IfOk};
 ghost use Rattle.ebl_base.specs.Faults.{HasCause};
 ghost use Rattle.ebl_base.specs.Signature.{IsSignature};

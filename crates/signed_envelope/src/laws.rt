@@ -1,5 +1,5 @@
 //! What holds of every signed text.
-ghost use Rattle.std.specs.Prelude.{◌≡◌, ◌≢◌, ℕ, ◌≤◌, true, List, Option, Some, length};
+ghost use Rattle.std.specs.Prelude.{◌≡◌, ◌≢◌, ◌+◌, ◌*◌, ℕ, ◌≤◌, true, List, Option, Some, length};
 ghost use Rattle.ebl_base.specs.PlatformCode.{code_of, code_text};
 ghost use Rattle.ebl_base.specs.declared.platform_code.PlatformCode.{PlatformCode};
 ghost use Rattle.ebl_base.specs.declared.signature.Signature.{Signature};
@@ -24,7 +24,7 @@ pub fn signed_text_has_one_reading()
         → IsSigned keys most text p v → IsSigned keys most text q w → (p ≡ q) × (v ≡ w) }
 {}
 
-/// A text that is refused, but for want of memory, is not signed by a platform that was asked for.
+/// A text that is refused, except when memory runs out, is not signed by a platform that was asked for.
 pub fn refused_text_is_not_signed()
     ensures { (keys : Keys) (most : ℕ) (asked : Option PlatformCode) (text : List ℕ)
         (e : BadSigned) (who : PlatformCode) (value : Value)
@@ -40,4 +40,15 @@ pub fn composed_text_is_signed()
         (who : PlatformCode) (value : Value) (signature : Signature)
         → IsComposed keys text who value signature → length text ≤ most → code_of (code_text who) ≡ Some who
         → IsLawful value → HasTexts value → depth value ≤ 127 → IsSigned keys most text who value }
+{}
+
+/// A composed text has four bytes for each three of its payload, and at most 127 more: so a payload of at most 9,000
+/// bytes fits in 16,384.
+pub fn composed_texts_are_short()
+    ensures length { (keys : Keys) (text : List ℕ) (who : PlatformCode) (value : Value) (signature : Signature)
+        → IsComposed keys text who value signature → code_of (code_text who) ≡ Some who
+        → 3 * length text ≤ 4 * length (canon value) + 380 }
+    ensures within { (keys : Keys) (text : List ℕ) (who : PlatformCode) (value : Value) (signature : Signature)
+        → IsComposed keys text who value signature → code_of (code_text who) ≡ Some who
+        → length (canon value) ≤ 9000 → length text ≤ 16384 }
 {}

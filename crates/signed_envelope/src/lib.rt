@@ -9,15 +9,17 @@ mod header;
 mod key_ring;
 mod laws;
 mod part;
-mod reading;
 #[cfg(test)]
 mod tests;
 mod verifying;
 
 pub use alg::Alg;
-pub use compact::{Parts, split};
+pub use compact::{Parts, is_compact, split};
 pub use composing::compose;
 pub use fault::{BadSigned, ComposeFault, SplitFault};
 pub use key_ring::KeyRing;
-pub use laws::{composed_text_is_signed, refused_text_is_not_signed, signed_text_has_one_reading};
+pub use laws::{
+    composed_text_is_signed, composed_texts_are_short, refused_text_is_not_signed,
+    signed_text_has_one_reading,
+};
 pub use verifying::{Verified, verify_any, verify_text};

@@ -1,3 +1,4 @@
+//! The parts of a text in the compact layout.
 ghost use Rattle.std.specs.Prelude.{◌≡◌, ◌≢◌, ◌∷◌, ◌++◌, ◌==◌, ℕ, List, IfOk, IfSome, IfNone};
 ghost use Rattle.std.specs.List.{position};
 ghost use Rattle.base64.specs.GeneralPurpose.{IsBytes};

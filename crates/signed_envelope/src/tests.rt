@@ -1,6 +1,6 @@
 //! Which texts have parts. The rings of the crate `test_signer` show the rest.
-use crate::{SplitFault, split};
-use ebl_base::Signature;
+use crate::{BadSigned, SplitFault, is_compact, split};
+use ebl_base::{Copied, Signature};
 use std::test::Fail;
 
 // `{}`, `{}` and one zero byte.
@@ -71,4 +71,24 @@ fn other_forms(rt: HostRuntime) {
         assert_eq!(rt; fault, Some(SplitFault::NotCompact), "{text}");
     }
     assert!(rt; split(rt.alloc(), GOOD.as_bytes(), 9).is_err());
+}
+
+#[test]
+fn copied_parts(rt: HostRuntime) -> Result<(), Fail> {
+    let parts = split(rt.alloc(), GOOD.as_bytes(), 10)?;
+    let copy = parts.copy(rt.alloc())?;
+    assert_eq!(rt; copy.header.as_slice(), b"{}".as_slice());
+    assert_eq!(rt; copy.payload.as_slice(), b"{}".as_slice());
+    assert_eq!(rt; copy.signature, parts.signature);
+    assert_eq!(rt; copy.input_len, 7);
+    Ok(())
+}
+
+#[test]
+fn compact_texts(rt: HostRuntime) -> Result<(), Fail> {
+    assert_eq!(rt; is_compact(rt.alloc(), GOOD.as_bytes(), 10)?, true);
+    assert_eq!(rt; is_compact(rt.alloc(), GOOD.as_bytes(), 9)?, false);
+    assert_eq!(rt; is_compact(rt.alloc(), b"e30.e31.AA", 10)?, false);
+    assert_eq!(rt; BadSigned::WrongKey.as_str(), "WRONG_KEY");
+    Ok(())
 }

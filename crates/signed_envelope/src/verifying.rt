@@ -1,4 +1,5 @@
-ghost use Rattle.std.specs.Prelude.{◌≤◌, None, Some, length, IfErr, IfOk};
+//! Signed texts as they are verified.
+ghost use Rattle.std.specs.Prelude.{◌≡◌, ◌≤◌, None, Some, length, IfErr, IfOk};
 ghost use Rattle.canonical_json.specs.Lawful.{HasTexts, IsLawful};
 ghost use Rattle.canonical_json.specs.View.{view};
 ghost use Rattle.signed_envelope.specs.Refusal.{IsRefused};
@@ -9,9 +10,8 @@ use crate::compact::{Parts, split};
 use crate::fault::BadSigned;
 use crate::header::signer;
 use crate::key_ring::KeyRing;
-use crate::reading::value_of;
-use canonical_json::Json;
-use ebl_base::PlatformCode;
+use canonical_json::{Json, read_if_any};
+use ebl_base::{NoMemory, PlatformCode};
 use std::alloc::Global;
 
 /// What a signed text says, and who signed it.
@@ -19,6 +19,20 @@ use std::alloc::Global;
 pub struct Verified {
     pub platform: PlatformCode,
     pub payload: Json,
+}
+
+impl Verified {
+    /// A copy: the same platform, and a payload with the same value.
+    pub fn copy(&self, alloc: Global) -> Result<Verified, NoMemory>
+        ensures platform { IfOk result (λ v. v.platform ≡ self.now.platform) }
+        ensures payload { IfOk result (λ v. view v.payload ≡ view self.now.payload) }
+    {
+        let payload = self.payload.copy(alloc)?;
+        Ok(Verified {
+            platform: self.platform,
+            payload,
+        })
+    }
 }
 
 /// The payload of a text of at most `most` bytes that its header's platform signed.
@@ -81,7 +95,7 @@ fn payload_of<G: KeyRing>(
     if !ring.verify(who, input, parts.signature) {
         return Err(BadSigned::Wrong);
     }
-    match value_of(alloc, parts.payload.as_slice())? {
+    match read_if_any(alloc, parts.payload.as_slice())? {
         Some(json) => Ok(json),
         None => Err(BadSigned::PayloadForm),
     }
