@@ -11,7 +11,7 @@ use Rattle.json_forms.specs.Writing.{each_written}
 use Rattle.ebl_base.specs.declared.signed_text.SignedText.{SignedText}
 use Rattle.envelope_manifest.specs.declared.fault.BodyField.{BodyField}
 use Rattle.envelope_manifest.specs.declared.fault.BodyField.TheVariants as fields
-use Rattle.json_forms.specs.Reading.{needed}
+use Rattle.json_forms.specs.Reading.{required}
 use Rattle.envelope_manifest.specs.Body.{BodyRecord, object_in, signed_in, all_signed_in, parts_of, signed_value, body_value}
 
 -- another name stands where it stood
@@ -31,9 +31,9 @@ under-without name other (member n v ms) differ =
 -- the body of three parts, or the first that is not there
 abbrev parts_with : Option Value → Option SignedText → Option (List SignedText) → Result BodyRecord BodyField
 parts_with document manifest chain =
-    needed fields.Document document (λ d.
-    needed fields.Manifest manifest (λ m.
-    needed fields.Chain chain (λ c.
+    required fields.Document document (λ d.
+    required fields.Manifest manifest (λ m.
+    required fields.Chain chain (λ c.
     Ok (record { document = d; manifest = m; chain = c }))))
 
 manifest_there : (ms first : Members) → first ≡ without (codes "document") ms

@@ -4,3 +4,5 @@ pub mod BodyLemmas
 pub mod ManifestLemmas
 pub mod WholeBodies
 pub mod ReadBodies
+mod DepthLemmas
+pub mod LengthLemmas

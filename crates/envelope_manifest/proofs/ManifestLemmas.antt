@@ -8,7 +8,7 @@ use Rattle.canonical_json.specs.Lawful.{IsLawful, are_lawful, HasTexts, HaveText
 use Rattle.document_checksum.specs.Text.{checksum_text, checksum_of_text}
 use Rattle.document_checksum.proofs.Texts.{checksum_of_text-checksum_text}
 use Rattle.document_checksum.proofs.ReadTexts.{IsUtf8-checksum_text}
-use Rattle.json_forms.specs.Reading.{needed, number_in, all_of, with_more, count_of}
+use Rattle.json_forms.specs.Reading.{required, number_in, all_of, with_more, count_of}
 use Rattle.json_forms.specs.Writing.{each_written}
 use Rattle.json_forms.proofs.RoundTrips.{count_of-each_written}
 use Rattle.ebl_base.specs.declared.checksum.Checksum.{Checksum}
@@ -16,7 +16,7 @@ use Rattle.envelope_manifest.specs.declared.fault.ManifestField.TheVariants.{Bil
 use Rattle.envelope_manifest.specs.declared.piece.Piece.{Piece}
 use Rattle.envelope_manifest.specs.declared.manifest.Manifest.{Manifest}
 use Rattle.envelope_manifest.specs.Piece.{IsPiece, plain_text, piece_with, piece_in, piece_of, piece_value}
-use Rattle.envelope_manifest.specs.Manifest.{ArePieces, AreDocuments, IsManifest, together, pieces_in, pieces_under, manifest_of, manifest_value}
+use Rattle.envelope_manifest.specs.Manifest.{ArePieces, AreDocuments, IsManifest, together, pieces_in, required_pieces, manifest_of, manifest_value}
 use Rattle.envelope_manifest.proofs.FormLemmas.{IsUtf8-ascii}
 use Rattle.envelope_manifest.proofs.PieceLemmas.{IsLawful-piece_value, IsLawful-manifest_value}
 
@@ -42,7 +42,7 @@ piece_in-piece_value piece h =
     ∙ ap (λ c. piece_with (Some piece.name) (Some piece.media) (Some piece.size) c) checksum
 
 pub piece_of-piece_value : (piece : Piece) → IsPiece piece → piece_of (piece_value piece) ≡ Ok piece
-piece_of-piece_value piece h = ap (λ p. needed Documents p Ok) (piece_in-piece_value piece h)
+piece_of-piece_value piece h = ap (λ p. required Documents p Ok) (piece_in-piece_value piece h)
 
 pub IsLawful-piece : (piece : Piece) → IsPiece piece → IsLawful (piece_value piece)
 IsLawful-piece piece h = let size = h.size in IsLawful-piece_value piece (omega arith)
@@ -84,9 +84,9 @@ values_depth-written (piece ∷ pieces) = let behind = values_depth-written piec
 
 -- ---- the manifest
 
-pieces_under-manifest_value : (manifest : Manifest) → AreDocuments manifest.documents
-    → pieces_under (manifest_value manifest) ≡ Some manifest.documents
-pieces_under-manifest_value manifest h =
+required_pieces-manifest_value : (manifest : Manifest) → AreDocuments manifest.documents
+    → required_pieces (manifest_value manifest) ≡ Some manifest.documents
+required_pieces-manifest_value manifest h =
     let written = each_written piece_value manifest.documents in
     let count = count_of-each_written piece_value manifest.documents in
     let most = h.count in
@@ -102,14 +102,14 @@ pub manifest_of-manifest_value : (manifest : Manifest) → IsManifest manifest
 manifest_of-manifest_value manifest h =
     let bill = checksum_of_text-checksum_text manifest.bill h.bill in
     let last = checksum_of_text-checksum_text manifest.last h.last in
-    let documents = pieces_under-manifest_value manifest h.documents in
+    let documents = required_pieces-manifest_value manifest h.documents in
     with_parts (checksum_of_text (checksum_text manifest.bill)) (checksum_of_text (checksum_text manifest.last))
-    (pieces_under (manifest_value manifest)) bill last documents
+    (required_pieces (manifest_value manifest)) bill last documents
   where
     with_parts : (b l : Option Checksum) (d : Option (List Piece)) → b ≡ Some manifest.bill
         → l ≡ Some manifest.last → d ≡ Some manifest.documents
-        → needed Bill b (λ bill. needed Last l
-        (λ last. needed Documents d
+        → required Bill b (λ bill. required Last l
+        (λ last. required Documents d
         (λ documents. Ok (record { bill = bill; last = last; documents = documents })))) ≡ Ok manifest
     with_parts b l d hb hl hd = rw (hb, hl, hd) refl
 

@@ -11,7 +11,7 @@ use Rattle.json_forms.specs.Reading.{within, count_of}
 use Rattle.json_forms.proofs.RoundTrips.{kept}
 use Rattle.envelope_manifest.specs.declared.fault.ManifestField.{ManifestField}
 use Rattle.envelope_manifest.specs.declared.fault.ManifestField.TheVariants.{Documents}
-use Rattle.envelope_manifest.proofs.FormLemmas.{needed-parts}
+use Rattle.json_forms.proofs.ReadForms.{required-parts}
 use Rattle.std.specs.Str.{chars}
 use Rattle.std.proofs.lemmas.Bool.Decides.{nat_tests}
 use Rattle.canonical_json.specs.Name.{name_cmp}
@@ -31,7 +31,7 @@ ArePieces-push (p ∷ pieces) piece all one = (all.0, ArePieces-push pieces piec
 -- an object that lists a document
 pub piece_in-piece_of : (v : Value) (piece : Piece) → piece_of v ≡ Ok piece → piece_in v ≡ Some piece
 piece_in-piece_of v piece h =
-    let parts = needed-parts Documents (piece_in v) Ok piece h in
+    let parts = required-parts Documents (piece_in v) Ok piece h in
     let same : parts.0 ≡ piece = ap (λ (r : Result Piece ManifestField). result_unwrap_or r piece) parts.2 in
     parts.1 ∙ ap Some same
 

@@ -1,8 +1,8 @@
--- A body that was read is as its form allows it.
+-- A body that was read is well-formed.
 use Rattle.std.proofs.Common.{◌≡◌, ℕ, List, [], ◌∷◌, Bool, true, false, cond, IsUtf8, Option, Some, None, Result, Ok, Err, codes, bytes_eq, refl, sym, ap, ◌∙◌, subst}
 use Rattle.std.specs.Prelude.{option_and_then, IfOk}
 use Rattle.std.specs.Result.{result_unwrap_or}
-use Rattle.canonical_json.specs.Value.{Value, null, flag, int, text, list, object, Values, no_values, item, Members, no_members, member}
+use Rattle.canonical_json.specs.Value.{Value, null, flag, int, decimal, text, list, object, Values, no_values, item, Members, no_members, member}
 use Rattle.canonical_json.specs.Field.{under}
 use Rattle.canonical_json.specs.Lawful.{IsLawful, HasTexts, HaveTexts, MembersHaveTexts}
 use Rattle.canonical_json.proofs.Parts.{is_lawful-member_of}
@@ -13,7 +13,7 @@ use Rattle.envelope_manifest.specs.declared.fault.BodyField.{BodyField}
 use Rattle.envelope_manifest.specs.declared.fault.BodyField.TheVariants as fields
 use Rattle.envelope_manifest.specs.declared.fault.BodyFault.{BodyFault}
 use Rattle.envelope_manifest.specs.Body.{BodyRecord, AreUtf8, IsBody, object_in, signed_in, all_signed_in, parts_of, body_of, body_view}
-use Rattle.envelope_manifest.proofs.FormLemmas.{needed-parts}
+use Rattle.json_forms.proofs.ReadForms.{required-parts}
 
 -- what stands under a name among texts has texts
 HasTexts-under : (name : List ℕ) (ms : Members) (w : Value) → MembersHaveTexts ms → under name ms ≡ Some w → HasTexts w
@@ -25,16 +25,17 @@ HasTexts-under name (member other v ms) w h e = by_test (HasTexts-under name ms 
     by_test deeper false f = deeper f
 
 -- what was made of a value that is there
-made_of : {A B : Type 0} (form : A → Option B) (found : Option A) (y : B) → option_and_then form found ≡ Some y
+pub made_of : {A B : Type 0} (form : A → Option B) (found : Option A) (y : B) → option_and_then form found ≡ Some y
     → (x : A) × (found ≡ Some x) × (form x ≡ Some y)
 made_of form None y h = cc
 made_of form (Some x) y h = (x, refl, h)
 
 -- an object is itself
-object_same : (w d : Value) → object_in w ≡ Some d → w ≡ d
+pub object_same : (w d : Value) → object_in w ≡ Some d → w ≡ d
 object_same null d h = cc
 object_same (flag b) d h = cc
 object_same (int z) d h = cc
+object_same (decimal z s) d h = cc
 object_same (text t) d h = cc
 object_same (list vs) d h = cc
 object_same (object ms) d h = cc
@@ -44,6 +45,7 @@ signed_utf8 : (w : Value) (t : SignedText) → HasTexts w → signed_in w ≡ So
 signed_utf8 null t texts h = cc
 signed_utf8 (flag b) t texts h = cc
 signed_utf8 (int z) t texts h = cc
+signed_utf8 (decimal z s) t texts h = cc
 signed_utf8 (text s) t texts h = let same : s ≡ t.0 = ap (λ (o : Option SignedText). text_in o s) h in subst IsUtf8
     same texts
   where
@@ -72,6 +74,7 @@ list_utf8 : (w : Value) (texts : List SignedText) → HasTexts w → all_signed_
 list_utf8 null texts have h = cc
 list_utf8 (flag b) texts have h = cc
 list_utf8 (int z) texts have h = cc
+list_utf8 (decimal z s) texts have h = cc
 list_utf8 (text s) texts have h = cc
 list_utf8 (list vs) texts have h = all_utf8 vs texts have h
 list_utf8 (object ms) texts have h = cc
@@ -81,10 +84,10 @@ IsBody-parts_of : (ms : Members) (body : BodyRecord) → IsLawful (object ms) �
     → parts_of ms ≡ Ok body
     → IsBody body
 IsBody-parts_of ms body lawful texts h =
-    let first = needed-parts fields.Document (option_and_then object_in (under (codes "document") ms)) _ body h in
-    let second = needed-parts fields.Manifest (option_and_then signed_in (under (codes "manifest") ms)) _ body
+    let first = required-parts fields.Document (option_and_then object_in (under (codes "document") ms)) _ body h in
+    let second = required-parts fields.Manifest (option_and_then signed_in (under (codes "manifest") ms)) _ body
     first.2 in
-    let third = needed-parts fields.Chain (option_and_then all_signed_in (under (codes "chain") ms)) _ body second.2 in
+    let third = required-parts fields.Chain (option_and_then all_signed_in (under (codes "chain") ms)) _ body second.2 in
     let document = made_of object_in (under (codes "document") ms) first.0 first.1 in
     let manifest = made_of signed_in (under (codes "manifest") ms) second.0 second.1 in
     let chain = made_of all_signed_in (under (codes "chain") ms) third.0 third.1 in
@@ -105,6 +108,7 @@ pub IsBody-body_of : (v : Value) (body : BodyRecord) → IsLawful v → HasTexts
 IsBody-body_of null body lawful texts h = cc
 IsBody-body_of (flag b) body lawful texts h = cc
 IsBody-body_of (int z) body lawful texts h = cc
+IsBody-body_of (decimal z s) body lawful texts h = cc
 IsBody-body_of (text t) body lawful texts h = cc
 IsBody-body_of (list vs) body lawful texts h = cc
 IsBody-body_of (object ms) body lawful texts h = IsBody-parts_of ms body lawful texts h

@@ -6,7 +6,7 @@ use Rattle.canonical_json.specs.Value.{Value, depth, values_depth}
 use Rattle.canonical_json.specs.Name.{name_cmp}
 use Rattle.canonical_json.specs.Lawful.{IsLawful, is_lawful, are_lawful, HasTexts, HaveTexts}
 use Rattle.canonical_json.proofs.Parts.{Reads_once}
-use Rattle.json_forms.specs.Reading.{needed, all_of, with_more}
+use Rattle.json_forms.specs.Reading.{required, all_of, with_more}
 use Rattle.json_forms.specs.Writing.{each_written}
 use Rattle.ebl_base.specs.declared.signed_text.SignedText.{SignedText}
 use Rattle.envelope_manifest.specs.declared.fault.BodyField.{BodyField}
@@ -37,8 +37,8 @@ body_of-body_value body object = with_parts (object_in body.document)
     (all_of signed_in (each_written signed_value body.chain)) object (all_of-signed body.chain)
   where
     with_parts : (d : Option Value) (c : Option (List SignedText)) → d ≡ Some body.document → c ≡ Some body.chain
-        → needed fields.Document d (λ document. needed fields.Manifest (Some body.manifest)
-        (λ manifest. needed fields.Chain c
+        → required fields.Document d (λ document. required fields.Manifest (Some body.manifest)
+        (λ manifest. required fields.Chain c
         (λ chain. Ok (record { document = document; manifest = manifest; chain = chain })))) ≡ Ok body
     with_parts d c hd hc = rw (hd, hc) refl
 

@@ -3,7 +3,7 @@ use Rattle.std.specs.Prelude.{◌≡◌, ℕ, ◌≤◌, List, [], ◌∷◌, Bo
 use Rattle.std.specs.Set.{is_member}
 use Rattle.canonical_json.specs.Value.{Value, Values, list, object, no_members, member}
 use Rattle.document_checksum.specs.Digest.{IsChecksum}
-use Rattle.json_forms.specs.Reading.{checksum_under, items_under, all_of, needed}
+use Rattle.json_forms.specs.Reading.{required_checksum, required_items, all_of, required}
 use Rattle.json_forms.specs.Writing.{checksum_value, each_written}
 use Rattle.ebl_base.specs.Checksum.{checksum_eq}
 use Rattle.ebl_base.specs.declared.checksum.Checksum.{Checksum}
@@ -41,23 +41,23 @@ abbrev pub pieces_in : Values → Option (List Piece)
 pieces_in values = option_and_then together (all_of piece_in values)
 
 -- at most 16 of them
-abbrev pub pieces_under : Value → Option (List Piece)
-pieces_under v = option_and_then pieces_in (items_under (codes "documents") 0 16 v)
+abbrev pub required_pieces : Value → Option (List Piece)
+required_pieces v = option_and_then pieces_in (required_items (codes "documents") 0 16 v)
 
--- the manifest that a value is, or the first field that is absent or of another form
+-- the manifest that a value is, or the first field that is absent or malformed
 abbrev pub manifest_of : Value → Result Manifest ManifestField
 manifest_of v =
-    needed Bill (checksum_under (codes "bill") v) (λ bill.
-    needed Last (checksum_under (codes "last") v) (λ last.
-    needed Documents (pieces_under v) (λ documents.
+    required Bill (required_checksum (codes "bill") v) (λ bill.
+    required Last (required_checksum (codes "last") v) (λ last.
+    required Documents (required_pieces v) (λ documents.
     Ok (record { bill = bill; last = last; documents = documents }))))
 
--- the fault is the first wrong field, or a want of memory
+-- the fault is the first wrong field, or memory ran out
 abbrev pub IsFault : {T : Type 0} → Result T ManifestField → ManifestFault → Type 0
 IsFault read (ManifestForm field) = read ≡ Err field
 IsFault read NoMemory = Unit {0}
 
--- each listed document as its form allows it
+-- each listed document that is well-formed
 abbrev pub ArePieces : List Piece → Type 0
 ArePieces [] = Unit {0}
 ArePieces (piece ∷ pieces) = IsPiece piece × ArePieces pieces
@@ -68,7 +68,7 @@ pub record AreDocuments (pieces : List Piece) : Type 0 where
   pub each : ArePieces pieces
   pub together : IsTrue (go_together pieces)
 
--- a manifest as its form allows it
+-- a well-formed manifest
 pub record IsManifest (manifest : Manifest) : Type 0 where
   pub bill : IsChecksum manifest.bill
   pub last : IsChecksum manifest.last

@@ -5,7 +5,7 @@ use Rattle.std.specs.Str.{IsUtf8, chars}
 use Rattle.canonical_json.specs.Value.{Value, text, object, no_members, member}
 use Rattle.canonical_json.specs.Field.{text_of}
 use Rattle.document_checksum.specs.Digest.{IsChecksum}
-use Rattle.json_forms.specs.Reading.{number_under, checksum_under, needed}
+use Rattle.json_forms.specs.Reading.{required_number, required_checksum, required}
 use Rattle.json_forms.specs.Writing.{number_value, checksum_value}
 use Rattle.ebl_base.specs.declared.checksum.Checksum.{Checksum}
 use Rattle.envelope_manifest.specs.declared.fault.ManifestField.{ManifestField}
@@ -29,8 +29,8 @@ abbrev pub plain_text : ℕ → List ℕ → Option (List ℕ)
 plain_text most t = if is_plain_text most t then Some t else None
 
 -- the text of that form that the member of that name is
-abbrev pub plain_text_under : List ℕ → ℕ → Value → Option (List ℕ)
-plain_text_under name most v = option_and_then (plain_text most) (text_of name v)
+abbrev pub required_plain_text : List ℕ → ℕ → Value → Option (List ℕ)
+required_plain_text name most v = option_and_then (plain_text most) (text_of name v)
 
 -- the document with these members, where each has its form
 abbrev pub piece_with : Option (List ℕ) → Option (List ℕ) → Option ℕ → Option Checksum → Option Piece
@@ -45,14 +45,14 @@ piece_with (Some name) (Some media) (Some size) (Some checksum) =
 -- 2,097,152 bytes, and a checksum
 abbrev pub piece_in : Value → Option Piece
 piece_in v =
-    piece_with (plain_text_under (codes "name") 128 v) (plain_text_under (codes "media") 64 v)
-    (number_under (codes "size") 0 2097152 v) (checksum_under (codes "checksum") v)
+    piece_with (required_plain_text (codes "name") 128 v) (required_plain_text (codes "media") 64 v)
+    (required_number (codes "size") 0 2097152 v) (required_checksum (codes "checksum") v)
 
 -- the same, where another value is a fault of the list of documents
 abbrev pub piece_of : Value → Result Piece ManifestField
-piece_of v = needed Documents (piece_in v) Ok
+piece_of v = required Documents (piece_in v) Ok
 
--- a listed document as a form allows it
+-- a listed document that is well-formed
 pub record IsPiece (piece : Piece) : Type 0 where
   pub name : IsTrue (is_plain_text 128 piece.name)
   pub name_utf8 : IsUtf8 piece.name

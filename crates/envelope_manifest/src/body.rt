@@ -1,12 +1,13 @@
 //! The body in which a bill is sent.
-ghost use Rattle.std.specs.Prelude.{◌≡◌, IfOk, IfErr};
+ghost use Rattle.std.specs.Prelude.{◌≡◌, ◌≤◌, Ok, IfOk, IfErr};
 ghost use Rattle.canonical_json.specs.Canon.{canon};
+ghost use Rattle.canonical_json.specs.Value.{depth};
 
 use crate::body_reading::body_of;
 use crate::body_writing::{push_text, push_texts, push_value};
 use crate::fault::{BodyFault, BodyField};
 use canonical_json::{Json, ReadError, read};
-use ebl_base::{ByteList, NoMemory, SignedText, TextList};
+use ebl_base::{ByteList, Copied, NoMemory, SignedText, TextList};
 use std::alloc::Global;
 
 /// What one platform sends another to transfer a bill: the document, the manifest, and the whole chain.
@@ -14,24 +15,27 @@ use std::alloc::Global;
 pub struct Body {
     /// The transport document, an object. Whether it is one of a bill isn't asked here.
     pub document: Json,
-    /// The manifest as a signed text. What stands in it isn't asked here.
+    /// The manifest as a signed text. Whether it is one isn't asked here.
     pub manifest: SignedText,
     /// The signed texts of the chain, in their order. How many they are isn't asked here.
     pub chain: TextList,
 }
 
 impl Body {
-    ghost use Rattle.envelope_manifest.specs.Body.{ReadsAs, IsBody, IsBodyFault, body_view, body_value};
+    ghost use Rattle.envelope_manifest.specs.Body.{ReadsAs, IsBody, IsBodyFault, IsPartFault, body_in, body_view, body_value};
 
     /// The body that a text is: an object with `document`, an object; `manifest`, a text; `chain`, a list of texts.
     /// Further members are ignored.
     ///
     /// [`BodyFault::BodyForm`] names the first wrong part in that order, and before it the whole, where the text is
-    /// no JSON with whole numbers or no object. The text is read once, and its parts are moved out of what was read.
+    /// not read by `canonical_json` or no object. The text is read once, and its parts are moved out of what was read.
     pub fn read(alloc: Global, bytes: &[u8]) -> Result<Body, BodyFault>
         ensures ok { IfOk result (λ body. ReadsAs bytes.now (body_view body)) }
+        ensures read { IfOk result (λ body. body_in bytes.now ≡ Ok (body_view body)) }
         ensures form { IfOk result (λ body. IsBody (body_view body)) }
+        ensures nests { IfOk result (λ body. depth (body_view body).document ≤ 126) }
         ensures err { IfErr result (IsBodyFault bytes.now) }
+        ensures refused { IfErr result (IsPartFault (body_in bytes.now)) }
     {
         match read(alloc, bytes) {
             Ok(json) => body_of(alloc, json),
@@ -40,8 +44,22 @@ impl Body {
         }
     }
 
-    /// The canonical text of the body (RFC 8785), without further members. [`Body::read`] takes it where the body
-    /// is as its form allows it and its document nests at most 126 deep.
+    /// A copy: a document with the same value, and the same texts.
+    pub fn copy(&self, alloc: Global) -> Result<Body, NoMemory>
+        ensures { IfOk result (λ body. body_view body ≡ body_view self.now) }
+    {
+        let document = self.document.copy(alloc)?;
+        let manifest = self.manifest.copy(alloc)?;
+        let chain = self.chain.copy(alloc)?;
+        Ok(Body {
+            document,
+            manifest,
+            chain,
+        })
+    }
+
+    /// The canonical text of the body (RFC 8785), without further members. [`Body::read`] takes it when the body
+    /// is well-formed and its document nests at most 126 deep.
     pub fn write(&self, alloc: Global) -> Result<ByteList, NoMemory>
         ensures { IfOk result (λ bytes. bytes ≡ canon (body_value (body_view self.now))) }
     {

@@ -39,7 +39,7 @@ pub enum BodyField {
 /// Why a text is not taken as a body.
 #[derive(Clone, Copy, Debug, PartialEq, Eq)]
 pub enum BodyFault {
-    /// This is the first part that is absent or of another form.
+    /// This is the first part that is absent or malformed.
     BodyForm(BodyField),
     /// Memory ran out.
     NoMemory,

@@ -1,5 +1,5 @@
 //! What holds of every manifest and every body. The functions do nothing: their contracts are the laws.
-ghost use Rattle.std.specs.Prelude.{◌≡◌, ◌≤◌, ℕ, List, Ok};
+ghost use Rattle.std.specs.Prelude.{◌≡◌, ◌≤◌, ◌<◌, ℕ, List, Ok, length};
 ghost use Rattle.canonical_json.specs.Value.{Value, depth};
 ghost use Rattle.canonical_json.specs.Canon.{canon};
 ghost use Rattle.canonical_json.specs.Lawful.{IsLawful, HasTexts};
@@ -8,7 +8,7 @@ ghost use Rattle.envelope_manifest.specs.declared.piece.Piece.{Piece};
 ghost use Rattle.envelope_manifest.specs.declared.manifest.Manifest.{Manifest};
 ghost use Rattle.envelope_manifest.specs.Piece.{IsPiece, piece_of, piece_value};
 ghost use Rattle.envelope_manifest.specs.Manifest.{IsManifest, manifest_of, manifest_value};
-ghost use Rattle.envelope_manifest.specs.Body.{BodyRecord, IsBody, ReadsAs, body_value};
+ghost use Rattle.envelope_manifest.specs.Body.{BodyRecord, IsBody, ReadsAs, body_of, body_value};
 
 use canonical_json::{canonical_reads, equal_texts_have_equal_values};
 
@@ -32,7 +32,7 @@ pub fn pieces_with_one_text_are_one()
     equal_texts_have_equal_values();
 }
 
-/// A manifest as its form allows it is read from its written form. That form may be written as JSON, and its text
+/// A well-formed manifest is read from its written form. That form may be written as JSON, and its text
 /// reads as it.
 pub fn written_manifests_read_back()
     ensures again { (manifest : Manifest) → IsManifest manifest → manifest_of (manifest_value manifest) ≡ Ok manifest }
@@ -54,7 +54,20 @@ pub fn manifests_with_one_text_are_one()
     equal_texts_have_equal_values();
 }
 
-/// A body as its form allows it, with a document that nests at most 126 deep, is read from its text.
+/// The canonical text of a well-formed manifest has at most 8,163 bytes, and that of a document that it lists at most
+/// 499.
+pub fn written_manifests_are_short()
+    ensures manifest { (manifest : Manifest) → IsManifest manifest
+        → length (canon (manifest_value manifest)) ≤ 8163 }
+    ensures piece { (piece : Piece) → IsPiece piece → length (canon (piece_value piece)) ≤ 499 }
+{}
+
+/// The document of a body nests less deep than the body: at most 126 deep, where the body nests at most 127.
+pub fn documents_nest_in_their_bodies()
+    ensures { (v : Value) (body : BodyRecord) → body_of v ≡ Ok body → depth body.document < depth v }
+{}
+
+/// A well-formed body, with a document that nests at most 126 deep, is read from its text.
 pub fn written_bodies_read_back()
     ensures { (body : BodyRecord) → IsBody body → depth body.document ≤ 126
         → ReadsAs (canon (body_value body)) body }

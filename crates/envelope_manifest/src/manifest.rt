@@ -1,3 +1,4 @@
+//! The manifest of a bill's additional documents.
 use crate::piece::PieceList;
 use ebl_base::{Checksum, Copied, NoMemory};
 use std::alloc::Global;

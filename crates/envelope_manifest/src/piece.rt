@@ -1,3 +1,4 @@
+//! A document that a manifest lists.
 use ebl_base::{CharList, Checksum, Copied, Items, NoMemory};
 use std::alloc::Global;
 

@@ -4,9 +4,9 @@ ghost use Rattle.std.specs.Str.{IsUtf8};
 ghost use Rattle.canonical_json.specs.View.{view, items_view};
 ghost use Rattle.std.specs.Set.{is_member};
 ghost use Rattle.ebl_base.specs.Checksum.{checksum_eq};
-ghost use Rattle.json_forms.specs.Reading.{all_of, needed};
-ghost use Rattle.envelope_manifest.specs.Piece.{IsPiece, has_no_control, is_control, is_plain_text, piece_in, piece_of, plain_text, plain_text_under};
-ghost use Rattle.envelope_manifest.specs.Manifest.{AreDocuments, ArePieces, IsFault, IsManifest, are_distinct, checksums_of, go_together, manifest_of, pieces_in, pieces_under, total_size};
+ghost use Rattle.json_forms.specs.Reading.{all_of, required};
+ghost use Rattle.envelope_manifest.specs.Piece.{IsPiece, has_no_control, is_control, is_plain_text, piece_in, piece_of, plain_text, required_plain_text};
+ghost use Rattle.envelope_manifest.specs.Manifest.{AreDocuments, ArePieces, IsFault, IsManifest, are_distinct, checksums_of, go_together, manifest_of, pieces_in, required_pieces, total_size};
 ghost use Rattle.envelope_manifest.specs.declared.fault.ManifestField.TheVariants.{Documents};
 
 use crate::fault::{ManifestFault, ManifestField};
@@ -14,7 +14,7 @@ use crate::manifest::Manifest;
 use crate::piece::{Piece, PieceList};
 use canonical_json::{Json, text_of};
 use ebl_base::{CharList, Checksum};
-use json_forms::{checksum_under, items_under, number_under};
+use json_forms::{required_checksum, required_items, required_number};
 use std::alloc::Global;
 
 /// The most documents of a manifest.
@@ -43,13 +43,13 @@ pub fn decode(alloc: Global, json: &Json) -> Result<Manifest, ManifestFault>
     ensures form { IfOk result (λ manifest. IsManifest manifest) }
     ensures err { IfErr result (IsFault (manifest_of (view json.now))) }
 {
-    let Some(bill) = checksum_under(json, "bill") else {
+    let Some(bill) = required_checksum(json, "bill") else {
         return Err(ManifestFault::ManifestForm(ManifestField::Bill));
     };
-    let Some(last) = checksum_under(json, "last") else {
+    let Some(last) = required_checksum(json, "last") else {
         return Err(ManifestFault::ManifestForm(ManifestField::Last));
     };
-    let documents = pieces_under(alloc, json)?;
+    let documents = required_pieces(alloc, json)?;
     Ok(Manifest {
         bill,
         last,
@@ -61,22 +61,22 @@ pub fn decode(alloc: Global, json: &Json) -> Result<Manifest, ManifestFault>
 /// `size`, 0 to 2,097,152 bytes; `checksum`, 64 hexadecimal digits in lower case. Bytes of a text are those of its
 /// UTF-8, and neither text has a character below U+0020 or U+007F. Further members are ignored.
 ///
-/// [`ManifestFault::ManifestForm`] of the documents comes exactly where the value is of another form.
+/// [`ManifestFault::ManifestForm`] of the documents comes exactly when the value is malformed.
 pub fn decode_piece(alloc: Global, json: &Json) -> Result<Piece, ManifestFault>
     ensures ok { IfOk result (λ piece. piece_of (view json.now) ≡ Ok piece) }
     ensures form { IfOk result (λ piece. IsPiece piece) }
     ensures err { IfErr result (IsFault (piece_of (view json.now))) }
 {
-    let Some(name) = plain_text_under(json, "name", NAME_MOST) else {
+    let Some(name) = required_plain_text(json, "name", NAME_MOST) else {
         return Err(ManifestFault::ManifestForm(ManifestField::Documents));
     };
-    let Some(media) = plain_text_under(json, "media", MEDIA_MOST) else {
+    let Some(media) = required_plain_text(json, "media", MEDIA_MOST) else {
         return Err(ManifestFault::ManifestForm(ManifestField::Documents));
     };
-    let Some(size) = number_under(json, "size", 0, SIZE_MOST) else {
+    let Some(size) = required_number(json, "size", 0, SIZE_MOST) else {
         return Err(ManifestFault::ManifestForm(ManifestField::Documents));
     };
-    let Some(checksum) = checksum_under(json, "checksum") else {
+    let Some(checksum) = required_checksum(json, "checksum") else {
         return Err(ManifestFault::ManifestForm(ManifestField::Documents));
     };
     let name = CharList::from_text(alloc, name)?;
@@ -89,9 +89,10 @@ pub fn decode_piece(alloc: Global, json: &Json) -> Result<Piece, ManifestFault>
     })
 }
 
-// The text that the member of that name is, where it has 1 to `most` bytes and no control character.
-fn plain_text_under<'a>(json: &'a Json, name: &str, most: usize) -> Option<&'a str>
-    ensures text { option_map (λ t. t.now) result ≡ plain_text_under name.now most (view json.now) }
+/// The text that the member of that name is, where it has 1 to `most` bytes of UTF-8 and no character below U+0020
+/// or U+007F. None if and only if the value is no object with such a member. Allocates nothing.
+pub fn required_plain_text<'a>(json: &'a Json, name: &str, most: usize) -> Option<&'a str>
+    ensures text { option_map (λ t. t.now) result ≡ required_plain_text name.now most (view json.now) }
     ensures utf8 { IfSome result (λ t. IsUtf8 t.now) }
 {
     plain_text(text_of(json, name)?.as_str(), most)
@@ -126,12 +127,12 @@ fn is_control(c: char) -> bool
     c < ' ' || c == '\u{7F}'
 }
 
-fn pieces_under(alloc: Global, json: &Json) -> Result<PieceList, ManifestFault>
-    ensures ok { IfOk result (λ pieces. pieces_under (view json.now) ≡ Some pieces) }
+fn required_pieces(alloc: Global, json: &Json) -> Result<PieceList, ManifestFault>
+    ensures ok { IfOk result (λ pieces. required_pieces (view json.now) ≡ Some pieces) }
     ensures form { IfOk result (λ pieces. AreDocuments pieces) }
-    ensures err { IfErr result (IsFault (needed Documents (pieces_under (view json.now)) Ok)) }
+    ensures err { IfErr result (IsFault (required Documents (required_pieces (view json.now)) Ok)) }
 {
-    let Some(items) = items_under(json, "documents", 0, PIECES_MOST) else {
+    let Some(items) = required_items(json, "documents", 0, PIECES_MOST) else {
         return Err(ManifestFault::ManifestForm(ManifestField::Documents));
     };
     let pieces = all_pieces(alloc, items)?;
@@ -144,7 +145,7 @@ fn pieces_under(alloc: Global, json: &Json) -> Result<PieceList, ManifestFault>
 fn all_pieces(alloc: Global, items: &[Json]) -> Result<PieceList, ManifestFault>
     ensures ok { IfOk result (λ pieces. all_of piece_in (items_view items.now) ≡ Some pieces) }
     ensures form { IfOk result (λ pieces. ArePieces pieces) }
-    ensures err { IfErr result (IsFault (needed Documents (all_of piece_in (items_view items.now)) Ok)) }
+    ensures err { IfErr result (IsFault (required Documents (all_of piece_in (items_view items.now)) Ok)) }
 {
     let mut pieces = PieceList::new(alloc);
     for item in items {

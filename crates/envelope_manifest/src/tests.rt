@@ -211,7 +211,7 @@ fn names_the_first_wrong_part(rt: HostRuntime) {
         ("", BodyField::Json),
         ("{'chain':[],'document':{},'manifest':''", BodyField::Json),
         (
-            "{'chain':[],'document':{'a':1.5},'manifest':''}",
+            "{'chain':[],'document':{'a':1e5},'manifest':''}",
             BodyField::Json,
         ),
         ("[{'document':{}}]", BodyField::Json),
@@ -262,6 +262,8 @@ fn a_body_there_and_back(rt: HostRuntime) -> Result<(), Fail> {
     assert_eq!(rt; text.as_slice(), want.as_slice());
     let again = Body::read(alloc, text.as_slice()).ok().ok_or("body")?;
     assert_eq!(rt; again.write(alloc)?.as_slice(), want.as_slice());
+    let copy = again.copy(alloc)?;
+    assert_eq!(rt; copy.write(alloc)?.as_slice(), want.as_slice());
     Ok(())
 }
 

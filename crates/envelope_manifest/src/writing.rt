@@ -14,7 +14,7 @@ use json_forms::{checksum_member, list_json, member, number_member, object_json,
 use std::alloc::Global;
 
 /// The written form of a manifest: an object with `bill`, `documents` and `last` alone. [`decode`](crate::decode)
-/// takes it where the manifest is as its form allows it.
+/// takes it where the manifest is well-formed.
 pub fn encode(alloc: Global, manifest: &Manifest) -> Result<Json, NoMemory>
     ensures value { IfOk result (λ json. view json ≡ manifest_value manifest.now) }
     ensures lawful { IfOk result (λ json. IsLawful (view json)) }
@@ -39,7 +39,7 @@ fn pieces_json(alloc: Global, pieces: &[Piece]) -> Result<Vec<Json>, NoMemory>
 }
 
 /// The written form of a document that a manifest lists: an object with `checksum`, `media`, `name` and `size` alone.
-/// [`decode_piece`](crate::decode_piece) takes it where the document is as its form allows it.
+/// [`decode_piece`](crate::decode_piece) takes it where the document is well-formed.
 pub fn encode_piece(alloc: Global, piece: &Piece) -> Result<Json, NoMemory>
     ensures value { IfOk result (λ json. view json ≡ piece_value piece.now) }
     ensures lawful { IfOk result (λ json. IsLawful (view json)) }

@@ -5,7 +5,7 @@ use Rattle.json_forms.proofs.RoundTrips.{count_of-all_of}
 use Rattle.envelope_manifest.specs.Piece.{piece_in}
 use Rattle.envelope_manifest.specs.Manifest.{go_together}
 use Rattle.envelope_manifest.proofs.PieceLemmas.{count_of-read}
-use Rattle.envelope_manifest.proofs.reading.pieces_under.Goals as goal
+use Rattle.envelope_manifest.proofs.reading.required_pieces.Goals as goal
 
 pub returns-clause-form : goal.returns-clause-form
 returns-clause-form c =
