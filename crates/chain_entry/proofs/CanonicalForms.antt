@@ -1,5 +1,5 @@
 -- What is written is lawful, has texts, and nests three deep.
-use Rattle.std.proofs.Common.{◌≡◌, ◌≤◌, ◌<◌, ℕ, Bool, true, false, ◌&&◌, nat_lt, List, [], ◌∷◌, Option, Some, None, codes, cond, refl, ap, ◌∙◌, arith, ltb-true}
+use Rattle.std.proofs.Common.{◌≡◌, ◌≤◌, ◌<◌, ℕ, Bool, true, false, ◌&&◌, nat_lt, List, [], ◌∷◌, Option, Some, None, codes, cond, min, refl, ap, ◌∙◌, arith, ltb-true}
 use Rattle.std.specs.Prelude.{All, IfSome}
 use Rattle.std.specs.List.{list_all, take_while}
 use Rattle.std.specs.Str.{IsAscii, IsUtf8, chars}
@@ -12,8 +12,8 @@ use Rattle.std.proofs.lemmas.Str.Ascii.{IsAscii-cons, IsAscii-nil}
 use Rattle.canonical_json.specs.Value.{depth, values_depth}
 use Rattle.canonical_json.specs.Lawful.{IsLawful, are_lawful, is_lawful, HasTexts, HaveTexts}
 use Rattle.canonical_json.specs.Name.{name_cmp}
-use Rattle.document_checksum.specs.Text.{checksum_text, is_lower_digit}
-use Rattle.json_forms.specs.Writing.{each_written, number_value}
+use Rattle.document_checksum.proofs.ReadTexts.{IsUtf8-checksum_text}
+use Rattle.json_forms.specs.Writing.{capped_value, each_written, number_value}
 use Rattle.ebl_base.specs.PlatformCode.{code_text, is_code_character}
 use Rattle.ebl_base.specs.Name35.{name_text, is_name_character}
 use Rattle.ebl_base.specs.Party.{party_text}
@@ -26,7 +26,6 @@ use Rattle.ebl_base.specs.declared.platform_code.PlatformCode.{PlatformCode}
 use Rattle.ebl_base.specs.declared.checksum.Checksum.{Checksum}
 use Rattle.ebl_base.specs.declared.transaction.Transaction.{Transaction}
 use Rattle.ebl_base.specs.declared.entry.Entry.{Entry}
-use Rattle.chain_entry.specs.Form.{IsName, IsTransaction, IsEntry}
 use Rattle.chain_entry.specs.Writing.{transaction_value, entry_value}
 
 -- ---- numbers are in range, and names in order
@@ -34,33 +33,31 @@ use Rattle.chain_entry.specs.Writing.{transaction_value, entry_value}
 number_is_lawful : (n : ℕ) → n ≤ 9007199254740991 → is_lawful (number_value n) ≡ true
 number_is_lawful n h = grind (arith, nat_tests)
 
-pub transaction-lawful : (t : Transaction) → IsTransaction t → IsLawful (transaction_value t)
-unfolding name_cmp chars
-transaction-lawful t form = by_recipient t.recipient refl
-  where
-    time : moment_number t.time ≤ 9007199254740991
-    time = grind (arith, nat_tests, form.time)
+capped_is_lawful : (n : ℕ) → is_lawful (capped_value n) ≡ true
+capped_is_lawful n = number_is_lawful (min n 9007199254740991) (omega arith)
 
+pub transaction-lawful : (t : Transaction) → IsLawful (transaction_value t)
+unfolding name_cmp chars
+transaction-lawful t = by_recipient t.recipient refl
+  where
     by_recipient : (r : Option Party) → t.recipient ≡ r → IsLawful (transaction_value t)
-    by_recipient None e = rw (e, number_is_lawful (moment_number t.time) time) refl
-    by_recipient (Some party) e = rw (e, number_is_lawful (moment_number t.time) time) refl
+    by_recipient None e = rw (e, capped_is_lawful (moment_number t.time)) refl
+    by_recipient (Some party) e = rw (e, capped_is_lawful (moment_number t.time)) refl
 
-transactions_are_lawful : (ts : List Transaction) → All IsTransaction ts
-    → are_lawful (each_written transaction_value ts) ≡ true
-transactions_are_lawful [] h = refl
-transactions_are_lawful (t ∷ ts) h =
-    ap (λ b. b && are_lawful (each_written transaction_value ts)) (transaction-lawful t (All-head IsTransaction t ts h))
-    ∙ transactions_are_lawful ts (All-tail IsTransaction t ts h)
+transactions_are_lawful : (ts : List Transaction) → are_lawful (each_written transaction_value ts) ≡ true
+transactions_are_lawful [] = refl
+transactions_are_lawful (t ∷ ts) =
+    ap (λ b. b && are_lawful (each_written transaction_value ts)) (transaction-lawful t) ∙ transactions_are_lawful ts
 
-pub entry-lawful : (entry : Entry) → IsEntry entry → IsLawful (entry_value entry)
+pub entry-lawful : (entry : Entry) → IsLawful (entry_value entry)
 unfolding name_cmp chars
-entry-lawful entry form = by_previous entry.previous refl
+entry-lawful entry = by_previous entry.previous refl
   where
-    attempt : is_lawful (number_value entry.attempt) ≡ true
-    attempt = number_is_lawful entry.attempt (omega (arith, form.last_attempt))
+    attempt : is_lawful (capped_value entry.attempt) ≡ true
+    attempt = capped_is_lawful entry.attempt
 
     transactions : are_lawful (each_written transaction_value entry.transactions) ≡ true
-    transactions = transactions_are_lawful entry.transactions form.transactions
+    transactions = transactions_are_lawful entry.transactions
 
     by_previous : (p : Option Checksum) → entry.previous ≡ p → IsLawful (entry_value entry)
     by_previous None e = rw (e, attempt, transactions) refl
@@ -76,7 +73,7 @@ ascii_of p below (c ∷ cs) h =
     IsAscii-cons c cs (below c parts.0) (ascii_of p below cs parts.1)
 
 -- a text that computes
-literal : (text : List ℕ) → list_all (λ c. nat_lt c 128) text ≡ true → IsUtf8 text
+pub literal : (text : List ℕ) → list_all (λ c. nat_lt c 128) text ≡ true → IsUtf8 text
 literal text h = IsUtf8-from_ascii text (ascii_of (λ c. nat_lt c 128) (λ c below. ltb-true c 128 below) text h)
 
 front_passes_at : (p : ℕ → Bool) (x : ℕ) (xs : List ℕ) (b : Bool) → p x ≡ b → list_all p (take_while p xs) ≡ true
@@ -95,15 +92,12 @@ code_below c h = grind (arith, nat_tests)
 name_below : (c : ℕ) → is_name_character c ≡ true → c < 128
 name_below c h = grind (arith, nat_tests)
 
-digit_below : (c : ℕ) → is_lower_digit c ≡ true → c < 128
-digit_below c h = grind (arith, nat_tests)
-
 code_is_text : (code : PlatformCode) → IsUtf8 (code_text code)
 code_is_text code =
     IsUtf8-from_ascii (code_text code)
     (ascii_of is_code_character code_below (code_text code) (front_passes is_code_character code.bytes))
 
-party_is_text : (party : Party) → IsUtf8 (party_text party)
+pub party_is_text : (party : Party) → IsUtf8 (party_text party)
 party_is_text party =
     IsUtf8-from_ascii (party_text party)
     (IsAscii-append (code_text party.platform) (47 ∷ name_text party.code)
@@ -116,13 +110,7 @@ pub test_holds : {T : Type 0} (b : Bool) (o : Option T) (x : T) → cond b o Non
 test_holds true o x h = refl
 test_holds false o x h = cc
 
-name_is_text : (name : Checksum) → IsName name → IsUtf8 (checksum_text name)
-name_is_text name h =
-    IsUtf8-from_ascii (checksum_text name)
-    (ascii_of is_lower_digit digit_below (checksum_text name)
-    (test_holds (list_all is_lower_digit (checksum_text name)) _ name h))
-
-kind_is_text : (kind : Kind) → IsUtf8 (kind_text kind)
+pub kind_is_text : (kind : Kind) → IsUtf8 (kind_text kind)
 kind_is_text Sign = literal (codes "SIGN") refl
 kind_is_text Issue = literal (codes "ISSUE") refl
 kind_is_text Endorse = literal (codes "ENDORSE") refl
@@ -145,14 +133,14 @@ transactions_have_texts : (ts : List Transaction) → HaveTexts (each_written tr
 transactions_have_texts [] = tt
 transactions_have_texts (t ∷ ts) = (transaction-texts t, transactions_have_texts ts)
 
-pub entry-texts : (entry : Entry) → IsEntry entry → HasTexts (entry_value entry)
-entry-texts entry form = by_previous entry.previous refl form.previous
+pub entry-texts : (entry : Entry) → HasTexts (entry_value entry)
+entry-texts entry = by_previous entry.previous refl
   where
-    by_previous : (p : Option Checksum) → entry.previous ≡ p → IfSome p IsName → HasTexts (entry_value entry)
-    by_previous None e h =
-        rw e (literal (codes "attempt") refl, tt, (literal (codes "bill") refl, name_is_text entry.bill form.bill, (literal (codes "platform") refl, code_is_text entry.platform, (literal (codes "transactions") refl, transactions_have_texts entry.transactions, tt))))
-    by_previous (Some name) e h =
-        rw e (literal (codes "attempt") refl, tt, (literal (codes "bill") refl, name_is_text entry.bill form.bill, (literal (codes "platform") refl, code_is_text entry.platform, (literal (codes "previous") refl, name_is_text name h, (literal (codes "transactions") refl, transactions_have_texts entry.transactions, tt)))))
+    by_previous : (p : Option Checksum) → entry.previous ≡ p → HasTexts (entry_value entry)
+    by_previous None e =
+        rw e (literal (codes "attempt") refl, tt, (literal (codes "bill") refl, IsUtf8-checksum_text entry.bill, (literal (codes "platform") refl, code_is_text entry.platform, (literal (codes "transactions") refl, transactions_have_texts entry.transactions, tt))))
+    by_previous (Some name) e =
+        rw e (literal (codes "attempt") refl, tt, (literal (codes "bill") refl, IsUtf8-checksum_text entry.bill, (literal (codes "platform") refl, code_is_text entry.platform, (literal (codes "previous") refl, IsUtf8-checksum_text name, (literal (codes "transactions") refl, transactions_have_texts entry.transactions, tt)))))
 
 -- ---- how deep it nests
 

@@ -1,16 +1,18 @@
 -- What is read has the form, and what has the form is read as it is written.
-use Rattle.std.proofs.Common.{◌≡◌, ◌≤◌, ℕ, ℤ, pos, Bool, true, false, ◌&&◌, nat_le, List, [], ◌∷◌, Option, Some, None, Result, Ok, Err, codes, cond, length, refl, sym, ap, ◌∙◌, subst, arith}
+use Rattle.std.proofs.Common.{◌≡◌, ◌≤◌, ℕ, ℤ, pos, Bool, true, false, ◌&&◌, nat_le, List, [], ◌∷◌, Option, Some, None, Result, Ok, Err, codes, cond, length, min, refl, sym, ap, ◌∙◌, subst, arith}
 use Rattle.std.specs.Prelude.{All, IfSome, option_and_then}
 use Rattle.std.proofs.lemmas.Bool.{and_parts}
 use Rattle.std.proofs.lemmas.List.Elements.{All-nil, All-cons, All-head, All-tail}
 use Rattle.std.proofs.lemmas.Bool.Decides.{nat_tests}
 use Rattle.canonical_json.specs.Value.{Value, Values, no_values, item, object, list, member, no_members}
 use Rattle.canonical_json.specs.Field.{text_of, int_of, list_of, member_of, as_text}
-use Rattle.document_checksum.specs.Text.{checksum_of_text}
-use Rattle.json_forms.specs.Reading.{needed, needed_if_any, platform_under, checksum_under, checksum_in, checksum_if_any, number_in, number_under, party_in, party_under, party_if_any, in_form, if_any, count_of, within, with_more, all_of}
-use Rattle.json_forms.specs.declared.reading.OtherForm.{OtherForm}
-use Rattle.json_forms.specs.Writing.{each_written, number_value, platform_value, party_value, checksum_value, member_if_any}
-use Rattle.json_forms.proofs.RoundTrips.{again, kept, number_in-within, count_of-each_written, count_of-all_of, checksum-reads_back}
+use Rattle.document_checksum.specs.Digest.{IsChecksum}
+use Rattle.document_checksum.proofs.Texts.{checksum_of_text-checksum_text}
+use Rattle.json_forms.specs.Reading.{required, unless_malformed, required_platform, required_checksum, checksum_in, optional_checksum, number_in, required_number, party_in, required_party, optional_party, in_form, optional, count_of, within, with_more, all_of}
+use Rattle.json_forms.specs.declared.reading.Malformed.{Malformed}
+use Rattle.json_forms.specs.Writing.{capped_value, each_written, platform_value, party_value, checksum_value, optional_member}
+use Rattle.json_forms.proofs.RoundTrips.{again, kept, count_of-each_written, count_of-all_of}
+use Rattle.json_forms.proofs.ReadForms.{IsChecksum-read, least-read, most-read, optional_form, required-parts, unless_malformed-parts}
 use Rattle.ebl_base.specs.PlatformCode.{code_of, code_text}
 use Rattle.ebl_base.specs.Party.{party_of, party_text}
 use Rattle.ebl_base.specs.Moment.{is_moment, moment_of, moment_number}
@@ -22,24 +24,25 @@ use Rattle.ebl_base.specs.declared.moment.Moment.{Moment}
 use Rattle.ebl_base.specs.declared.transaction.Transaction.{Transaction}
 use Rattle.ebl_base.specs.declared.entry.Entry.{Entry}
 use Rattle.ebl_base.proofs.TextLemmas.{code_text-code_of, party_text-party_of, kind_of-kind_text}
-use Rattle.chain_entry.specs.declared.reading.Head.{Head}
 use Rattle.chain_entry.specs.declared.fault.EntryField.{EntryField}
 use Rattle.chain_entry.specs.declared.fault.EntryField.TheVariants.{Platform, Bill, Previous, Attempt, Transactions}
-use Rattle.chain_entry.specs.Reading.{kind_under, time_under, transaction_with, transaction_of, head_of, transactions_of, entry_with, then_read, entry_of}
-use Rattle.chain_entry.specs.Form.{IsCode, IsParty, IsName, IsTransaction, IsEntry}
+use Rattle.chain_entry.specs.Reading.{required_kind, required_time, transaction_with, transaction_of, transactions_of, entry_of}
+use Rattle.ebl_base.specs.PlatformCode.{IsCode}
+use Rattle.ebl_base.specs.Party.{IsParty}
+use Rattle.chain_entry.specs.Form.{IsTransaction, IsEntry}
 use Rattle.chain_entry.specs.Writing.{kind_value, transaction_value, entry_value}
 
 -- ---- what is read has the form
 
 -- the parts of a transaction that is there
-record Parts (kind : Option Kind) (actor : Option Party) (recipient : Result (Option Party) OtherForm)
+record Parts (kind : Option Kind) (actor : Option Party) (recipient : Result (Option Party) Malformed)
     (time : Option Moment) (t : Transaction) : Type 0 where
   in_kind : kind ≡ Some t.kind
   in_actor : actor ≡ Some t.actor
   in_recipient : recipient ≡ Ok t.recipient
   in_time : time ≡ Some t.time
 
-parts_of : (kind : Option Kind) (actor : Option Party) (recipient : Result (Option Party) OtherForm)
+parts_of : (kind : Option Kind) (actor : Option Party) (recipient : Result (Option Party) Malformed)
     (time : Option Moment) (t : Transaction) → transaction_with kind actor recipient time ≡ Some t
     → Parts kind actor recipient time t
 parts_of None actor recipient time t h = cc
@@ -56,32 +59,8 @@ parts_of (Some kind) (Some actor) (Ok recipient) (Some time) t h =
       in_time = ap (λ (x : Transaction). Some x.time) same;
     }
 
--- a member that may be left out, and was read, has its form where it is there
-form_if_any : {T : Type 0} (form : Value → Option T) (P : T → Type 0)
-    → ((v : Value) (x : T) → form v ≡ Some x → P x) → (o : Option Value) (found : Option T)
-    → if_any form o ≡ Ok found → IfSome found P
-form_if_any {T} form P holds None found h = by_found found h
-  where
-    nothing : Result (Option T) OtherForm
-    nothing = Ok None
-
-    by_found : (found : Option T) → nothing ≡ Ok found → IfSome found P
-    by_found None h = _
-    by_found (Some x) h = cc
-form_if_any {T} form P holds (Some v) found h = by_form (form v) refl found h
-  where
-    by_form : (o : Option T) → form v ≡ o → (found : Option T) → in_form o ≡ Ok found → IfSome found P
-    by_form None e found h = cc
-    by_form (Some x) e None h = cc
-    by_form (Some x) e (Some y) h =
-        let same : x ≡ y = cc in
-        holds v y (e ∙ ap Some same)
-
-party_form : (v : Value) (p : Party) → party_in v ≡ Some p → IsParty p
+pub party_form : (v : Value) (p : Party) → party_in v ≡ Some p → IsParty p
 party_form v p h = again party_of party_text party_text-party_of (as_text v) p h
-
-name_form : (v : Value) (c : Checksum) → checksum_in v ≡ Some c → IsName c
-name_form v c h = checksum-reads_back v c h
 
 -- a moment that was read is one
 moment_form : (o : Option ℕ) (m : Moment) → option_and_then moment_of o ≡ Some m
@@ -92,18 +71,13 @@ moment_form (Some n) m h =
     let both = kept (is_moment n) made m h in
     ap (λ (x : Moment). is_moment x.number) (sym both.1) ∙ both.0
 
--- the checksum of a text that is there
-checksum_form : (o : Option (List ℕ)) (c : Checksum) → option_and_then checksum_of_text o ≡ Some c → IsName c
-checksum_form None c h = cc
-checksum_form (Some t) c h = checksum-reads_back (Value.text t) c h
-
 pub transaction_form : (v : Value) (t : Transaction) → transaction_of v ≡ Some t → IsTransaction t
 transaction_form v t h =
-    let parts = parts_of (kind_under v) (party_under (codes "actor") v) (party_if_any (codes "recipient") v) (time_under v) t h in
+    let parts = parts_of (required_kind v) (required_party (codes "actor") v) (optional_party (codes "recipient") v) (required_time v) t h in
     record {
       actor = again party_of party_text party_text-party_of (text_of (codes "actor") v) t.actor parts.in_actor;
-      recipient = form_if_any party_in IsParty party_form (member_of (codes "recipient") v) t.recipient parts.in_recipient;
-      time = moment_form (number_under (codes "time") 0 9007199254740991 v) t.time parts.in_time;
+      recipient = optional_form party_in IsParty party_form (member_of (codes "recipient") v) t.recipient parts.in_recipient;
+      time = moment_form (required_number (codes "time") 0 9007199254740991 v) t.time parts.in_time;
     }
 
 -- each of the transactions that were read has the form
@@ -123,48 +97,8 @@ transactions_form (item v values) ts h =
         let same : t ∷ found ≡ ts = cc in
         subst (All IsTransaction) same (All-cons IsTransaction t found (transaction_form v t e) (behind found refl))
 
--- what was made of what is there
-needed-parts : {A B : Type 0} (field : EntryField) (o : Option A) (next : A → Result B EntryField) (y : B)
-    → needed field o next ≡ Ok y → (x : A) × (o ≡ Some x) × (next x ≡ Ok y)
-needed-parts field None next y h = cc
-needed-parts field (Some x) next y h = (x, refl, h)
-
-needed_if_any-parts : {A B : Type 0} (field : EntryField) (r : Result A OtherForm) (next : A → Result B EntryField) (y : B)
-    → needed_if_any field r next ≡ Ok y → (x : A) × (r ≡ Ok x) × (next x ≡ Ok y)
-needed_if_any-parts field (Err other) next y h = cc
-needed_if_any-parts field (Ok x) next y h = (x, refl, h)
-
-then_read-parts : {A B : Type 0} (r : Result A EntryField) (next : A → Result B EntryField) (y : B)
-    → then_read r next ≡ Ok y → (x : A) × (r ≡ Ok x) × (next x ≡ Ok y)
-then_read-parts (Err field) next y h = cc
-then_read-parts (Ok x) next y h = (x, refl, h)
-
--- the form of a head
-record IsHead (head : Head) : Type 0 where
-  platform : IsCode head.platform
-  bill : IsName head.bill
-  previous : IfSome head.previous IsName
-  attempt : (nat_le 1 head.attempt && nat_le head.attempt 4294967295) ≡ true
-
-attempt_form : (o : Option ℤ) (n : ℕ) → option_and_then (number_in 1 4294967295) o ≡ Some n
-    → (nat_le 1 n && nat_le n 4294967295) ≡ true
-attempt_form None n h = cc
-attempt_form (Some z) n h = (number_in-within 1 4294967295 z n h).0
-
-head_form : (v : Value) (head : Head) → head_of v ≡ Ok head → IsHead head
-head_form v head h =
-    let platform = needed-parts Platform (platform_under (codes "platform") v) _ head h in
-    let bill = needed-parts Bill (checksum_under (codes "bill") v) _ head platform.2 in
-    let previous = needed_if_any-parts Previous (checksum_if_any (codes "previous") v) _ head bill.2 in
-    let attempt = needed-parts Attempt (number_under (codes "attempt") 1 4294967295 v) _ head previous.2 in
-    let made : Head = record { platform = platform.0; bill = bill.0; previous = previous.0; attempt = attempt.0 } in
-    let same : made ≡ head = cc in
-    subst IsHead same (record {
-      platform = again code_of code_text code_text-code_of (text_of (codes "platform") v) platform.0 platform.1;
-      bill = checksum_form (text_of (codes "bill") v) bill.0 bill.1;
-      previous = form_if_any checksum_in IsName name_form (member_of (codes "previous") v) previous.0 previous.1;
-      attempt = attempt_form (int_of (codes "attempt") v) attempt.0 attempt.1;
-    })
+name_form : (v : Value) (c : Checksum) → checksum_in v ≡ Some c → IsChecksum c
+name_form v c h = IsChecksum-read (as_text v) c h
 
 -- how many transactions were read
 transactions_count : (o : Option Values) (ts : List Transaction)
@@ -186,35 +120,44 @@ transactions_count (Some values) ts h = by_within (nat_le 1 (count_of values) &&
 
 pub entry_form : (v : Value) (entry : Entry) → entry_of v ≡ Ok entry → IsEntry entry
 entry_form v entry h =
-    let head = then_read-parts (head_of v) _ entry h in
-    let transactions = needed-parts Transactions (transactions_of v) _ entry head.2 in
+    let platform = required-parts Platform (required_platform (codes "platform") v) _ entry h in
+    let bill = required-parts Bill (required_checksum (codes "bill") v) _ entry platform.2 in
+    let previous = unless_malformed-parts Previous (optional_checksum (codes "previous") v) _ entry bill.2 in
+    let attempt = required-parts Attempt (required_number (codes "attempt") 1 4294967295 v) _ entry previous.2 in
+    let transactions = required-parts Transactions (transactions_of v) _ entry attempt.2 in
     let count = transactions_count (list_of (codes "transactions") v) transactions.0 transactions.1 in
-    let form = head_form v head.0 head.1 in
-    let tests = and_parts (nat_le 1 head.0.attempt) (nat_le head.0.attempt 4294967295) form.attempt in
-    let same : entry_with head.0 transactions.0 ≡ entry = cc in
-    let made : IsEntry (entry_with head.0 transactions.0) = record {
-      platform = form.platform;
-      bill = form.bill;
-      previous = form.previous;
-      first_attempt = grind (arith, nat_tests, tests.0);
-      last_attempt = grind (arith, nat_tests, tests.1);
+    let made : Entry = record {
+      platform = platform.0;
+      bill = bill.0;
+      previous = previous.0;
+      attempt = attempt.0;
+      transactions = transactions.0;
+    } in
+    let same : made ≡ entry = cc in
+    subst IsEntry same (record {
+      platform = again code_of code_text code_text-code_of (text_of (codes "platform") v) platform.0 platform.1;
+      bill = IsChecksum-read (text_of (codes "bill") v) bill.0 bill.1;
+      previous = optional_form checksum_in IsChecksum name_form (member_of (codes "previous") v) previous.0 previous.1;
+      first_attempt = least-read 1 4294967295 (int_of (codes "attempt") v) attempt.0 attempt.1;
+      last_attempt = most-read 1 4294967295 (int_of (codes "attempt") v) attempt.0 attempt.1;
       some = count.0;
       most = count.1;
       transactions = count.2;
-    } in
-    subst IsEntry same made
+    })
 
 -- ---- what has the form is read as it is written
 
 time_reads : (m : Moment) → is_moment (moment_number m) ≡ true
-    → option_and_then moment_of (number_in 0 9007199254740991 (pos (moment_number m))) ≡ Some m
+    → option_and_then moment_of (number_in 0 9007199254740991 (pos (min (moment_number m) 9007199254740991))) ≡ Some m
 time_reads m h =
+    let same : min (moment_number m) 9007199254740991 ≡ moment_number m = grind (arith, nat_tests) in
     let least : nat_le 0 (moment_number m) ≡ true = grind (arith, nat_tests) in
-    ap (λ b. option_and_then moment_of (cond (b && nat_le (moment_number m) 9007199254740991) (Some (moment_number m)) None)) least
+    ap (λ n. option_and_then moment_of (number_in 0 9007199254740991 (pos n))) same
+    ∙ ap (λ b. option_and_then moment_of (cond (b && nat_le (moment_number m) 9007199254740991) (Some (moment_number m)) None)) least
     ∙ ap (λ b. option_and_then moment_of (cond b (Some (moment_number m)) None)) h
     ∙ ap (λ b. cond b (Some m) None) h
 
-all_parts : (kind : Option Kind) (actor : Option Party) (recipient : Result (Option Party) OtherForm)
+all_parts : (kind : Option Kind) (actor : Option Party) (recipient : Result (Option Party) Malformed)
     (time : Option Moment) (t : Transaction) → kind ≡ Some t.kind → actor ≡ Some t.actor → recipient ≡ Ok t.recipient
     → time ≡ Some t.time → transaction_with kind actor recipient time ≡ Some t
 all_parts kind actor recipient time t is_kind is_actor is_recipient is_time =
@@ -228,23 +171,23 @@ abbrev transaction_members : Transaction → Option Party → Value
 transaction_members t recipient =
     object (member (codes "actor") (party_value t.actor)
     (member (codes "kind") (kind_value t.kind)
-    (member_if_any (codes "recipient") party_value recipient
-    (member (codes "time") (number_value (moment_number t.time)) no_members))))
+    (optional_member (codes "recipient") party_value recipient
+    (member (codes "time") (capped_value (moment_number t.time)) no_members))))
 
 recipient_reads : (t : Transaction) (recipient : Option Party) → IfSome recipient IsParty
-    → party_if_any (codes "recipient") (transaction_members t recipient) ≡ Ok recipient
+    → optional_party (codes "recipient") (transaction_members t recipient) ≡ Ok recipient
 recipient_reads t None h = refl
 recipient_reads t (Some party) h = ap (λ p. in_form p) h
 
 time_under_reads : (t : Transaction) (recipient : Option Party) → is_moment (moment_number t.time) ≡ true
-    → time_under (transaction_members t recipient) ≡ Some t.time
+    → required_time (transaction_members t recipient) ≡ Some t.time
 time_under_reads t None h = time_reads t.time h
 time_under_reads t (Some party) h = time_reads t.time h
 
 pub transaction-reads_back : (t : Transaction) → IsTransaction t → transaction_of (transaction_value t) ≡ Some t
 transaction-reads_back t form =
-    all_parts (kind_under (transaction_value t)) (party_under (codes "actor") (transaction_value t))
-    (party_if_any (codes "recipient") (transaction_value t)) (time_under (transaction_value t)) t
+    all_parts (required_kind (transaction_value t)) (required_party (codes "actor") (transaction_value t))
+    (optional_party (codes "recipient") (transaction_value t)) (required_time (transaction_value t)) t
     (kind_of-kind_text t.kind) form.actor (recipient_reads t t.recipient form.recipient)
     (time_under_reads t t.recipient form.time)
 
@@ -269,64 +212,60 @@ list_reads ts least most h =
     ∙ ap (λ b. option_and_then (all_of transaction_of) (cond b (Some written) None)) last
     ∙ transactions_read ts h
 
-attempt_reads : (n : ℕ) → 1 ≤ n → n ≤ 4294967295 → number_in 1 4294967295 (pos n) ≡ Some n
+attempt_reads : (n : ℕ) → 1 ≤ n → n ≤ 4294967295 → number_in 1 4294967295 (pos (min n 9007199254740991)) ≡ Some n
 attempt_reads n least most =
+    let same : min n 9007199254740991 ≡ n = omega arith in
     let first : nat_le 1 n ≡ true = grind (arith, nat_tests) in
     let last : nat_le n 4294967295 ≡ true = grind (arith, nat_tests) in
-    rw (first, last) refl
+    rw (same, first, last) refl
 
 -- the members of an entry's object, with this previous entry
 abbrev entry_members : Entry → Option Checksum → Value
 entry_members entry previous =
-    object (member (codes "attempt") (number_value entry.attempt)
+    object (member (codes "attempt") (capped_value entry.attempt)
     (member (codes "bill") (checksum_value entry.bill)
     (member (codes "platform") (platform_value entry.platform)
-    (member_if_any (codes "previous") checksum_value previous
+    (optional_member (codes "previous") checksum_value previous
     (member (codes "transactions") (list (each_written transaction_value entry.transactions)) no_members)))))
 
-previous_reads : (entry : Entry) (previous : Option Checksum) → IfSome previous IsName
-    → checksum_if_any (codes "previous") (entry_members entry previous) ≡ Ok previous
+previous_reads : (entry : Entry) (previous : Option Checksum) → IfSome previous IsChecksum
+    → optional_checksum (codes "previous") (entry_members entry previous) ≡ Ok previous
 previous_reads entry None h = refl
-previous_reads entry (Some name) h = ap (λ c. in_form c) h
+previous_reads entry (Some name) h = ap (λ c. in_form c) (checksum_of_text-checksum_text name h)
 
 transactions_under_reads : (entry : Entry) (previous : Option Checksum) → IsEntry entry
     → transactions_of (entry_members entry previous) ≡ Some entry.transactions
 transactions_under_reads entry None form = list_reads entry.transactions form.some form.most form.transactions
 transactions_under_reads entry (Some name) form = list_reads entry.transactions form.some form.most form.transactions
 
--- the head, with these parts
-abbrev head_with : Option PlatformCode → Option Checksum → Result (Option Checksum) OtherForm → Option ℕ
-    → Result Head EntryField
-head_with platform bill previous attempt =
-    needed Platform platform (λ p. needed Bill bill (λ b. needed_if_any Previous previous (λ q.
-    needed Attempt attempt (λ n. Ok (record { platform = p; bill = b; previous = q; attempt = n })))))
+-- the entry with these parts
+abbrev entry_with : Option PlatformCode → Option Checksum → Result (Option Checksum) Malformed → Option ℕ
+    → Option (List Transaction) → Result Entry EntryField
+entry_with platform bill previous attempt transactions =
+    required Platform platform (λ p. required Bill bill (λ b. unless_malformed Previous previous (λ q.
+    required Attempt attempt (λ n. required Transactions transactions (λ ts.
+    Ok (record { platform = p; bill = b; previous = q; attempt = n; transactions = ts }))))))
 
-abbrev head_in : Entry → Head
-head_in entry =
-    record { platform = entry.platform; bill = entry.bill; previous = entry.previous; attempt = entry.attempt }
-
-head_reads : (platform : Option PlatformCode) (bill : Option Checksum) (previous : Result (Option Checksum) OtherForm)
-    (attempt : Option ℕ) (entry : Entry) → platform ≡ Some entry.platform → bill ≡ Some entry.bill
-    → previous ≡ Ok entry.previous → attempt ≡ Some entry.attempt
-    → head_with platform bill previous attempt ≡ Ok (head_in entry)
-head_reads platform bill previous attempt entry is_platform is_bill is_previous is_attempt =
-    ap (λ p. head_with p bill previous attempt) is_platform
-    ∙ ap (λ b. head_with (Some entry.platform) b previous attempt) is_bill
-    ∙ ap (λ q. head_with (Some entry.platform) (Some entry.bill) q attempt) is_previous
-    ∙ ap (λ n. head_with (Some entry.platform) (Some entry.bill) (Ok entry.previous) n) is_attempt
+entry_reads : (platform : Option PlatformCode) (bill : Option Checksum) (previous : Result (Option Checksum) Malformed)
+    (attempt : Option ℕ) (transactions : Option (List Transaction)) (entry : Entry) → platform ≡ Some entry.platform
+    → bill ≡ Some entry.bill → previous ≡ Ok entry.previous → attempt ≡ Some entry.attempt
+    → transactions ≡ Some entry.transactions → entry_with platform bill previous attempt transactions ≡ Ok entry
+entry_reads platform bill previous attempt transactions entry is_platform is_bill is_previous is_attempt are =
+    ap (λ p. entry_with p bill previous attempt transactions) is_platform
+    ∙ ap (λ b. entry_with (Some entry.platform) b previous attempt transactions) is_bill
+    ∙ ap (λ q. entry_with (Some entry.platform) (Some entry.bill) q attempt transactions) is_previous
+    ∙ ap (λ n. entry_with (Some entry.platform) (Some entry.bill) (Ok entry.previous) n transactions) is_attempt
+    ∙ ap (λ ts. entry_with (Some entry.platform) (Some entry.bill) (Ok entry.previous) (Some entry.attempt) ts) are
 
 pub entry-reads_back : (entry : Entry) → IsEntry entry → entry_of (entry_value entry) ≡ Ok entry
 entry-reads_back entry form =
     let written = entry_value entry in
-    let head : head_of written ≡ Ok (head_in entry) =
-    head_reads (platform_under (codes "platform") written) (checksum_under (codes "bill") written)
-    (checksum_if_any (codes "previous") written) (number_under (codes "attempt") 1 4294967295 written) entry
-    form.platform form.bill (previous_reads entry entry.previous form.previous)
-    (attempt_reads entry.attempt form.first_attempt form.last_attempt) in
-    let transactions : transactions_of written ≡ Some entry.transactions =
-    transactions_under_reads entry entry.previous form in
-    ap (λ r. then_read r (λ h. needed Transactions (transactions_of written) (λ ts. Ok (entry_with h ts)))) head
-    ∙ ap (λ o. needed Transactions o (λ ts. Ok (entry_with (head_in entry) ts))) transactions
+    entry_reads (required_platform (codes "platform") written) (required_checksum (codes "bill") written)
+    (optional_checksum (codes "previous") written) (required_number (codes "attempt") 1 4294967295 written)
+    (transactions_of written) entry form.platform (checksum_of_text-checksum_text entry.bill form.bill)
+    (previous_reads entry entry.previous form.previous)
+    (attempt_reads entry.attempt form.first_attempt form.last_attempt)
+    (transactions_under_reads entry entry.previous form)
 
 -- ---- different values
 

@@ -1,4 +1,6 @@
 //! Why a value is no entry.
+ghost use Rattle.std.specs.Prelude.{◌≡◌};
+ghost use Rattle.chain_entry.specs.Reading.{field_text};
 
 use ebl_base::NoMemory;
 
@@ -17,17 +19,31 @@ pub enum EntryField {
     Transactions,
 }
 
+impl EntryField {
+    /// The name of the member.
+    pub fn as_str(self) -> &'static str
+        ensures { result.now ≡ field_text self }
+    {
+        match self {
+            EntryField::Platform => "platform",
+            EntryField::Bill => "bill",
+            EntryField::Previous => "previous",
+            EntryField::Attempt => "attempt",
+            EntryField::Transactions => "transactions",
+        }
+    }
+}
+
 /// Why a value isn't taken as an entry or a transaction.
 #[derive(Clone, Copy, Debug, PartialEq, Eq)]
 pub enum EntryFault {
-    /// The first member that is absent or of another form. Where the value is no object, it is the first.
+    /// The first member that is absent or malformed. Where the value is no object, it is the first.
     EntryForm(EntryField),
     /// Memory ran out.
     NoMemory,
 }
 
 impl From<NoMemory> for EntryFault {
-    ghost use Rattle.std.specs.Prelude.{◌≡◌};
     ghost use Rattle.chain_entry.specs.declared.fault.EntryFault.TheVariants as faults;
 
     ghost from_gives = { λ _ e. e ≡ faults.NoMemory };
@@ -38,7 +54,6 @@ impl From<NoMemory> for EntryFault {
 }
 
 impl From<EntryField> for EntryFault {
-    ghost use Rattle.std.specs.Prelude.{◌≡◌};
     ghost use Rattle.chain_entry.specs.declared.fault.EntryFault.TheVariants as faults;
 
     ghost from_gives = { λ f e. e ≡ faults.EntryForm f };

@@ -27,7 +27,7 @@ const NULLS: [&str; 5] = [
 const WRITTEN: &str =
     "{'attempt':1,'bill':'44136fa355b3678a1146ad16f7e8649e94fb4fc21fe77e8310c060f61caaff8a','platform':'ALPH','previous':'ba7816bf8f01cfea414140de5dae2223b00361a396177a9cb410ff61f20015ad','transactions':[{'actor':'ALPH/CARRIER','kind':'SIGN','time':1000},{'actor':'ALPH/CARRIER','kind':'ISSUE','recipient':'BETA/IMPORT','time':2000}]}";
 
-// A member that is left out, of another form, null, or out of its range.
+// A member that is left out, malformed, null, or out of its range.
 const WRONG: [(usize, &str); 18] = [
     (0, ""),
     (0, "'platform':'alph',"),

@@ -1,9 +1,9 @@
 //! Entries and transactions as they are written: without further members, the names in order.
-ghost use Rattle.std.specs.Prelude.{◌≡◌, All, IfOk, codes};
+ghost use Rattle.std.specs.Prelude.{◌≡◌, IfOk, codes};
+ghost use Rattle.canonical_json.specs.Lawful.{IsLawful};
 ghost use Rattle.canonical_json.specs.Value.{list};
 ghost use Rattle.canonical_json.specs.View.{view, member_view};
 ghost use Rattle.json_forms.specs.Writing.{each_written};
-ghost use Rattle.chain_entry.specs.Form.{IsEntry, IsTransaction};
 ghost use Rattle.chain_entry.specs.Writing.{transaction_value, entry_value};
 
 use canonical_json::{Json, Member};
@@ -15,9 +15,10 @@ use json_forms::{
 use std::alloc::Global;
 
 /// The written form of an entry: an object with `attempt`, `bill`, `platform`, `previous` where there is one, and
-/// `transactions`.
+/// `transactions`. [`decode`](crate::decode) takes it when the entry is well-formed.
 pub fn encode(alloc: Global, entry: &Entry) -> Result<Json, NoMemory>
-    ensures { IfOk result (λ json. IsEntry entry.now → view json ≡ entry_value entry.now) }
+    ensures value { IfOk result (λ json. view json ≡ entry_value entry.now) }
+    ensures lawful { IfOk result (λ json. IsLawful (view json)) }
 {
     let attempt = number_member(alloc, "attempt", u64::from(entry.attempt))?;
     let bill = checksum_member(alloc, "bill", entry.bill)?;
@@ -33,8 +34,10 @@ pub fn encode(alloc: Global, entry: &Entry) -> Result<Json, NoMemory>
 }
 
 /// The written form of a transaction: an object with `actor`, `kind`, `recipient` where there is one, and `time`.
+/// [`decode_transaction`](crate::decode_transaction) takes it when the transaction is well-formed.
 pub fn encode_transaction(alloc: Global, transaction: &Transaction) -> Result<Json, NoMemory>
-    ensures { IfOk result (λ json. IsTransaction transaction.now → view json ≡ transaction_value transaction.now) }
+    ensures value { IfOk result (λ json. view json ≡ transaction_value transaction.now) }
+    ensures lawful { IfOk result (λ json. IsLawful (view json)) }
 {
     let actor = party_member(alloc, "actor", transaction.actor)?;
     let kind = text_member(alloc, "kind", transaction.kind.as_str())?;
@@ -49,8 +52,8 @@ pub fn encode_transaction(alloc: Global, transaction: &Transaction) -> Result<Js
 }
 
 fn transactions_member(alloc: Global, transactions: &[Transaction]) -> Result<Member, NoMemory>
-    ensures { IfOk result (λ m. All IsTransaction transactions.now
-        → member_view m ≡ (codes "transactions", list (each_written transaction_value transactions.now))) }
+    ensures { IfOk result (λ m. member_view m
+        ≡ (codes "transactions", list (each_written transaction_value transactions.now))) }
 {
     let mut items = Vec::with_capacity(alloc, transactions.len())?;
     for transaction in transactions {
