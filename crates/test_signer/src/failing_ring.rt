@@ -1,3 +1,4 @@
+//! A ring of keys whose calls fail where a test says.
 ghost use Rattle.std.specs.Prelude.{◌≡◌, ◌↔◌, true, Contains, IfOk, IsErr, is_err};
 ghost use Rattle.ebl_base.specs.Calls.{after_call};
 ghost use Rattle.ebl_base.specs.Faults.{HasCause};
@@ -7,8 +8,9 @@ ghost use Rattle.test_signer.specs.Keys.{derived_keys};
 
 use crate::keys::derived_tag;
 use crate::tags::{are_equal, signature_of};
-use ebl_base::{CallList, Calls, Failed, PlatformCode, Signature};
+use ebl_base::{CallList, Calls, Copied, Failed, NoMemory, PlatformCode, Signature};
 use signed_envelope::{Alg, KeyRing};
+use std::alloc::Global;
 
 /// The keys of [`crate::KeyedRing::derived`], with calls of `sign` that fail. It gives no security.
 #[derive(Debug, Drop)]
@@ -24,6 +26,13 @@ impl FailingRing {
         FailingRing {
             calls: Calls::new(fails),
         }
+    }
+}
+
+impl Copied for FailingRing {
+    fn copy(&self, alloc: Global) -> Result<Self, NoMemory> {
+        let calls = self.calls.copy(alloc)?;
+        Ok(FailingRing { calls })
     }
 }
 

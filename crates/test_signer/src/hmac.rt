@@ -1,3 +1,4 @@
+//! HMAC with SHA-256 (RFC 2104).
 ghost use Rattle.std.specs.Prelude.{◌≡◌, ◌++◌, ◌≤◌, drop, length};
 ghost use Rattle.sha2.specs.Sha256.{sha256};
 ghost use Rattle.test_signer.specs.Hmac.{hmac_sha256, key_block, masked, padded};
@@ -11,7 +12,7 @@ const INNER_PAD: u8 = 0x36;
 
 const OUTER_PAD: u8 = 0x5c;
 
-/// HMAC with SHA-256 (RFC 2104) under a key of any length. Takes no memory.
+/// HMAC with SHA-256 (RFC 2104) under a key of any length. Allocates nothing.
 #[tactic(auto, unfolding(crate::specs::Hmac::hmac_sha256))]
 pub(crate) fn hmac_sha256(key: &[u8], message: &[u8]) -> [u8; 32]
     ensures { result ≡ hmac_sha256 key.now message.now }

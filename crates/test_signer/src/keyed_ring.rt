@@ -1,3 +1,4 @@
+//! A ring of keys that anybody can derive.
 ghost use Rattle.std.specs.Prelude.{◌≡◌, ◌↔◌, true, IfOk, IsErr};
 ghost use Rattle.ebl_base.specs.Faults.{HasCause};
 ghost use Rattle.ebl_base.specs.Signature.{IsSignature};

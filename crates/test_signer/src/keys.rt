@@ -1,3 +1,4 @@
+//! The keys that anybody can derive.
 ghost use Rattle.std.specs.Prelude.{◌≡◌, ◌++◌, codes, Some};
 ghost use Rattle.sha2.specs.Sha256.{sha256};
 ghost use Rattle.ebl_base.specs.PlatformCode.{code_text};

@@ -1,3 +1,4 @@
+//! Tags, and the signatures that they are.
 ghost use Rattle.std.specs.Prelude.{◌≡◌, bytes_eq};
 ghost use Rattle.ebl_base.specs.Signature.{IsSignature, signature_bytes};
 

@@ -1,7 +1,7 @@
 //! Which rings sign for whom, and when they fail.
 use crate::tests::code;
 use crate::{FailingRing, KeyedRing};
-use ebl_base::{CallList, Failed};
+use ebl_base::{CallList, Copied, Failed};
 use signed_envelope::{Alg, KeyRing};
 use std::test::Fail;
 
@@ -43,5 +43,17 @@ fn listed_calls_fail(rt: HostRuntime) -> Result<(), Fail> {
         }
     }
     assert_eq!(rt; ring.alg(), Alg::Hs256);
+    Ok(())
+}
+
+#[test]
+fn copy_fails_at_the_same_calls(rt: HostRuntime) -> Result<(), Fail> {
+    let mut ring = FailingRing::derived(CallList::from_slice(rt.alloc(), &[1])?);
+    let alph = code(&rt, "ALPH");
+    assert!(rt; ring.sign(alph, b"input").is_ok());
+    let mut copy = ring.copy(rt.alloc())?;
+    assert!(rt; ring.sign(alph, b"input").is_err());
+    assert!(rt; copy.sign(alph, b"input").is_err());
+    assert!(rt; copy.sign(alph, b"input").is_ok());
     Ok(())
 }
