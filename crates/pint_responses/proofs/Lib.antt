@@ -1,10 +1,8 @@
-mod HeadLemmas
-mod PlainLemmas
 mod MemberLemmas
 mod Tails
 mod LawfulLemmas
 mod LengthLemmas
 mod WrittenLemmas
 mod TextLemmas
-mod SealedLemmas
+pub mod SealedLemmas
 mod ReadLemmas

@@ -1,12 +1,11 @@
--- What is read as a response, the form allows.
+-- A response that was read is well-formed.
 use Rattle.std.proofs.Common.{◌≡◌, ℕ, ℤ, Bool, true, false, cond, nat_le, is_some, List, [], ◌∷◌, Option, Some, None, Result, Ok, Err, codes, option_map, refl, ap, subst, ◌∙◌, All, arith}
 use Rattle.std.specs.Prelude.{option_and_then}
 use Rattle.std.proofs.lemmas.Bool.{and_parts}
 use Rattle.std.proofs.lemmas.List.Elements.{All-cons}
-use Rattle.canonical_json.specs.Field.{as_text, flag_of, int_of, list_of, member_of}
-use Rattle.canonical_json.specs.Value.{Value, Values, no_values, item}
-use Rattle.json_forms.specs.Reading.{all_of, checksum_if_any, checksum_in, if_any, in_form, needed, needed_if_any, number_in, number_under, with_more}
-use Rattle.json_forms.specs.declared.reading.OtherForm.{OtherForm}
+use Rattle.canonical_json.specs.Field.{as_text, flag_of, int_of, list_of, member_of, under}
+use Rattle.canonical_json.specs.Value.{Value, Values, no_values, item, null, flag, int, decimal, text, list, object, Members, no_members, member}
+use Rattle.json_forms.specs.Reading.{all_of, optional_checksum, checksum_in, optional, in_form, required, unless_malformed, number_in, required_number, with_more}
 use Rattle.json_forms.proofs.RoundTrips.{number_in-within}
 use Rattle.document_checksum.specs.Digest.{IsChecksum}
 use Rattle.document_checksum.specs.Text.{checksum_of_text}
@@ -19,11 +18,15 @@ use Rattle.ebl_base.specs.declared.reason.Reason.{Reason}
 use Rattle.ebl_base.specs.declared.reason.Reason.TheVariants.{Body, Document, Length, Signature, Entry, Signer, Link, Bill, Carrier, Platform, Fold, Move, ManifestSignature, ManifestForm, ManifestNames, Destination, Party, Parts, NotListed, Bytes}
 use Rattle.ebl_base.specs.declared.signed_text.SignedText.{SignedText}
 use Rattle.ebl_base.proofs.AnswerLemmas.{code_for-reason_at}
-use Rattle.pint_responses.specs.Reading.{IsEvidenceUnder, IsResponse, at_index, code_under, head, head_of, indexed, reason_if_any, reason_in, with_code}
-use Rattle.pint_responses.specs.Response.{IsAllowed, IsChecksumIfAny, IsEvidenceIfAny, IsReasonOf, comes_with, is_place}
+use Rattle.pint_responses.specs.Reading.{at_index, evidence_of, indexed, optional_reason, optional_signed, reason_in, reason_under, required_code, required_missing, response_of, signed_in, with_code}
+use Rattle.pint_responses.specs.Response.{IsAllowed, IsOptionalChecksum, IsOptionalUtf8, IsReasonOf, comes_with, is_place}
 use Rattle.pint_responses.specs.declared.fault.ResponseField.{ResponseField}
 use Rattle.pint_responses.specs.declared.fault.ResponseField.TheVariants as fields
-use Rattle.pint_responses.specs.declared.reading.Head.{Head}
+use Rattle.ebl_base.specs.declared.evidence.Evidence.{Evidence}
+use Rattle.std.specs.Str.{IsUtf8}
+use Rattle.std.specs.Prelude.{bytes_eq}
+use Rattle.canonical_json.specs.Lawful.{HasTexts, MembersHaveTexts}
+use Rattle.json_forms.proofs.ReadForms.{required-parts, then_read-parts, unless_malformed-parts}
 use Rattle.pint_responses.specs.declared.response.Response.{Response}
 
 -- ---- checksums
@@ -34,14 +37,14 @@ of_text None c h = cc h
 of_text (Some t) c h = IsChecksum-checksum_of_text t c h
 
 if_formed : (f : Option Checksum) (o : Option Checksum) → ((c : Checksum) → f ≡ Some c → IsChecksum c)
-    → in_form f ≡ Ok o → IsChecksumIfAny o
+    → in_form f ≡ Ok o → IsOptionalChecksum o
 if_formed None o each h = cc h
 if_formed (Some c) o each h =
-    let same : Some c ≡ o = cc h in subst IsChecksumIfAny same (each c refl)
+    let same : Some c ≡ o = cc h in subst IsOptionalChecksum same (each c refl)
 
-checksum_if_any-is : (m : Option Value) (o : Option Checksum) → if_any checksum_in m ≡ Ok o → IsChecksumIfAny o
-checksum_if_any-is None o h = let same : None ≡ o = cc h in subst IsChecksumIfAny same tt
-checksum_if_any-is (Some v) o h = if_formed (checksum_in v) o (λ c. of_text (as_text v) c) h
+optional_checksum-is : (m : Option Value) (o : Option Checksum) → optional checksum_in m ≡ Ok o → IsOptionalChecksum o
+optional_checksum-is None o h = let same : None ≡ o = cc h in subst IsOptionalChecksum same tt
+optional_checksum-is (Some v) o h = if_formed (checksum_in v) o (λ c. of_text (as_text v) c) h
 
 one_more : (first : Option Checksum) (more : Option (List Checksum)) (xs : List Checksum)
     → ((c : Checksum) → first ≡ Some c → IsChecksum c) → ((ys : List Checksum) → more ≡ Some ys → All IsChecksum ys)
@@ -92,10 +95,10 @@ reason_formed : (code : Code) (f : Option Reason) (o : Option Reason)
 reason_formed code None o each h = cc h
 reason_formed code (Some x) o each h = let same : Some x ≡ o = cc h in subst (ComesWith code) same (each x refl)
 
-reason_if_any-is : (code : Code) (m : Option Value) (o : Option Reason) → if_any (reason_in code) m ≡ Ok o
+optional_reason-is : (code : Code) (m : Option Value) (o : Option Reason) → optional (reason_in code) m ≡ Ok o
     → ComesWith code o
-reason_if_any-is code None o h = let same : None ≡ o = cc h in subst (ComesWith code) same tt
-reason_if_any-is code (Some v) o h = reason_formed code (reason_in code v) o (λ x. of_reason_text code (as_text v) x) h
+optional_reason-is code None o h = let same : None ≡ o = cc h in subst (ComesWith code) same tt
+optional_reason-is code (Some v) o h = reason_formed code (reason_in code v) o (λ x. of_reason_text code (as_text v) x) h
 
 without-is : (b : Bool) (x y : Option Reason) → cond b None (Some x) ≡ Some y → x ≡ y
 without-is true x y h = cc h
@@ -140,7 +143,7 @@ at_index-is v code reason None o index comes h =
     let same : Some reason ≡ o = without-is (is_some (member_of (codes "index") v)) (Some reason) o h in
     subst (IsReasonOf code) same (comes, ap is_place index)
 at_index-is v code reason (Some first) o index comes h =
-    let at = mapped (number_under (codes "index") 0 63 v) reason o h in
+    let at = mapped (required_number (codes "index") 0 63 v) reason o h in
     let small : nat_le at.0 63 ≡ true = number-is (int_of (codes "index") v) at.0 at.1 in
     let comes_there : comes_with code (reason_at at.0 reason) ≡ true =
     ap (λ other. response_code_eq other code) (code_for-reason_at at.0 reason) ∙ comes in
@@ -152,53 +155,93 @@ indexed-is v code None o comes h =
     let same : None ≡ o = without-is (is_some (member_of (codes "index") v)) None o h in subst (IsReasonOf code) same tt
 indexed-is v code (Some reason) o comes h = at_index-is v code reason (reason_index reason) o refl comes h
 
+reason_is : (code : Code) (v : Value) (o : Option Reason) → reason_under code v ≡ Ok o → IsReasonOf code o
+reason_is code v o h =
+    let found = unless_malformed-parts fields.Reason (optional_reason code v) _ o h in
+    let reason = required-parts fields.Index (indexed v found.0) Ok o found.2 in
+    let same : reason.0 ≡ o = cc reason.2 in
+    subst (IsReasonOf code) same (indexed-is v code found.0 reason.0
+    (optional_reason-is code (member_of (codes "reason") v) found.0 found.1) reason.1)
+
+-- ---- evidence
+
+-- a member of a value with texts has texts
+under-texts : (name : List ℕ) (ms : Members) (w : Value) → MembersHaveTexts ms → under name ms ≡ Some w → HasTexts w
+under-texts name no_members w h e = cc e
+under-texts name (member other v ms) w h e = by_test (under-texts name ms w h.2) (bytes_eq other name) e
+  where
+    by_test : (under name ms ≡ Some w → HasTexts w) → (b : Bool) → cond b (Some v) (under name ms) ≡ Some w → HasTexts w
+    by_test deeper true f = let same : v ≡ w = cc in subst HasTexts same h.1
+    by_test deeper false f = deeper f
+
+member-texts : (name : List ℕ) (v w : Value) → HasTexts v → member_of name v ≡ Some w → HasTexts w
+member-texts name null w h e = cc e
+member-texts name (flag b) w h e = cc e
+member-texts name (int z) w h e = cc e
+member-texts name (decimal z n) w h e = cc e
+member-texts name (text t) w h e = cc e
+member-texts name (list vs) w h e = cc e
+member-texts name (object ms) w h e = under-texts name ms w h e
+
+signed-utf8 : (w : Value) (t : SignedText) → HasTexts w → signed_in w ≡ Some t → IsUtf8 t.0
+signed-utf8 null t h e = cc e
+signed-utf8 (flag b) t h e = cc e
+signed-utf8 (int z) t h e = cc e
+signed-utf8 (decimal z n) t h e = cc e
+signed-utf8 (text s) t h e =
+    let made : SignedText = record { 0 = s } in
+    let same : made ≡ t = cc e in
+    subst (λ (x : SignedText). IsUtf8 x.0) same h
+signed-utf8 (list vs) t h e = cc e
+signed-utf8 (object ms) t h e = cc e
+
+formed-utf8 : (f o : Option SignedText) → ((t : SignedText) → f ≡ Some t → IsUtf8 t.0) → in_form f ≡ Ok o
+    → IsOptionalUtf8 o
+formed-utf8 None o each h = cc h
+formed-utf8 (Some t) o each h = let same : Some t ≡ o = cc h in subst IsOptionalUtf8 same (each t refl)
+
+signed-is : (name : List ℕ) (v : Value) (o : Option SignedText) → HasTexts v → optional_signed name v ≡ Ok o
+    → IsOptionalUtf8 o
+signed-is name v o texts h = by_member (member_of name v) refl h
+  where
+    by_member : (m : Option Value) → member_of name v ≡ m → optional signed_in m ≡ Ok o → IsOptionalUtf8 o
+    by_member None e f = let same : None ≡ o = cc f in subst IsOptionalUtf8 same tt
+    by_member (Some w) e f = formed-utf8 (signed_in w) o (λ t. signed-utf8 w t (member-texts name v w texts e)) f
+
 -- ---- the whole
 
-needed-ok : {A B : Type 0} (field : ResponseField) (o : Option A) (next : A → Result B ResponseField) (y : B)
-    → needed field o next ≡ Ok y → (x : A) × (o ≡ Some x) × (next x ≡ Ok y)
-needed-ok field None next y h = cc h
-needed-ok field (Some x) next y h = (x, refl, h)
+ok_same : {A : Type 0} (x y : A) (read : Result A ResponseField) → read ≡ Ok x → read ≡ Ok y → x ≡ y
+ok_same x y read first second = cc
 
-formed-ok : {A B : Type 0} (field : ResponseField) (r : Result A OtherForm) (next : A → Result B ResponseField) (y : B)
-    → needed_if_any field r next ≡ Ok y → (x : A) × (r ≡ Ok x) × (next x ≡ Ok y)
-formed-ok field (Err other) next y h = cc h
-formed-ok field (Ok x) next y h = (x, refl, h)
-
--- what the form allows of these members
-record IsHead (h : Head) : Type 0 where
-  bill : IsChecksumIfAny h.bill
-  last : IsChecksumIfAny h.last
-  reason : IsReasonOf h.code h.reason
-
-head_is_allowed : (v : Value) (h : Head) → head_of v ≡ Ok h → IsHead h
-head_is_allowed v h e =
-    let code = needed-ok fields.ResponseCode (code_under v) _ h e in
-    let bill = formed-ok fields.Bill (checksum_if_any (codes "bill") v) _ h code.2 in
-    let last = formed-ok fields.Last (checksum_if_any (codes "last") v) _ h bill.2 in
-    let standing = needed-ok fields.Standing (flag_of (codes "standing") v) _ h last.2 in
-    let found = formed-ok fields.Reason (reason_if_any code.0 v) _ h standing.2 in
-    let reason = needed-ok fields.Index (indexed v found.0) _ h found.2 in
-    let made : Head = record { code = code.0; bill = bill.0; last = last.0; standing = standing.0; reason = reason.0 } in
-    let same : made ≡ h = cc reason.2 in
-    subst IsHead same (record {
-      bill = checksum_if_any-is (member_of (codes "bill") v) bill.0 bill.1;
-      last = checksum_if_any-is (member_of (codes "last") v) last.0 last.1;
-      reason = indexed-is v code.0 found.0 reason.0
-          (reason_if_any-is code.0 (member_of (codes "reason") v) found.0 found.1) reason.1;
+pub read_is_allowed : (v : Value) (r : Response) → HasTexts v → response_of v ≡ Ok r → IsAllowed r
+read_is_allowed v r texts h =
+    let code = required-parts fields.ResponseCode (required_code v) _ r h in
+    let bill = unless_malformed-parts fields.Bill (optional_checksum (codes "bill") v) _ r code.2 in
+    let last = unless_malformed-parts fields.Last (optional_checksum (codes "last") v) _ r bill.2 in
+    let standing = required-parts fields.Standing (flag_of (codes "standing") v) _ r last.2 in
+    let reason = then_read-parts (reason_under code.0 v) _ r standing.2 in
+    let missing = required-parts fields.Missing (required_missing v) _ r reason.2 in
+    let evidence = then_read-parts (evidence_of v) _ r missing.2 in
+    let own = unless_malformed-parts fields.Own (optional_signed (codes "own") v) _ evidence.0 evidence.1 in
+    let theirs = unless_malformed-parts fields.Theirs (optional_signed (codes "theirs") v) _ evidence.0 own.2 in
+    let shown : Evidence = record { own = own.0; theirs = theirs.0 } in
+    let found : shown ≡ evidence.0 = ok_same shown evidence.0 (Ok shown) refl theirs.2 in
+    let made : Response = record {
+      code = code.0;
+      bill = bill.0;
+      last = last.0;
+      standing = standing.0;
+      reason = reason.0;
+      missing = missing.0;
+      evidence = evidence.0;
+    } in
+    let same : made ≡ r = ok_same made r (Ok made) refl evidence.2 in
+    subst IsAllowed same (record {
+      bill = optional_checksum-is (member_of (codes "bill") v) bill.0 bill.1;
+      last = optional_checksum-is (member_of (codes "last") v) last.0 last.1;
+      reason = reason_is code.0 v reason.0 reason.1;
+      missing = listed_checksums (list_of (codes "missing") v) missing.0 missing.1;
+      own = subst (λ (e : Evidence). IsOptionalUtf8 e.own) found (signed-is (codes "own") v own.0 texts own.1);
+      theirs = subst (λ (e : Evidence). IsOptionalUtf8 e.theirs) found
+          (signed-is (codes "theirs") v theirs.0 texts theirs.1);
     })
-
-evidence_is_allowed : (name : List ℕ) (v : Value) (o : Option SignedText) → IsEvidenceUnder name v o → IsEvidenceIfAny o
-evidence_is_allowed name v None h = tt
-evidence_is_allowed name v (Some t) h = h.1
-
-pub read_is_allowed : (v : Value) (r : Response) → IsResponse v r → IsAllowed r
-read_is_allowed v r is =
-    let front = head_is_allowed v (head r) is.head_is in
-    record {
-      bill = front.bill;
-      last = front.last;
-      reason = front.reason;
-      missing = listed_checksums (list_of (codes "missing") v) r.missing is.missing;
-      own = evidence_is_allowed (codes "own") v r.evidence.own is.own;
-      theirs = evidence_is_allowed (codes "theirs") v r.evidence.theirs is.theirs;
-    }

@@ -4,8 +4,8 @@ use Rattle.std.specs.Prelude.{option_and_then}
 use Rattle.std.proofs.lemmas.Bool.Decides.{nat_tests}
 use Rattle.canonical_json.specs.Field.{flag_of, member_of, under}
 use Rattle.canonical_json.specs.Value.{Value, flag, Members, no_members}
-use Rattle.json_forms.specs.Reading.{all_of, checksum_if_any, checksum_in, number_under}
-use Rattle.json_forms.specs.Writing.{checksum_value, checksums_value, each_written, member_if_any}
+use Rattle.json_forms.specs.Reading.{all_of, optional_checksum, checksum_in, required_number}
+use Rattle.json_forms.specs.Writing.{checksum_value, checksums_value, each_written, optional_member}
 use Rattle.document_checksum.specs.Digest.{IsChecksum}
 use Rattle.document_checksum.proofs.Texts.{checksum_of_text-checksum_text}
 use Rattle.ebl_base.specs.Reason.{reason_at, reason_index}
@@ -15,8 +15,8 @@ use Rattle.ebl_base.specs.declared.reason.Reason.{Reason}
 use Rattle.ebl_base.specs.declared.reason.Reason.TheVariants.{Body, Document, Length, Signature, Entry, Signer, Link, Bill, Carrier, Platform, Fold, Move, ManifestSignature, ManifestForm, ManifestNames, Destination, Party, Parts, NotListed, Bytes}
 use Rattle.ebl_base.specs.declared.signed_text.SignedText.{SignedText}
 use Rattle.ebl_base.proofs.AnswerLemmas.{code_for-reason_at, reason_of-reason_text, response_code_of-response_code_text}
-use Rattle.pint_responses.specs.Reading.{IsEvidenceUnder, IsResponse, code_under, head_of, indexed, reason_if_any, reason_in}
-use Rattle.pint_responses.specs.Response.{IsAllowed, IsChecksumIfAny, IsEvidenceIfAny, IsReasonOf, comes_with}
+use Rattle.pint_responses.specs.Reading.{indexed, optional_reason, optional_signed, reason_in, required_code, required_missing, response_of}
+use Rattle.pint_responses.specs.Response.{IsAllowed, IsOptionalChecksum, IsReasonOf, comes_with}
 use Rattle.pint_responses.specs.Writing.{code_value, evidence_value, place_value, reason_value, response_members, response_value}
 use Rattle.pint_responses.specs.declared.response.Response.{Response}
 use Rattle.pint_responses.proofs.Tails.{from_code, from_index, from_last, from_missing, from_reason}
@@ -25,14 +25,14 @@ use Rattle.pint_responses.proofs.Tails.{from_code, from_index, from_last, from_m
 
 -- a member of another name is passed over
 skip : {T : Type 0} (name other : List ℕ) (write : T → Value) (o : Option T) (rest : Members)
-    → bytes_eq other name ≡ false → under name (member_if_any other write o rest) ≡ under name rest
+    → bytes_eq other name ≡ false → under name (optional_member other write o rest) ≡ under name rest
 skip name other write None rest h = refl
 skip name other write (Some x) rest h = rw h refl
 
 -- the member of the name, where there is none behind
 found : {T : Type 0} (name : List ℕ) (write : T → Value) (o : Option T) (rest : Members)
     → bytes_eq name name ≡ true → under name rest ≡ None
-    → under name (member_if_any name write o rest) ≡ option_map write o
+    → under name (optional_member name write o rest) ≡ option_map write o
 found name write None rest h none = none
 found name write (Some x) rest h none = rw h refl
 
@@ -117,7 +117,7 @@ under_theirs r =
 -- ---- what each of them is read as
 
 checksum-written : (name : List ℕ) (v : Value) (o : Option Checksum) → member_of name v ≡ option_map checksum_value o
-    → IsChecksumIfAny o → checksum_if_any name v ≡ Ok o
+    → IsOptionalChecksum o → optional_checksum name v ≡ Ok o
 checksum-written name v None h is = rw h refl
 checksum-written name v (Some c) h is = rw (h, checksum_of_text-checksum_text c is) refl
 
@@ -128,7 +128,7 @@ reason_in-written code reason h =
 
 reason-written : (code : Code) (v : Value) (o : Option Reason)
     → member_of (codes "reason") v ≡ option_map reason_value o
-    → IsReasonOf code o → reason_if_any code v ≡ Ok (option_map (reason_at 0) o)
+    → IsReasonOf code o → optional_reason code v ≡ Ok (option_map (reason_at 0) o)
 reason-written code v None h is = rw h refl
 reason-written code v (Some reason) h is = rw (h, reason_in-written code reason is.0) refl
 
@@ -163,7 +163,7 @@ entry_of Bytes = inl (refl, refl, refl)
 
 -- the place of an entry reads as itself
 place-written : (v : Value) (place : ℕ) → member_of (codes "index") v ≡ Some (place_value place)
-    → nat_le place 63 ≡ true → number_under (codes "index") 0 63 v ≡ Some place
+    → nat_le place 63 ≡ true → required_number (codes "index") 0 63 v ≡ Some place
 place-written v place h small =
     let same : min place 9007199254740991 ≡ place = grind (arith, nat_tests) in
     let low : nat_le 0 place ≡ true = grind (arith, nat_tests) in
@@ -185,9 +185,9 @@ index-written v (Some reason) code h is = by_entry (entry_of reason)
         rw (at.2, place-written v at.0 some small, at.3) refl
 
 evidence-written : (name : List ℕ) (v : Value) (o : Option SignedText) → member_of name v ≡ option_map evidence_value o
-    → IsEvidenceIfAny o → IsEvidenceUnder name v o
-evidence-written name v None h is = h
-evidence-written name v (Some text) h is = (rw h refl, is)
+    → optional_signed name v ≡ Ok o
+evidence-written name v None h = rw h refl
+evidence-written name v (Some text) h = rw h refl
 
 missing-written : (checksums : List Checksum) → All IsChecksum checksums
     → all_of checksum_in (each_written checksum_value checksums) ≡ Some checksums
@@ -199,27 +199,36 @@ missing-written (c ∷ cs) all =
 
 -- ---- the whole
 
--- the members that take no memory, by what each of them is
-head_of-members : (v : Value) (code : Code) (bill last : Option Checksum) (standing : Bool)
-    (text reason : Option Reason)
-    → code_under v ≡ Some code → checksum_if_any (codes "bill") v ≡ Ok bill
-    → checksum_if_any (codes "last") v ≡ Ok last → flag_of (codes "standing") v ≡ Some standing
-    → reason_if_any code v ≡ Ok text → indexed v text ≡ Some reason
-    → head_of v ≡ Ok (record { code = code; bill = bill; last = last; standing = standing; reason = reason })
-head_of-members v code bill last standing text reason h1 h2 h3 h4 h5 h6 = rw (h1, h2, h3, h4, h5, h6) refl
+-- the response with these members
+response_of-members : (v : Value) (code : Code) (bill last : Option Checksum) (standing : Bool)
+    (text reason : Option Reason) (missing : List Checksum) (own theirs : Option SignedText)
+    → required_code v ≡ Some code → optional_checksum (codes "bill") v ≡ Ok bill
+    → optional_checksum (codes "last") v ≡ Ok last → flag_of (codes "standing") v ≡ Some standing
+    → optional_reason code v ≡ Ok text → indexed v text ≡ Some reason → required_missing v ≡ Some missing
+    → optional_signed (codes "own") v ≡ Ok own → optional_signed (codes "theirs") v ≡ Ok theirs
+    → response_of v ≡ Ok (record {
+      code = code;
+      bill = bill;
+      last = last;
+      standing = standing;
+      reason = reason;
+      missing = missing;
+      evidence = record { own = own; theirs = theirs };
+    })
+response_of-members v code bill last standing text reason missing own theirs h1 h2 h3 h4 h5 h6 h7 h8 h9 =
+    rw (h1, h2, h3, h4, h5, h6, h7, h8, h9) refl
 
--- what the form allows is read as it is written
-pub written_is_read : (r : Response) → IsAllowed r → IsResponse (response_value r) r
-written_is_read r is = record {
-  head_is =
-      head_of-members (response_value r) r.code r.bill r.last r.standing (option_map (reason_at 0) r.reason) r.reason
-      (rw (under_responseCode r) (response_code_of-response_code_text r.code))
-      (checksum-written (codes "bill") (response_value r) r.bill (under_bill r) is.bill)
-      (checksum-written (codes "last") (response_value r) r.last (under_last r) is.last)
-      (rw (under_standing r) refl)
-      (reason-written r.code (response_value r) r.reason (under_reason r) is.reason)
-      (index-written (response_value r) r.reason r.code (under_index r) is.reason);
-  missing = rw (under_missing r) (missing-written r.missing is.missing);
-  own = evidence-written (codes "own") (response_value r) r.evidence.own (under_own r) is.own;
-  theirs = evidence-written (codes "theirs") (response_value r) r.evidence.theirs (under_theirs r) is.theirs;
-}
+-- a well-formed response is read as it is written
+pub written_is_read : (r : Response) → IsAllowed r → response_of (response_value r) ≡ Ok r
+written_is_read r is =
+    response_of-members (response_value r) r.code r.bill r.last r.standing (option_map (reason_at 0) r.reason) r.reason
+    r.missing r.evidence.own r.evidence.theirs
+    (rw (under_responseCode r) (response_code_of-response_code_text r.code))
+    (checksum-written (codes "bill") (response_value r) r.bill (under_bill r) is.bill)
+    (checksum-written (codes "last") (response_value r) r.last (under_last r) is.last)
+    (rw (under_standing r) refl)
+    (reason-written r.code (response_value r) r.reason (under_reason r) is.reason)
+    (index-written (response_value r) r.reason r.code (under_index r) is.reason)
+    (rw (under_missing r) (missing-written r.missing is.missing))
+    (evidence-written (codes "own") (response_value r) r.evidence.own (under_own r))
+    (evidence-written (codes "theirs") (response_value r) r.evidence.theirs (under_theirs r))

@@ -1,24 +1,26 @@
 -- Which values are responses, and which member of another value is the first that is wrong.
-use Rattle.std.specs.Prelude.{◌≡◌, ℕ, List, Option, Some, None, Result, Ok, Err, IsOk, IsSome, codes, option_and_then, option_map, is_some, if◌then◌else◌}
+use Rattle.std.specs.Prelude.{◌≡◌, ℕ, List, Option, Some, None, Result, Ok, Err, codes, option_and_then, option_map, is_some, if◌then◌else◌}
 use Rattle.canonical_json.specs.Value.{Value}
 use Rattle.canonical_json.specs.Field.{as_text, flag_of, list_of, member_of, text_of}
-use Rattle.json_forms.specs.Reading.{all_of, checksum_if_any, checksum_in, if_any, needed, needed_if_any, number_under}
-use Rattle.json_forms.specs.declared.reading.OtherForm.{OtherForm}
+use Rattle.json_forms.specs.Reading.{all_of, checksum_in, optional, optional_checksum, required, required_number, then_read, unless_malformed}
+use Rattle.json_forms.specs.declared.reading.Malformed.{Malformed}
 use Rattle.ebl_base.specs.Code.{response_code_of}
 use Rattle.ebl_base.specs.Reason.{reason_at, reason_index, reason_of}
 use Rattle.ebl_base.specs.declared.checksum.Checksum.{Checksum}
 use Rattle.ebl_base.specs.declared.code.Code.{Code}
+use Rattle.ebl_base.specs.declared.evidence.Evidence.{Evidence}
 use Rattle.ebl_base.specs.declared.reason.Reason.{Reason}
 use Rattle.ebl_base.specs.declared.signed_text.SignedText.{SignedText}
-use Rattle.pint_responses.specs.Response.{IsEvidence, comes_with}
+use Rattle.pint_responses.specs.Response.{comes_with}
 use Rattle.pint_responses.specs.declared.fault.ResponseField.{ResponseField}
 use Rattle.pint_responses.specs.declared.fault.ResponseField.TheVariants as fields
-use Rattle.pint_responses.specs.declared.reading.Head.{Head}
+use Rattle.pint_responses.specs.declared.fault.UnsealFault.{UnsealFault}
+use Rattle.pint_responses.specs.declared.fault.UnsealFault.TheVariants.{Signature, Form, NoMemory}
 use Rattle.pint_responses.specs.declared.response.Response.{Response}
 
 -- the code under its name
-abbrev pub code_under : Value → Option Code
-code_under v = option_and_then response_code_of (text_of (codes "responseCode") v)
+abbrev pub required_code : Value → Option Code
+required_code v = option_and_then response_code_of (text_of (codes "responseCode") v)
 
 -- a reason that comes with the code
 abbrev pub with_code : Code → Reason → Option Reason
@@ -29,8 +31,8 @@ abbrev pub reason_in : Code → Value → Option Reason
 reason_in code v = option_and_then (λ text. option_and_then (with_code code) (reason_of text)) (as_text v)
 
 -- the reason under its name, if there is one
-abbrev pub reason_if_any : Code → Value → Result (Option Reason) OtherForm
-reason_if_any code v = if_any (reason_in code) (member_of (codes "reason") v)
+abbrev pub optional_reason : Code → Value → Result (Option Reason) Malformed
+optional_reason code v = optional (reason_in code) (member_of (codes "reason") v)
 
 -- a reason of no entry, where there is no index
 abbrev pub without_index : Value → Option Reason → Option (Option Reason)
@@ -40,54 +42,59 @@ without_index v reason = if is_some (member_of (codes "index") v) then None else
 abbrev pub at_index : Value → Reason → Option ℕ → Option (Option Reason)
 at_index v reason None = without_index v (Some reason)
 at_index v reason (Some first) =
-    option_map (λ place. Some (reason_at place reason)) (number_under (codes "index") 0 63 v)
+    option_map (λ place. Some (reason_at place reason)) (required_number (codes "index") 0 63 v)
 
 -- the reason with its index
 abbrev pub indexed : Value → Option Reason → Option (Option Reason)
 indexed v None = without_index v None
 indexed v (Some reason) = at_index v reason (reason_index reason)
 
--- the members that take no memory, or the first of them that is wrong
-abbrev pub head_of : Value → Result Head ResponseField
-head_of v =
-    needed fields.ResponseCode (code_under v) (λ code.
-    needed_if_any fields.Bill (checksum_if_any (codes "bill") v) (λ bill.
-    needed_if_any fields.Last (checksum_if_any (codes "last") v) (λ last.
-    needed fields.Standing (flag_of (codes "standing") v) (λ standing.
-    needed_if_any fields.Reason (reason_if_any code v) (λ text.
-    needed fields.Index (indexed v text) (λ reason.
-    Ok (record { code = code; bill = bill; last = last; standing = standing; reason = reason })))))))
+-- the reason with its index, or which of the two members is wrong
+abbrev pub reason_under : Code → Value → Result (Option Reason) ResponseField
+reason_under code v =
+    unless_malformed fields.Reason (optional_reason code v) (λ reason. required fields.Index (indexed v reason) Ok)
 
 -- the checksums under `missing`
-abbrev pub missing_of : Value → Option (List Checksum)
-missing_of v = option_and_then (all_of checksum_in) (list_of (codes "missing") v)
+abbrev pub required_missing : Value → Option (List Checksum)
+required_missing v = option_and_then (all_of checksum_in) (list_of (codes "missing") v)
 
--- the member of that name is this text, in the compact layout within 16,384 bytes; or there is none
-abbrev pub IsEvidenceUnder : List ℕ → Value → Option SignedText → Type 0
-IsEvidenceUnder name v None = member_of name v ≡ None
-IsEvidenceUnder name v (Some text) = (text_of name v ≡ Some text.0) × IsEvidence text.0
+-- a text, as one that may be signed
+abbrev pub signed_in : Value → Option SignedText
+signed_in v = option_map (λ t. record { 0 = t }) (as_text v)
 
--- the member of that name is there, and is no such text
-abbrev pub IsNoEvidenceUnder : List ℕ → Value → Type 0
-IsNoEvidenceUnder name v = (evidence : Option SignedText) → ¬ IsEvidenceUnder name v evidence
+-- the text under a name, if there is one
+abbrev pub optional_signed : List ℕ → Value → Result (Option SignedText) Malformed
+optional_signed name v = optional signed_in (member_of name v)
 
--- the members of a response that take no memory
-abbrev pub head : Response → Head
-head r = record { code = r.code; bill = r.bill; last = r.last; standing = r.standing; reason = r.reason }
+-- the two entries that are shown, or which of them is wrong
+abbrev pub evidence_of : Value → Result Evidence ResponseField
+evidence_of v =
+    unless_malformed fields.Own (optional_signed (codes "own") v) (λ own.
+    unless_malformed fields.Theirs (optional_signed (codes "theirs") v) (λ theirs.
+    Ok (record { own = own; theirs = theirs })))
 
--- the value is the response; further members are ignored
-pub record IsResponse (v : Value) (r : Response) : Type 0 where
-  pub head_is : head_of v ≡ Ok (head r)
-  pub missing : missing_of v ≡ Some r.missing
-  pub own : IsEvidenceUnder (codes "own") v r.evidence.own
-  pub theirs : IsEvidenceUnder (codes "theirs") v r.evidence.theirs
+-- the response that a value is, or the first member that is absent or malformed; further members are ignored
+abbrev pub response_of : Value → Result Response ResponseField
+response_of v =
+    required fields.ResponseCode (required_code v) (λ code.
+    unless_malformed fields.Bill (optional_checksum (codes "bill") v) (λ bill.
+    unless_malformed fields.Last (optional_checksum (codes "last") v) (λ last.
+    required fields.Standing (flag_of (codes "standing") v) (λ standing.
+    then_read (reason_under code v) (λ reason.
+    required fields.Missing (required_missing v) (λ missing.
+    then_read (evidence_of v) (λ evidence.
+    Ok (record {
+      code = code;
+      bill = bill;
+      last = last;
+      standing = standing;
+      reason = reason;
+      missing = missing;
+      evidence = evidence;
+    }))))))))
 
--- the member is the first that is wrong
-abbrev pub IsFirstWrong : Value → ResponseField → Type 0
-IsFirstWrong v fields.Missing = IsOk (head_of v) × (missing_of v ≡ None)
-IsFirstWrong v fields.Own =
-    IsOk (head_of v) × IsSome (missing_of v) × IsNoEvidenceUnder (codes "own") v
-IsFirstWrong v fields.Theirs =
-    IsOk (head_of v) × IsSome (missing_of v)
-    × ((own : Option SignedText) × IsEvidenceUnder (codes "own") v own) × IsNoEvidenceUnder (codes "theirs") v
-IsFirstWrong v field = head_of v ≡ Err field
+-- the fault is the first wrong member, or memory ran out
+abbrev pub IsFormFault : {T : Type 0} → Result T ResponseField → UnsealFault → Type 0
+IsFormFault read (Signature why) = ⊥
+IsFormFault read (Form field) = read ≡ Err field
+IsFormFault read NoMemory = Unit {0}

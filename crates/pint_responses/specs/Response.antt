@@ -1,4 +1,4 @@
--- Which responses can be sealed, and which of them the form allows.
+-- Which responses can be sealed, and which are well-formed.
 use Rattle.std.specs.Prelude.{◌≡◌, ℕ, ◌≤◌, Bool, true, List, Option, Some, None, All, length, nat_le}
 use Rattle.ebl_base.specs.Code.{response_code_eq}
 use Rattle.ebl_base.specs.Reason.{code_for, reason_index}
@@ -7,38 +7,36 @@ use Rattle.ebl_base.specs.declared.code.Code.{Code}
 use Rattle.ebl_base.specs.declared.reason.Reason.{Reason}
 use Rattle.ebl_base.specs.declared.signed_text.SignedText.{SignedText}
 use Rattle.document_checksum.specs.Digest.{IsChecksum}
-use Rattle.signed_envelope.specs.Compact.{IsCompact}
-use Rattle.signed_envelope.specs.declared.compact.Parts.{Parts}
+use Rattle.std.specs.Str.{IsUtf8}
+use Rattle.json_forms.specs.Writing.{HasDigits}
+use Rattle.signed_envelope.specs.Compact.{IsCompactText}
 use Rattle.pint_responses.specs.declared.response.Response.{Response}
 
 -- a text in the compact layout, within 16,384 bytes
 abbrev pub IsEvidence : List ℕ → Type 0
-IsEvidence text = (parts : Parts) × IsCompact 16384 text parts
+IsEvidence text = IsCompactText 16384 text
 
 -- so is the text, if there is one
-abbrev pub IsEvidenceIfAny : Option SignedText → Type 0
-IsEvidenceIfAny None = Unit {0}
-IsEvidenceIfAny (Some text) = IsEvidence text.0
+abbrev pub IsOptionalEvidence : Option SignedText → Type 0
+IsOptionalEvidence None = Unit {0}
+IsOptionalEvidence (Some text) = IsEvidence text.0
 
 -- the response can be sealed, whatever its code and reason are
 pub record IsSealable (r : Response) : Type 0 where
   pub missing : length r.missing ≤ 16
-  pub own : IsEvidenceIfAny r.evidence.own
-  pub theirs : IsEvidenceIfAny r.evidence.theirs
+  pub own : IsOptionalEvidence r.evidence.own
+  pub theirs : IsOptionalEvidence r.evidence.theirs
 
--- for private clauses: a checksum has its 32 bytes, as its type says
-abbrev pub HasSize : Checksum → Type 0
-HasSize checksum = length checksum.0 ≡ 32
-
-abbrev pub HasSizeIfAny : Option Checksum → Type 0
-HasSizeIfAny None = Unit {0}
-HasSizeIfAny (Some checksum) = HasSize checksum
+-- for private clauses: the text of a checksum, if there is one, has its 64 digits
+abbrev pub HasOptionalDigits : Option Checksum → Type 0
+HasOptionalDigits None = Unit {0}
+HasOptionalDigits (Some checksum) = HasDigits checksum
 
 -- and so do those of a response
-pub record HaveSizes (r : Response) : Type 0 where
-  pub bill : HasSizeIfAny r.bill
-  pub last : HasSizeIfAny r.last
-  pub missing : All HasSize r.missing
+pub record HaveDigits (r : Response) : Type 0 where
+  pub bill : HasOptionalDigits r.bill
+  pub last : HasOptionalDigits r.last
+  pub missing : All HasDigits r.missing
 
 -- a reason comes with the code
 abbrev pub comes_with : Code → Reason → Bool
@@ -55,15 +53,20 @@ IsReasonOf code None = Unit {0}
 IsReasonOf code (Some reason) = (comes_with code reason ≡ true) × (is_place (reason_index reason) ≡ true)
 
 -- a checksum of 32 bytes, if there is one
-abbrev pub IsChecksumIfAny : Option Checksum → Type 0
-IsChecksumIfAny None = Unit {0}
-IsChecksumIfAny (Some checksum) = IsChecksum checksum
+abbrev pub IsOptionalChecksum : Option Checksum → Type 0
+IsOptionalChecksum None = Unit {0}
+IsOptionalChecksum (Some checksum) = IsChecksum checksum
 
--- the form of a response allows it
+-- a text is UTF-8, if there is one
+abbrev pub IsOptionalUtf8 : Option SignedText → Type 0
+IsOptionalUtf8 None = Unit {0}
+IsOptionalUtf8 (Some text) = IsUtf8 text.0
+
+-- a well-formed response
 pub record IsAllowed (r : Response) : Type 0 where
-  pub bill : IsChecksumIfAny r.bill
-  pub last : IsChecksumIfAny r.last
+  pub bill : IsOptionalChecksum r.bill
+  pub last : IsOptionalChecksum r.last
   pub reason : IsReasonOf r.code r.reason
   pub missing : All IsChecksum r.missing
-  pub own : IsEvidenceIfAny r.evidence.own
-  pub theirs : IsEvidenceIfAny r.evidence.theirs
+  pub own : IsOptionalUtf8 r.evidence.own
+  pub theirs : IsOptionalUtf8 r.evidence.theirs

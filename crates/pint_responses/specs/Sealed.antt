@@ -1,12 +1,12 @@
 -- What a sealed response is, and why a text is not taken as one.
-use Rattle.std.specs.Prelude.{◌≢◌, ℕ, List, Some}
+use Rattle.std.specs.Prelude.{◌≡◌, ◌≢◌, ℕ, List, Some, Ok, Err}
 use Rattle.ebl_base.specs.declared.platform_code.PlatformCode.{PlatformCode}
 use Rattle.canonical_json.specs.Value.{Value}
 use Rattle.signed_envelope.specs.KeyRing.{Keys}
 use Rattle.signed_envelope.specs.Refusal.{IsRefused}
 use Rattle.signed_envelope.specs.SignedText.{IsSigned}
 use Rattle.signed_envelope.specs.declared.fault.BadSigned.TheVariants as refusal
-use Rattle.pint_responses.specs.Reading.{IsFirstWrong, IsResponse}
+use Rattle.pint_responses.specs.Reading.{response_of}
 use Rattle.pint_responses.specs.declared.fault.UnsealFault.{UnsealFault}
 use Rattle.pint_responses.specs.declared.fault.UnsealFault.TheVariants.{Signature, Form, NoMemory}
 use Rattle.pint_responses.specs.declared.response.Response.{Response}
@@ -15,17 +15,11 @@ use Rattle.pint_responses.specs.declared.response.Response.{Response}
 pub record IsSealed (keys : Keys) (text : List ℕ) (who : PlatformCode) (r : Response) : Type 0 where
   pub payload : Value
   pub signed : IsSigned keys 65536 text who payload
-  pub response : IsResponse payload r
-
--- the payload is no response, first at this member; or memory ran out
-abbrev pub IsNoResponse : Value → UnsealFault → Type 0
-IsNoResponse payload (Signature why) = ⊥
-IsNoResponse payload (Form field) = IsFirstWrong payload field
-IsNoResponse payload NoMemory = Unit {0}
+  pub response : response_of payload ≡ Ok r
 
 -- the text is not signed by the platform; or its payload is no response; or memory ran out
 abbrev pub IsUnsealFault : Keys → List ℕ → PlatformCode → UnsealFault → Type 0
 IsUnsealFault keys text who (Signature why) = (why ≢ refusal.NoMemory) × IsRefused keys 65536 (Some who) text why
 IsUnsealFault keys text who (Form field) =
-    (payload : Value) × IsSigned keys 65536 text who payload × IsFirstWrong payload field
+    (payload : Value) × IsSigned keys 65536 text who payload × (response_of payload ≡ Err field)
 IsUnsealFault keys text who NoMemory = Unit {0}

@@ -1,8 +1,8 @@
 -- The one value that a response is written as, without further members.
-use Rattle.std.specs.Prelude.{ℕ, List, [], ◌∷◌, codes, min, option_and_then}
+use Rattle.std.specs.Prelude.{ℕ, List, [], ◌∷◌, codes, option_and_then}
 use Rattle.canonical_json.specs.Value.{Value, flag, text, object, Members, no_members, member}
 use Rattle.canonical_json.specs.View.{Entry}
-use Rattle.json_forms.specs.Writing.{checksum_value, checksums_value, member_if_any, number_value}
+use Rattle.json_forms.specs.Writing.{checksum_value, checksums_value, optional_member, capped_value}
 use Rattle.ebl_base.specs.Code.{response_code_text}
 use Rattle.ebl_base.specs.Reason.{reason_index, reason_text}
 use Rattle.ebl_base.specs.declared.code.Code.{Code}
@@ -17,7 +17,7 @@ in_front (entry ∷ entries) rest = member entry.0 entry.1 (in_front entries res
 
 -- the place of an entry; what no canonical number is, is written as the greatest one
 abbrev pub place_value : ℕ → Value
-place_value place = number_value (min place 9007199254740991)
+place_value = capped_value
 
 abbrev pub code_value : Code → Value
 code_value code = text (response_code_text code)
@@ -31,15 +31,15 @@ evidence_value evidence = text evidence.0
 -- the members, in the order of their names
 abbrev pub response_members : Response → Members
 response_members r =
-    member_if_any (codes "bill") checksum_value r.bill
-    (member_if_any (codes "index") place_value (option_and_then reason_index r.reason)
-    (member_if_any (codes "last") checksum_value r.last
+    optional_member (codes "bill") checksum_value r.bill
+    (optional_member (codes "index") place_value (option_and_then reason_index r.reason)
+    (optional_member (codes "last") checksum_value r.last
     (member (codes "missing") (checksums_value r.missing)
-    (member_if_any (codes "own") evidence_value r.evidence.own
-    (member_if_any (codes "reason") reason_value r.reason
+    (optional_member (codes "own") evidence_value r.evidence.own
+    (optional_member (codes "reason") reason_value r.reason
     (member (codes "responseCode") (code_value r.code)
     (member (codes "standing") (flag r.standing)
-    (member_if_any (codes "theirs") evidence_value r.evidence.theirs no_members))))))))
+    (optional_member (codes "theirs") evidence_value r.evidence.theirs no_members))))))))
 
 -- a response as a value
 abbrev pub response_value : Response → Value

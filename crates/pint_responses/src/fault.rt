@@ -29,18 +29,18 @@ pub enum ResponseField {
     Index,
     /// `missing`, a list of checksums.
     Missing,
-    /// `own`, a text of at most 16,384 bytes in the compact layout (RFC 7515, section 7.1), or no such member.
+    /// `own`, a text or no such member. Whether it is in the compact layout isn't asked here.
     Own,
-    /// `theirs`, of the same form as `own`.
+    /// `theirs`, a text or no such member.
     Theirs,
 }
 
 /// Why a text is not taken as a response of a platform.
 #[derive(Clone, Copy, Debug, PartialEq, Eq)]
 pub enum UnsealFault {
-    /// The text isn't signed by the platform within 65,536 bytes, for this cause, which is never want of memory.
+    /// The text isn't signed by the platform within 65,536 bytes, for this cause, which is never NoMemory.
     Signature(BadSigned),
-    /// The payload is no response: this is its first member that is absent or of another form. Where the payload is
+    /// The payload is no response: this is its first member that is absent or malformed. Where the payload is
     /// no object, that is the first member of all.
     Form(ResponseField),
     /// Memory ran out.

@@ -17,5 +17,5 @@ pub use laws::{
     written_response_is_read,
 };
 pub use response::Response;
-pub use sealing::seal;
+pub use sealing::{is_sealable, seal};
 pub use unsealing::unseal;

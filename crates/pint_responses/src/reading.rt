@@ -1,109 +1,83 @@
 //! The response that a value is, member by member.
-ghost use Rattle.std.specs.Prelude.{◌≡◌, IfErr, IfOk, IfNone, IfSome};
+ghost use Rattle.std.specs.Prelude.{◌≡◌, IfErr, IfOk};
 ghost use Rattle.canonical_json.specs.View.{view};
-ghost use Rattle.pint_responses.specs.Reading.{IsEvidenceUnder, IsNoEvidenceUnder, IsResponse, at_index, code_under, head_of, indexed, missing_of, reason_if_any, reason_in, with_code, without_index};
-ghost use Rattle.pint_responses.specs.Sealed.{IsNoResponse};
-ghost use Rattle.pint_responses.specs.Response.{IsEvidence, comes_with};
+ghost use Rattle.pint_responses.specs.Reading.{IsFormFault, at_index, evidence_of, indexed, optional_reason, optional_signed, reason_in, reason_under, required_code, required_missing, response_of, with_code, without_index};
+ghost use Rattle.pint_responses.specs.Response.{comes_with};
 
 use crate::fault::{ResponseField, UnsealFault};
 use crate::response::Response;
 use canonical_json::{Json, flag_of, list_of, member_of, text_of};
-use ebl_base::{ByteList, Checksum, ChecksumList, Code, Evidence, NoMemory, Reason, SignedText};
-use json_forms::{OtherForm, checksum_if_any, checksums_in, number_under};
-use signed_envelope::{SplitFault, split};
+use ebl_base::{ByteList, ChecksumList, Code, Evidence, NoMemory, Reason, SignedText};
+use json_forms::{Malformed, checksums_in, optional_checksum, required_number};
 use std::alloc::Global;
-
-/// The most bytes of an evidence text.
-const MOST: usize = 16_384;
 
 /// The greatest place of an entry in a chain.
 const LAST_PLACE: u64 = 63;
 
-/// The members of a response that are read without memory.
-#[derive(Clone, Copy, Debug, PartialEq, Eq)]
-pub(crate) struct Head {
-    pub code: Code,
-    pub bill: Option<Checksum>,
-    pub last: Option<Checksum>,
-    pub standing: bool,
-    pub reason: Option<Reason>,
-}
-
-/// The response that a value is. Else the fault is the first member that is wrong, or want of memory.
+/// The response that a value is. Else the fault is the first member that is wrong, or memory ran out.
 pub(crate) fn response_of(alloc: Global, json: &Json) -> Result<Response, UnsealFault>
-    ensures ok { IfOk result (λ r. IsResponse (view json.now) r) }
-    ensures err { IfErr result (IsNoResponse (view json.now)) }
+    ensures ok { IfOk result (λ r. response_of (view json.now) ≡ Ok r) }
+    ensures err { IfErr result (IsFormFault (response_of (view json.now))) }
 {
-    let head = match head_of(json) {
-        Ok(head) => head,
-        Err(field) => return Err(UnsealFault::Form(field)),
+    let Some(code) = required_code(json) else {
+        return Err(UnsealFault::Form(ResponseField::ResponseCode));
     };
-    let Some(missing) = missing_of(alloc, json)? else {
-        return Err(UnsealFault::Form(ResponseField::Missing));
+    let Ok(bill) = optional_checksum(json, "bill") else {
+        return Err(UnsealFault::Form(ResponseField::Bill));
     };
-    let Some(own) = evidence_under(alloc, json, "own")? else {
-        return Err(UnsealFault::Form(ResponseField::Own));
-    };
-    let Some(theirs) = evidence_under(alloc, json, "theirs")? else {
-        return Err(UnsealFault::Form(ResponseField::Theirs));
-    };
-    Ok(Response {
-        code: head.code,
-        bill: head.bill,
-        last: head.last,
-        standing: head.standing,
-        reason: head.reason,
-        missing,
-        evidence: Evidence { own, theirs },
-    })
-}
-
-/// The members from `responseCode` to `index`, or the first of them that is wrong.
-pub(crate) fn head_of(json: &Json) -> Result<Head, ResponseField>
-    ensures { result ≡ head_of (view json.now) }
-{
-    let Some(code) = code_under(json) else {
-        return Err(ResponseField::ResponseCode);
-    };
-    let Ok(bill) = checksum_if_any(json, "bill") else {
-        return Err(ResponseField::Bill);
-    };
-    let Ok(last) = checksum_if_any(json, "last") else {
-        return Err(ResponseField::Last);
+    let Ok(last) = optional_checksum(json, "last") else {
+        return Err(UnsealFault::Form(ResponseField::Last));
     };
     let Some(standing) = flag_of(json, "standing") else {
-        return Err(ResponseField::Standing);
+        return Err(UnsealFault::Form(ResponseField::Standing));
     };
-    let Ok(reason) = reason_if_any(code, json) else {
-        return Err(ResponseField::Reason);
+    let reason = match reason_under(code, json) {
+        Ok(reason) => reason,
+        Err(field) => return Err(UnsealFault::Form(field)),
     };
-    let Some(reason) = indexed(json, reason) else {
-        return Err(ResponseField::Index);
+    let Some(missing) = required_missing(alloc, json)? else {
+        return Err(UnsealFault::Form(ResponseField::Missing));
     };
-    Ok(Head {
+    let evidence = evidence_of(alloc, json)?;
+    Ok(Response {
         code,
         bill,
         last,
         standing,
         reason,
+        missing,
+        evidence,
     })
 }
 
-fn code_under(json: &Json) -> Option<Code>
-    ensures { result ≡ code_under (view json.now) }
+fn required_code(json: &Json) -> Option<Code>
+    ensures { result ≡ required_code (view json.now) }
 {
     Code::from_text(text_of(json, "responseCode")?.as_str().as_bytes())
 }
 
-fn reason_if_any(code: Code, json: &Json) -> Result<Option<Reason>, OtherForm>
-    ensures { result ≡ reason_if_any code (view json.now) }
+// The reason with its index, or which of the two members is wrong.
+fn reason_under(code: Code, json: &Json) -> Result<Option<Reason>, ResponseField>
+    ensures { result ≡ reason_under code (view json.now) }
+{
+    let Ok(reason) = optional_reason(code, json) else {
+        return Err(ResponseField::Reason);
+    };
+    match indexed(json, reason) {
+        Some(reason) => Ok(reason),
+        None => Err(ResponseField::Index),
+    }
+}
+
+fn optional_reason(code: Code, json: &Json) -> Result<Option<Reason>, Malformed>
+    ensures { result ≡ optional_reason code (view json.now) }
 {
     let Some(member) = member_of(json, "reason") else {
         return Ok(None);
     };
     match reason_in(code, member) {
         Some(reason) => Ok(Some(reason)),
-        None => Err(OtherForm),
+        None => Err(Malformed),
     }
 }
 
@@ -146,7 +120,7 @@ fn at_index(json: &Json, reason: Reason, first: Option<usize>) -> Option<Option<
 {
     match first {
         Some(_) => {
-            let place = number_under(json, "index", 0, LAST_PLACE)?;
+            let place = required_number(json, "index", 0, LAST_PLACE)?;
             Some(Some(reason.at(place as usize)))
         }
         None => without_index(json, Some(reason)),
@@ -162,9 +136,9 @@ fn without_index(json: &Json, reason: Option<Reason>) -> Option<Option<Reason>>
     }
 }
 
-/// The checksums of `missing`; `None` exactly where it is no list of them.
-pub(crate) fn missing_of(alloc: Global, json: &Json) -> Result<Option<ChecksumList>, NoMemory>
-    ensures { IfOk result (λ found. found ≡ missing_of (view json.now)) }
+// The checksums of `missing`; none exactly when it is no list of them.
+fn required_missing(alloc: Global, json: &Json) -> Result<Option<ChecksumList>, NoMemory>
+    ensures { IfOk result (λ found. found ≡ required_missing (view json.now)) }
 {
     match list_of(json, "missing") {
         Some(list) => checksums_in(alloc, list.as_slice()),
@@ -172,32 +146,33 @@ pub(crate) fn missing_of(alloc: Global, json: &Json) -> Result<Option<ChecksumLi
     }
 }
 
-/// The evidence of that name, if there is one; `None` exactly where the member is there in another form.
-pub(crate) fn evidence_under(
+fn evidence_of(alloc: Global, json: &Json) -> Result<Evidence, UnsealFault>
+    ensures ok { IfOk result (λ evidence. evidence_of (view json.now) ≡ Ok evidence) }
+    ensures err { IfErr result (IsFormFault (evidence_of (view json.now))) }
+{
+    let Ok(own) = optional_signed(alloc, json, "own")? else {
+        return Err(UnsealFault::Form(ResponseField::Own));
+    };
+    let Ok(theirs) = optional_signed(alloc, json, "theirs")? else {
+        return Err(UnsealFault::Form(ResponseField::Theirs));
+    };
+    Ok(Evidence { own, theirs })
+}
+
+// The text of that name, if there is one.
+fn optional_signed(
     alloc: Global,
     json: &Json,
     name: &str,
-) -> Result<Option<Option<SignedText>>, NoMemory>
-    ensures ok { IfOk result (λ found. IfSome found (λ evidence. IsEvidenceUnder name.now (view json.now) evidence)) }
-    ensures none { IfOk result (λ found. IfNone found (IsNoEvidenceUnder name.now (view json.now))) }
+) -> Result<Result<Option<SignedText>, Malformed>, NoMemory>
+    ensures { IfOk result (λ found. found ≡ optional_signed name.now (view json.now)) }
 {
     match member_of(json, name) {
         Some(Json::Text(text)) => {
-            let text = text.as_str().as_bytes();
-            Ok(evidence_in(alloc, text)?.map(Some))
+            let bytes = ByteList::from_slice(alloc, text.as_str().as_bytes())?;
+            Ok(Ok(Some(SignedText(bytes))))
         }
-        Some(_) => Ok(None),
-        None => Ok(Some(None)),
-    }
-}
-
-pub(crate) fn evidence_in(alloc: Global, text: &[u8]) -> Result<Option<SignedText>, NoMemory>
-    ensures ok { IfOk result (λ found. IfSome found (λ evidence. (evidence.0 ≡ text.now) × IsEvidence text.now)) }
-    ensures none { IfOk result (λ found. IfNone found (¬ IsEvidence text.now)) }
-{
-    match split(alloc, text, MOST) {
-        Ok(_) => Ok(Some(SignedText(ByteList::from_slice(alloc, text)?))),
-        Err(SplitFault::NotCompact) => Ok(None),
-        Err(SplitFault::NoMemory) => Err(NoMemory),
+        Some(_) => Ok(Err(Malformed)),
+        None => Ok(Ok(None)),
     }
 }

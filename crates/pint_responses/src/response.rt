@@ -1,3 +1,4 @@
+//! The answer of a platform.
 use ebl_base::{Checksum, ChecksumList, Code, Copied, Evidence, NoMemory, Reason};
 use std::alloc::Global;
 
@@ -9,7 +10,7 @@ pub struct Response {
     pub bill: Option<Checksum>,
     /// The name of the last text of the chain, where there is one.
     pub last: Option<Checksum>,
-    /// The answer stands: the platform will give no other one to this envelope.
+    /// The answer is final: the platform will give no other one to this envelope.
     pub standing: bool,
     /// Why the envelope or the document isn't received.
     pub reason: Option<Reason>,

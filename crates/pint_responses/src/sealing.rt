@@ -1,27 +1,34 @@
-ghost use Rattle.std.specs.Prelude.{◌≡◌, ◌≤◌, All, IfOk, length};
+//! Responses as they are sealed.
+ghost use Rattle.std.specs.Prelude.{◌≡◌, ◌≤◌, Ok, true, false, IfOk, length};
 ghost use Rattle.ebl_base.specs.Faults.{Rose};
-ghost use Rattle.ebl_base.specs.PlatformCode.{code_text};
 ghost use Rattle.ebl_base.specs.declared.signature.Signature.{Signature};
 ghost use Rattle.signed_envelope.specs.SignedText.{IsComposed};
-ghost use Rattle.pint_responses.specs.Response.{HasSize, HasSizeIfAny, HaveSizes, IsSealable};
+ghost use Rattle.pint_responses.specs.Response.{IsOptionalEvidence, IsSealable};
 ghost use Rattle.pint_responses.specs.Writing.{response_value};
 ghost use Rattle.pint_responses.specs.declared.fault.SealFault.TheVariants.{Sign};
 
 use crate::fault::SealFault;
 use crate::response::Response;
 use crate::writing::response_json;
-use ebl_base::{Checksum, PlatformCode, SignedText};
-use signed_envelope::{ComposeFault, KeyRing, compose};
+use ebl_base::{NoMemory, PlatformCode, SignedText};
+use signed_envelope::{ComposeFault, KeyRing, compose, is_compact};
 use std::alloc::Global;
 
 /// The most bytes of a sealed response.
 pub(crate) const MOST: usize = 65_536;
 
+/// The most missing documents of a response that is sealed.
+const MOST_MISSING: usize = 16;
+
+/// The most bytes of an evidence text that is sealed.
+const MOST_EVIDENCE: usize = 16_384;
+
 /// The text of a response of this platform, signed by the ring: at most 65,536 bytes in the compact layout (RFC 7515,
 /// section 7.1), with the response as canonical JSON (RFC 8785).
 ///
 /// Its condition is that at most 16 documents are missing, and that each evidence is in the compact layout within
-/// 16,384 bytes. Sign comes only where the ring's count of faults rose; else only want of memory is left.
+/// 16,384 bytes: [`is_sealable`] tests it. Sign comes only when the ring's count of faults rose; else only NoMemory is
+/// left.
 pub fn seal<G: KeyRing>(
     alloc: Global,
     ring: &mut G,
@@ -35,8 +42,6 @@ pub fn seal<G: KeyRing>(
     ensures later { G.faults ring.old ≤ G.faults ring.new }
     ensures same { G.keys ring.new ≡ G.keys ring.old }
 {
-    note_sizes(r);
-    note_code(me);
     let payload = response_json(alloc, r)?;
     match compose(alloc, ring, me, &payload, MOST) {
         Ok(text) => Ok(text),
@@ -47,39 +52,27 @@ pub fn seal<G: KeyRing>(
     }
 }
 
-// The sizes that the types of checksums and codes say: facts for the proof alone.
-fn note_sizes(r: &Response)
-    ensures { HaveSizes r.now }
+/// Whether a response can be sealed: at most 16 documents are missing, and each evidence is in the compact layout within
+/// 16,384 bytes. It decodes the evidence. A response that was unsealed may be one that can't.
+pub fn is_sealable(alloc: Global, r: &Response) -> Result<bool, NoMemory>
+    ensures yes { result ≡ Ok true → IsSealable r.now }
+    ensures no { result ≡ Ok false → ¬ IsSealable r.now }
 {
-    note_size_if_any(r.bill);
-    note_size_if_any(r.last);
-    note_each_size(r.missing.as_slice());
-}
-
-fn note_size_if_any(checksum: Option<Checksum>)
-    ensures { HasSizeIfAny checksum }
-{
-    if let Some(checksum) = checksum {
-        note_size(checksum);
+    if r.missing.len() > MOST_MISSING {
+        return Ok(false);
     }
-}
-
-fn note_each_size(checksums: &[Checksum])
-    ensures { All HasSize checksums.now }
-{
-    for checksum in checksums {
-        note_size(*checksum);
+    if !is_evidence(alloc, &r.evidence.own)? {
+        return Ok(false);
     }
+    is_evidence(alloc, &r.evidence.theirs)
 }
 
-fn note_size(checksum: Checksum)
-    ensures { HasSize checksum }
+fn is_evidence(alloc: Global, text: &Option<SignedText>) -> Result<bool, NoMemory>
+    ensures yes { result ≡ Ok true → IsOptionalEvidence text.now }
+    ensures no { result ≡ Ok false → ¬ IsOptionalEvidence text.now }
 {
-    let _bytes = checksum.0;
-}
-
-fn note_code(code: PlatformCode)
-    ensures { length (code_text code) ≤ 4 }
-{
-    let _text = code.as_str();
+    match text {
+        Some(text) => is_compact(alloc, text.0.as_slice(), MOST_EVIDENCE),
+        None => Ok(true),
+    }
 }

@@ -7,14 +7,23 @@ use std::process::Abort;
 use std::test::Fail;
 use test_signer::KeyedRing;
 
-// A response with these members behind others; of a name that comes twice the last value counts.
+// A response with these members, behind those that a response must have and that aren't among them.
 pub(crate) fn fault_with(
     rt: &(impl Abort + AllocGlobal),
     members: &str,
 ) -> Result<Option<UnsealFault>, Fail> {
-    let text = format!(in rt.alloc();
-        "{{'responseCode':'BENV','standing':false,'missing':[],{members}}}"
-    )?;
+    let mut text = String::from_str(rt.alloc(), "{")?;
+    for (name, member) in [
+        ("'responseCode'", "'responseCode':'BENV',"),
+        ("'standing'", "'standing':false,"),
+        ("'missing'", "'missing':[],"),
+    ] {
+        if !members.contains(name) {
+            text.push_str(member)?;
+        }
+    }
+    text.push_str(members)?;
+    text.push_str("}")?;
     fault_of(rt, text.as_str())
 }
 
@@ -114,22 +123,25 @@ fn indexes(rt: HostRuntime) -> Result<(), Fail> {
     Ok(())
 }
 
+// Any text is taken: whether it is one that can be sealed is another question.
 #[test]
 fn evidence(rt: HostRuntime) -> Result<(), Fail> {
     for (members, field) in [
         ("'own':null", ResponseField::Own),
-        ("'own':'e30.e30'", ResponseField::Own),
-        ("'own':'e30.e30.AA='", ResponseField::Own),
+        ("'own':['e30.e30.AA']", ResponseField::Own),
         ("'theirs':1", ResponseField::Theirs),
-        ("'theirs':'e30.e31.AA'", ResponseField::Theirs),
+        ("'own':'','theirs':{}", ResponseField::Theirs),
     ] {
         let fault = UnsealFault::Form(field);
         assert_eq!(rt; fault_with(&rt, members)?, Some(fault), "{members}");
     }
-    assert_eq!(rt;
-        fault_with(&rt, "'own':'e30.e30.AA','theirs':'..AA'")?,
-        None
-    );
+    for members in [
+        "'own':'e30.e30.AA','theirs':'..AA'",
+        "'own':'e30.e30.AA=','theirs':'e30.e31.AA'",
+        "'own':'','theirs':'\\u20ac'",
+    ] {
+        assert_eq!(rt; fault_with(&rt, members)?, None, "{members}");
+    }
     Ok(())
 }
 

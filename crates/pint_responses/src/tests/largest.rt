@@ -2,12 +2,12 @@
 ghost use Rattle.std.specs.Prelude.{IfOk};
 ghost use Rattle.pint_responses.specs.Response.{IsEvidence};
 
-use crate::reading::evidence_in;
 use crate::tests::form::fault_with;
-use crate::tests::platform;
-use crate::{Response, ResponseField, UnsealFault, seal, unseal};
+use crate::tests::{platform, response};
+use crate::{Response, is_sealable, seal, unseal};
 use document_checksum::checksum;
-use ebl_base::{ChecksumList, Code, Evidence, Reason, SignedText};
+use ebl_base::{ByteList, ChecksumList, Code, Evidence, Reason, SignedText};
+use signed_envelope::is_compact;
 use std::alloc::Global;
 use std::process::Abort;
 use std::test::Fail;
@@ -29,25 +29,51 @@ fn evidence_text(alloc: Global, len: usize) -> Result<Vec<u8>, Fail> {
 fn longest_evidence(alloc: Global) -> Result<SignedText, Fail>
     ensures { IfOk result (λ t. IsEvidence t.0) }
 {
-    let text = evidence_text(alloc, 16_384)?;
-    match evidence_in(alloc, text.as_slice())? {
-        Some(evidence) => Ok(evidence),
-        None => Err(Fail::from("no evidence")),
+    let text = ByteList::from_vec(evidence_text(alloc, 16_384)?);
+    match is_compact(alloc, text.as_slice(), 16_384) {
+        Ok(true) => Ok(SignedText(text)),
+        _ => Err(Fail::from("no evidence")),
     }
 }
 
+// An answer with this text as its own evidence.
+fn shown(own: Vec<u8>, missing: ChecksumList) -> Response {
+    let own = Some(SignedText(ByteList::from_vec(own)));
+    let theirs = None;
+    let mut r = response(Code::DisputedEnvelope, None, None, missing);
+    r.evidence = Evidence { own, theirs };
+    r
+}
+
 #[test]
-fn evidence_of_one_byte_past_the_limit(rt: HostRuntime) -> Result<(), Fail> {
-    for (len, fault) in [
-        (16_384, None),
-        (16_385, Some(UnsealFault::Form(ResponseField::Own))),
-    ] {
+fn evidence_that_can_be_sealed(rt: HostRuntime) -> Result<(), Fail> {
+    for (len, sealable) in [(16_384, true), (16_385, false)] {
         let bytes = evidence_text(rt.alloc(), len)?;
         assert_eq!(rt; bytes.len(), len);
         let text = std::str::from_utf8(bytes.as_slice()).ok().ok_or("text")?;
         let member = format!(in rt.alloc(); "'own':'{text}'")?;
-        assert_eq!(rt; fault_with(&rt, member.as_str())?, fault);
+        assert_eq!(rt; fault_with(&rt, member.as_str())?, None);
+        let r = shown(bytes, ChecksumList::new(rt.alloc()));
+        assert_eq!(rt; is_sealable(rt.alloc(), &r)?, sealable);
     }
+    Ok(())
+}
+
+#[test]
+fn missing_documents_that_can_be_sealed(rt: HostRuntime) -> Result<(), Fail> {
+    let name = checksum(b"abc");
+    for (missing, sealable) in [
+        (ChecksumList::from_slice(rt.alloc(), &[name; 16])?, true),
+        (ChecksumList::from_slice(rt.alloc(), &[name; 17])?, false),
+    ] {
+        let r = response(Code::MissingDocuments, None, None, missing);
+        assert_eq!(rt; is_sealable(rt.alloc(), &r)?, sealable);
+    }
+    let other = shown(
+        b"e30.e31.AA".to_vec(rt.alloc())?,
+        ChecksumList::new(rt.alloc()),
+    );
+    assert_eq!(rt; is_sealable(rt.alloc(), &other)?, false);
     Ok(())
 }
 

@@ -1,5 +1,5 @@
-use Rattle.std.proofs.Common.{subst}
-use Rattle.pint_responses.specs.Reading.{IsResponse}
+use Rattle.std.proofs.Common.{◌≡◌, Ok, subst}
+use Rattle.pint_responses.specs.Reading.{response_of}
 use Rattle.pint_responses.specs.Writing.{response_value}
 use Rattle.pint_responses.proofs.LawfulLemmas.{response_is_lawful}
 use Rattle.pint_responses.proofs.ReadLemmas.{read_is_allowed}
@@ -17,5 +17,5 @@ pub returns-clause-one : goal.returns-clause-one
 returns-clause-one c r t first second same =
     let values = c.equal_texts_have_equal_values.ensures (response_value r) (response_value t) (response_is_lawful r)
     (response_is_lawful t) same in
-    one_response (response_value t) r t (subst (λ v. IsResponse v r) values (written_is_read r first))
+    one_response (response_value t) r t (subst (λ v. response_of v ≡ Ok r) values (written_is_read r first))
     (written_is_read t second)

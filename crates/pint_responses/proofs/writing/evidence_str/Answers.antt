@@ -1,6 +1,7 @@
-use Rattle.pint_responses.proofs.PlainLemmas.{evidence_is_utf8}
+use Rattle.signed_envelope.proofs.CompactLemmas.{compact_is_utf8}
 use Rattle.pint_responses.proofs.writing.evidence_str.Goals as goal
 
 pub unreachable-requires : goal.unreachable-requires
 unreachable-requires c =
-    c.in-Err.ensures.cases.0 (rw c.as_slice.ensures (evidence_is_utf8 c.args.evidence.now.0 c.requires))
+    let is = c.requires in
+    c.in-Err.ensures.cases.0 (rw c.as_slice.ensures (compact_is_utf8 16384 c.args.evidence.now.0 is.0 is.1))
