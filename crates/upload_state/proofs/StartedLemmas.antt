@@ -13,14 +13,15 @@ use Rattle.canonical_json.specs.Reading as canonical
 use Rattle.canonical_json.specs.declared.fault.ReadError.{ReadError}
 use Rattle.canonical_json.specs.declared.fault.ReadError.TheVariants as error
 use Rattle.canonical_json.proofs.Parts.{Reads_once}
-use Rattle.canonical_json.proofs.Refusals.{none_for_no_json, none_for_fraction, none_for_range}
+use Rattle.canonical_json.proofs.Refusals.{none_for_no_json, none_for_repeated, none_for_fraction, none_for_range}
 use Rattle.document_checksum.proofs.Texts.{checksum_of_text-checksum_text}
 use Rattle.document_checksum.proofs.ReadTexts.{IsUtf8-checksum_text}
 use Rattle.json_forms.specs.Reading.{within, count_of, all_of, with_more, checksum_in}
 use Rattle.json_forms.specs.Writing.{each_written, checksum_value}
 use Rattle.json_forms.proofs.RoundTrips.{kept, count_of-each_written}
 use Rattle.ebl_base.specs.declared.checksum.Checksum.{Checksum}
-use Rattle.envelope_manifest.proofs.FormLemmas.{IsChecksum-read, IsUtf8-ascii}
+use Rattle.envelope_manifest.proofs.FormLemmas.{IsUtf8-ascii}
+use Rattle.json_forms.proofs.ReadForms.{IsChecksum-read}
 use Rattle.upload_state.specs.declared.started.Started.{Started}
 use Rattle.upload_state.specs.Started.{AreChecksums, IsStarted, ReadsAs, started_of, started_value, started_with, IsFault, fault_of}
 use Rattle.upload_state.proofs.ReferenceLemmas.{reference_in-reference_text, IsUtf8-reference_text}
@@ -28,18 +29,10 @@ use Rattle.upload_state.proofs.ReferenceLemmas.{reference_in-reference_text, IsU
 -- why a text isn't read
 pub IsFault-fault_of : (bytes : List ℕ) (e : ReadError) → canonical.IsFault bytes e → IsFault bytes (fault_of e)
 IsFault-fault_of bytes error.NotJson h = λ started (v, reads, is). none_for_no_json bytes h v reads
+IsFault-fault_of bytes error.Repeated h = λ started (v, reads, is). none_for_repeated bytes h v reads
 IsFault-fault_of bytes error.Fraction h = λ started (v, reads, is). none_for_fraction bytes h v reads
 IsFault-fault_of bytes error.Range h = λ started (v, reads, is). none_for_range bytes h v reads
 IsFault-fault_of bytes error.NoMemory h = tt
-
--- a text whose value has another form
-pub IsFault-value : (bytes : List ℕ) (v : Value) → Reads bytes v → started_of v ≡ None
-    → (started : Started) → ReadsAs bytes started → ⊥
-IsFault-value bytes v reads none started (w, other, is) =
-    apart (sym none ∙ ap started_of (Reads_once bytes v w reads other) ∙ is)
-  where
-    apart : None ≡ Some started → ⊥
-    apart e = cc
 
 -- ---- what was read
 
@@ -64,11 +57,6 @@ more_parts : (first : Option Checksum) (rest : Option (List Checksum)) (x : Chec
 more_parts None rest x xs h = cc
 more_parts (Some y) None x xs h = cc
 more_parts (Some y) (Some ys) x xs h = (cc, cc)
-
-never_none : (first : Option Checksum) (rest : Option (List Checksum)) → with_more first rest ≡ Some [] → ⊥
-never_none None rest h = cc
-never_none (Some y) None h = cc
-never_none (Some y) (Some ys) h = cc
 
 -- checksums that were read are checksums
 pub AreChecksums-read : (vs : Values) (xs : List Checksum) → all_of checksum_in vs ≡ Some xs → AreChecksums xs

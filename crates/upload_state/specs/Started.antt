@@ -6,7 +6,7 @@ use Rattle.canonical_json.specs.Reading.{Reads}
 use Rattle.canonical_json.specs.declared.fault.ReadError.{ReadError}
 use Rattle.canonical_json.specs.declared.fault.ReadError.TheVariants as error
 use Rattle.document_checksum.specs.Digest.{IsChecksum}
-use Rattle.json_forms.specs.Reading.{items_under, all_of, checksum_in}
+use Rattle.json_forms.specs.Reading.{required_items, all_of, checksum_in}
 use Rattle.json_forms.specs.Writing.{checksums_value}
 use Rattle.ebl_base.specs.declared.checksum.Checksum.{Checksum}
 use Rattle.ebl_base.specs.declared.reference.Reference.{Reference}
@@ -25,7 +25,7 @@ started_with (Some reference) (Some missing) = Some (record { reference = refere
 abbrev pub started_of : Value → Option Started
 started_of v =
     started_with (option_and_then reference_in (text_of (codes "reference") v))
-    (option_and_then (all_of checksum_in) (items_under (codes "missing") 1 16 v))
+    (option_and_then (all_of checksum_in) (required_items (codes "missing") 1 16 v))
 
 -- the bytes are a text of JSON with whole numbers, and its value is the answer
 abbrev pub ReadsAs : List ℕ → Started → Type 0
@@ -37,13 +37,14 @@ IsFault bytes Form = (started : Started) → ¬ ReadsAs bytes started
 IsFault bytes NoMemory = Unit {0}
 
 -- the same of the reading of a value
-abbrev pub IsOtherForm : Option Started → StartedFault → Type 0
-IsOtherForm read Form = read ≡ None
-IsOtherForm read NoMemory = Unit {0}
+abbrev pub IsMalformed : Option Started → StartedFault → Type 0
+IsMalformed read Form = read ≡ None
+IsMalformed read NoMemory = Unit {0}
 
 -- why a text that isn't read is no answer
 abbrev pub fault_of : ReadError → StartedFault
 fault_of error.NotJson = Form
+fault_of error.Repeated = Form
 fault_of error.Fraction = Form
 fault_of error.Range = Form
 fault_of error.NoMemory = NoMemory
@@ -53,7 +54,7 @@ abbrev pub AreChecksums : List Checksum → Type 0
 AreChecksums [] = Unit {0}
 AreChecksums (checksum ∷ checksums) = IsChecksum checksum × AreChecksums checksums
 
--- an answer as its form allows it
+-- a well-formed answer
 pub record IsStarted (started : Started) : Type 0 where
   pub reference : IsReference started.reference
   pub least : 1 ≤ length started.missing

@@ -1,11 +1,10 @@
 //! The documents that a manifest lists, beside what is stored.
-ghost use Rattle.std.specs.Prelude.{◌≡◌, ◌&&◌, ◌↔◌, IfOk, IsTrue, filter, length};
+ghost use Rattle.std.specs.Prelude.{◌≡◌, ◌&&◌, ◌↔◌, IfOk, IsTrue, filter};
 ghost use Rattle.std.specs.Set.{is_member};
 ghost use Rattle.ebl_base.specs.Checksum.{checksum_eq};
 ghost use Rattle.ebl_base.specs.declared.checksum.Checksum.{Checksum};
 ghost use Rattle.envelope_manifest.specs.Manifest.{checksums_of};
-ghost use Rattle.document_checksum.specs.Digest.{checksum_of};
-ghost use Rattle.upload_state.specs.Piece.{each_once, fits, has, is_absent, missing_of};
+ghost use Rattle.upload_state.specs.Piece.{Fits, each_once, has, is_absent, missing_of};
 
 use document_checksum::checksum;
 use ebl_base::{Checksum, ChecksumList, NoMemory};
@@ -67,11 +66,10 @@ fn in_order(
     Ok(list)
 }
 
-/// Whether bytes are those of a listed document: they are as many as its size, and their SHA-256 checksum is its own.
+/// Whether bytes are those of a listed document: as many as its size, with its SHA-256 checksum (FIPS 180-4). It
+/// allocates nothing, and computes a checksum only when the size agrees.
 pub fn fits(piece: &Piece, bytes: &[u8]) -> bool
-    ensures value { result ≡ fits piece.now bytes.now }
-    ensures both { IsTrue result
-        ↔ (length bytes.now ≡ piece.now.size) × (checksum_of bytes.now ≡ piece.now.checksum) }
+    ensures { IsTrue result ↔ Fits piece.now bytes.now }
 {
     bytes.len() == piece.size as usize && checksum(bytes) == piece.checksum
 }

@@ -1,6 +1,7 @@
 //! The answer that an upload has started.
 
-use ebl_base::{ChecksumList, NoMemory, Reference};
+use ebl_base::{ChecksumList, Copied, NoMemory, Reference};
+use std::alloc::Global;
 
 /// An upload has started: under which reference it goes on, and which documents are wanted.
 #[derive(Debug, Drop)]
@@ -11,10 +12,20 @@ pub struct Started {
     pub missing: ChecksumList,
 }
 
+impl Copied for Started {
+    fn copy(&self, alloc: Global) -> Result<Self, NoMemory> {
+        let missing = self.missing.copy(alloc)?;
+        Ok(Started {
+            reference: self.reference,
+            missing,
+        })
+    }
+}
+
 /// Why a text is not taken as the answer that an upload has started.
 #[derive(Clone, Copy, Debug, PartialEq, Eq)]
 pub enum StartedFault {
-    /// It is no JSON (RFC 8259) with whole numbers of at most 2^53 - 1 in size, or no object with `reference`, the
+    /// It is no JSON that `canonical_json` reads, or no object with `reference`, the
     /// text of a UUID, and `missing`, a list of 1 to 16 checksums.
     Form,
     /// Memory ran out.

@@ -4,7 +4,7 @@ use crate::{
     started_read, started_write,
 };
 use document_checksum::checksum;
-use ebl_base::{CharList, Checksum, ChecksumList, NoMemory, Reference};
+use ebl_base::{CharList, Checksum, ChecksumList, Copied, NoMemory, Reference};
 use envelope_manifest::{Manifest, Piece, PieceList};
 use std::alloc::{AllocError, Global};
 use std::test::Fail;
@@ -181,4 +181,16 @@ fn texts_that_are_no_answers(rt: HostRuntime) {
             "{text}"
         );
     }
+}
+
+#[test]
+fn copied_answer(rt: HostRuntime) -> Result<(), Fail> {
+    let missing = ChecksumList::from_slice(rt.alloc(), &[checksum(b"abc"), checksum(b"{}")])?;
+    let reference = reference_of(checksum(b"{}"), checksum(b"abc"));
+    let started = Started { reference, missing };
+    let copy = started.copy(rt.alloc())?;
+    assert!(rt; copy.reference == reference);
+    assert!(rt; copy.missing.as_slice() == started.missing.as_slice());
+    assert_eq!(rt; copy.missing.len(), 2);
+    Ok(())
 }

@@ -8,9 +8,9 @@ use Rattle.upload_state.proofs.reading.started_of.Goals as goal
 
 pub returns-clause-form : goal.returns-clause-form
 returns-clause-form c =
-    let values = items_view c.in-Some-items_under.items.now in
+    let values = items_view c.in-Some-required_items.items.now in
     let count = within-read 1 16 (list_of (codes "missing") (view c.args.json.now)) values
-    (sym c.in-Some-items_under.ensures) in
+    (sym c.in-Some-required_items.ensures) in
     let all = sym c.in_ok-missing.ensures ∙ c.in-Some-2.is in
     let same = count_of-all_of checksum_in values c.in-Some-2.missing all in
     record {
