@@ -7,11 +7,6 @@ use Rattle.bill_journal.specs.Frames.{frame_text, framed, front_of, IsShort, Are
 use Rattle.bill_journal.specs.Journal.{IsSettled, WithOrWithout, MayHave, TornFrom}
 use Rattle.bill_journal.proofs.FrameLemmas.{front_of-push, length-front_of-push, length-framed, AreShort-push, stands_once}
 
--- the gate that ends the journal stands inside the bytes
-pub stands_inside : (file : List ℕ) (h : List (List ℕ)) → StandsFor file h → length (front_of h) < length file
-stands_inside file h stands = omega
-    (arith, ap length stands.bytes, length-append (front_of h) (stands.gate ∷ stands.rest))
-
 -- through the gate the bytes are the front and that gate
 through_gate : (file : List ℕ) (h : List (List ℕ)) (end : ℕ) (stands : StandsFor file h) → end ≡ length (front_of h)
     → take (end + 1) file ≡ front_of h ++ stands.gate ∷ []

@@ -1,5 +1,6 @@
 -- What a journal's disk stands for, now and after a crash.
 use Rattle.std.specs.Prelude.{◌≡◌, ◌⊎◌, ℕ, Bool, List, [], ◌∷◌, ◌++◌, length, if◌then◌else◌}
+use Rattle.ebl_base.specs.declared.limits.TheConstants.{MAX_JOURNAL, MAX_JOURNAL_UNSETTLED}
 use Rattle.disk_model.specs.Disk.{Only, Torn}
 use Rattle.bill_journal.specs.Frames.{front_of, StandsFor}
 
@@ -11,7 +12,7 @@ pub record JournalRecord (D : Type 0) : Type 0 where
 
 -- how long a journal may be with a frame more, which settles a bill that is parting or not
 abbrev pub room_for : Bool → ℕ
-room_for settling = if settling then 16777216 else 14680064
+room_for settling = if settling then MAX_JOURNAL else MAX_JOURNAL_UNSETTLED
 
 -- the disk stands for these contents, of which the gate at this place is the end, and so does whatever a crash leaves
 pub record IsSettled (file : List ℕ) (may_leave : List ℕ → Type 0) (end : ℕ) (h : List (List ℕ)) : Type 0 where

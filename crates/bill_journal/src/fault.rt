@@ -1,3 +1,4 @@
+//! Why a call of a journal failed.
 ghost use Rattle.std.specs.Prelude.{◌≡◌};
 ghost use Rattle.bill_journal.specs.declared.fault.OpenFault.TheVariants.{NoMemory as OutOfMemory, Disk};
 

@@ -1,3 +1,4 @@
+//! Frames and their places.
 use ebl_base::{ByteList, Copied, Items, NoMemory};
 use std::alloc::Global;
 

@@ -1,11 +1,12 @@
+//! A content that is ready for an append.
 ghost use Rattle.std.specs.Prelude.{◌≡◌, ◌+◌, ◌≤◌, length, IfOk};
 ghost use Rattle.bill_journal.specs.Frames.{framed, length_bytes};
 
-use ebl_base::{ByteList, Copied, NoMemory};
+use ebl_base::{ByteList, Copied, MAX_FRAME_CONTENT, NoMemory};
 use std::alloc::Global;
 use std::marker::Model;
 
-/// A content that is ready for an append, which then takes no memory. Contracts see the content.
+/// A content that is ready for an append, which then allocates nothing. Contracts see the content.
 ///
 /// It holds the bytes of the append's first write: the content's length, the content, and a shut gate.
 #[derive(Debug, Drop)]
@@ -28,7 +29,7 @@ impl Model for Framed {
 impl Framed {
     /// The frame of a content of at most 16,777,216 bytes.
     pub fn new(alloc: Global, content: &[u8]) -> Result<Self, NoMemory>
-        requires { length content.now ≤ 16777216 }
+        requires { length content.now ≤ MAX_FRAME_CONTENT }
         ensures { IfOk result (λ frame. frame ≡ content.now) }
     {
         let mut bytes = ByteList::from_slice(alloc, &bytes_of_length(content.len() as u32))?;
@@ -41,7 +42,7 @@ impl Framed {
     pub(crate) fn bytes(&self) -> &[u8]
         ensures bytes { result.now ≡ framed self.now }
         ensures length { length result.now ≡ 5 + length self.now }
-        ensures short { length self.now ≤ 16777216 }
+        ensures short { length self.now ≤ MAX_FRAME_CONTENT }
     {
         self.bytes.as_slice()
     }

@@ -1,11 +1,13 @@
-// Byte 0 is the version, 1. Then stand frames: a gate byte 1, the content's length in four bytes with the highest
-// first, the content. The first gate that isn't 1 ends the list, whatever follows. A fresh journal is 01 00.
-//
-// (1) The gate that ends the list is on the disk before a frame stands in front of it.
-// (2) A frame and the shut gate behind it are on the disk before its gate is opened.
-// (3) A call that answers Ok leaves all that it wrote on the disk.
-// (4) After a call that failed, the disk has the frames before it, with the new one or without. The journal is
-//     loose: it is read again before anything rests on it.
+//! Journals on disks.
+//!
+//! Byte 0 is the version, 1. Then stand frames: a gate byte 1, the content's length in four bytes with the highest
+//! first, the content. The first gate that isn't 1 ends the list, whatever follows. A fresh journal is 01 00.
+//!
+//! (1) The gate that ends the list is on the disk before a frame stands in front of it.
+//! (2) A frame and the shut gate behind it are on the disk before its gate is opened.
+//! (3) A call that answers Ok leaves all that it wrote on the disk.
+//! (4) After a call that failed, the disk has the frames before it, with the new one or without. The journal is
+//!     loose: it is read again before anything rests on it.
 ghost use Rattle.std.specs.Prelude.{◌≡◌, ◌↔◌, ◌⊎◌, ◌+◌, ◌<◌, ◌≤◌, ◌++◌, [], ◌∷◌, true, false, List, ℕ, length, IsTrue, IfOk, IfErr, OnOk, OnErr, IsErrOf, MatchResult};
 ghost use Rattle.ebl_base.specs.Faults.{Rose};
 ghost use Rattle.disk_model.specs.Disk.{Only, LeavesOnly, Looked};
@@ -18,12 +20,9 @@ use crate::frame_at::FrameBytes;
 use crate::framed::Framed;
 use crate::steps::{read_or_make, sync_and_read, write_frame};
 use disk_model::Disk;
+use ebl_base::{MAX_JOURNAL, MAX_JOURNAL_UNSETTLED};
 use std::alloc::Global;
 use std::marker::Model;
-
-const ROOM: u64 = 14_680_064;
-
-const SETTLING_ROOM: u64 = 16_777_216;
 
 /// A journal on a disk: frames one behind the other, each whole or absent after a crash at any moment.
 ///
@@ -98,9 +97,9 @@ impl<D: Disk> Journal<D> {
         }
     }
 
-    /// Appends a frame by four device calls, without memory. `settling` picks the larger room.
+    /// Appends a frame by four device calls; it allocates nothing. `settling` picks the larger room.
     ///
-    /// `Full` comes exactly where the journal would be longer than 14,680,064 bytes, or 16,777,216 for a settling
+    /// `Full` comes if and only if the journal would be longer than 14,680,064 bytes, or 16,777,216 for a settling
     /// frame; nothing has changed then. `Disk` comes only where the disk's count of faults rose, and leaves the
     /// journal loose.
     pub fn append(&mut self, frame: &Framed, settling: bool) -> Result<(), AppendFault>
@@ -209,5 +208,9 @@ impl<D: Disk> Journal<D> {
 fn room(settling: bool) -> u64
     ensures { result ≡ room_for settling }
 {
-    if settling { SETTLING_ROOM } else { ROOM }
+    if settling {
+        MAX_JOURNAL
+    } else {
+        MAX_JOURNAL_UNSETTLED
+    }
 }

@@ -1,4 +1,4 @@
-// What follows from the definitions alone, for the crates above.
+//! What follows from the definitions alone, for the crates above.
 ghost use Rattle.std.specs.Prelude.{◌≡◌, ◌⊎◌, ◌++◌, ◌∷◌, [], List, ℕ};
 ghost use Rattle.bill_journal.specs.Frames.{StandsFor, IsDamagedAt};
 ghost use Rattle.bill_journal.specs.Journal.{IsSettled, MayHave, WithOrWithout};

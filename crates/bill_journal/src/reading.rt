@@ -1,4 +1,4 @@
-// Reads the frames of a journal from its bytes, from the front.
+//! Reads the frames of a journal from its bytes, from the front.
 ghost use Rattle.std.specs.Prelude.{◌≡◌, ◌⊎◌, ◌+◌, ◌<◌, ◌≤◌, ◌^◌, ◌++◌, [], ◌∷◌, length, take, drop, IfOk, OnOk, IsErrOf, ℕ};
 ghost use Rattle.bill_journal.specs.Frames.{length_bytes, RunsPast, IsDamagedAt, IsShut, IsFrame};
 ghost use Rattle.bill_journal.specs.Places.{ReadsAs};

@@ -1,4 +1,4 @@
-// The device calls of a journal.
+//! The device calls of a journal.
 ghost use Rattle.std.specs.Prelude.{◌≡◌, ◌+◌, ◌<◌, ◌≤◌, ◌^◌, ◌++◌, [], ◌∷◌, true, List, ℕ, length, IfOk, OnOk, IsErrOf};
 ghost use Rattle.ebl_base.specs.Faults.{HasCause, Rose};
 ghost use Rattle.disk_model.specs.Disk.{written, Torn, Follows, Only, LeavesOnly, Looked};

@@ -1,7 +1,8 @@
+//! What no contract says: each failing device call, and tables of journals made by hand.
 ghost use Rattle.std.specs.Prelude.{◌≡◌, ◌≤◌, false, length, IfOk};
 
 use super::*;
-use disk_model::{FileDisk, MemoryDisk};
+use disk_model::{Failures, FileDisk, MemoryDisk};
 use ebl_base::{ByteList, CallList, Copied, NoMemory};
 use std::alloc::Global;
 use std::fs;
@@ -29,9 +30,11 @@ fn disk_of(
     done: &[u64],
 ) -> Result<MemoryDisk, NoMemory> {
     let bytes = ByteList::from_slice(alloc, bytes)?;
-    let fails = CallList::from_slice(alloc, fails)?;
-    let done = CallList::from_slice(alloc, done)?;
-    MemoryDisk::new(alloc, bytes, fails, done)
+    let failures = Failures {
+        calls: CallList::from_slice(alloc, fails)?,
+        written: CallList::from_slice(alloc, done)?,
+    };
+    MemoryDisk::new(alloc, bytes, failures)
 }
 
 fn answer(alloc: Global, bytes: &[u8]) -> Result<Found, NoMemory> {
