@@ -7,7 +7,7 @@ use Rattle.ebl_base.specs.declared.party.Party.{Party}
 use Rattle.ebl_base.specs.declared.signed_text.SignedText.{SignedText}
 use Rattle.party_roster.specs.RosterRecord.{RosterRecord, carrier}
 use Rattle.signed_envelope.specs.KeyRing.{Keys}
-use Rattle.title_fold.specs.Chain.{transactions_of}
+use Rattle.bill_chain.specs.Chain.{transactions_of}
 use Rattle.title_fold.specs.declared.title.Title.{Title}
 use Rattle.transport_document.specs.DocumentRecord.{DocumentRecord, bill_of}
 use Rattle.transfer_chain.specs.GoodChain.{AreLinks, IsBegunByCarrier, IsGoodChain}
@@ -86,13 +86,6 @@ refused_at roster keys document texts TooLong h = absurd (by_cause h.cause)
         ⊎ ((chain : List ChainLink) × AreLinks keys texts chain × IsChainRefused roster document chain TooLong) → ⊥
     by_cause (inl wrong) = wrong
     by_cause (inr wrong) = wrong.2
-
-pub check-text : (roster : RosterRecord) (keys : Keys) (document : DocumentRecord) (texts seen : List SignedText)
-    (refusal : ChainRefusal) → seen ≡ texts → 1 ≤ length seen → length seen ≤ 64
-    → IsTextRefused keys seen refusal → IsRefused roster keys document texts refusal
-check-text roster keys document texts seen refusal is some most wrong =
-    subst (λ ts. IsRefused roster keys document ts refusal) is
-    (refused_at roster keys document seen refusal (record { some = some; most = most; cause = inl wrong }))
 
 pub check-entry : (roster : RosterRecord) (keys : Keys) (document : DocumentRecord) (texts seen : List SignedText)
     (party : Option Party) (bill : Checksum) (items chain : List ChainLink) (refusal : ChainRefusal)

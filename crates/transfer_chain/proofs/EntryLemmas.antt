@@ -15,14 +15,14 @@ use Rattle.party_roster.specs.RosterRecord.{RosterRecord, carrier}
 use Rattle.transport_document.specs.DocumentRecord.{DocumentRecord, bill_of}
 use Rattle.title_fold.specs.declared.refusal.FoldAt.{FoldAt}
 use Rattle.title_fold.specs.declared.title.Title.{Title}
-use Rattle.title_fold.specs.Chain.{last_name, title_after_chain, platform_with, platform_at_turn, MovesAtItsEnd, FollowsChain}
+use Rattle.bill_chain.specs.Chain.{last_name, title_after_chain, platform_with, platform_at_turn, MovesAtItsEnd, FollowsChain}
 use Rattle.title_fold.specs.Fold.{fold_from}
 use Rattle.transfer_chain.specs.GoodChain.{first_actor}
 use Rattle.transfer_chain.specs.Refusal.{IsJoined, IsOfBill, IsByCarrier, IsInTurn, IsFoldRefused, IsMoveRefused}
-use Rattle.transfer_chain.specs.Steps.{same_name, same_party, is_by_carrier, platform_at, turn_of, is_turn, run, after_run, judged}
+use Rattle.transfer_chain.specs.Steps.{same_name, same_party, is_by_carrier, platform_at, turn_of, is_expected_platform, run, after_run, check_entry}
 use Rattle.transfer_chain.specs.declared.fault.ChainRefusal.{ChainRefusal}
 use Rattle.transfer_chain.specs.declared.fault.ChainRefusal.TheVariants.{BrokenLink, WrongBill, Carrier, WrongPlatform, Fold, Move}
-use Rattle.transfer_chain.specs.declared.passing.Ran.{Ran}
+use Rattle.transfer_chain.specs.declared.replay.Replayed.{Replayed}
 use Rattle.transfer_chain.proofs.RunLemmas.{run-folds, run-stops, run-ends, ends-run}
 
 -- no title stands before the first entry, and one does after it
@@ -57,9 +57,9 @@ same_party-tells (Some a) (Some b) = (
   λ e. let first : Some a ≡ Some b = e.1 ∙ sym e.2 in let same : a ≡ b = cc in (party_eq-Decides a b).1 same,
 )
 
-is_turn-tells : (turn : Option PlatformCode) (platform : PlatformCode) → Decides (is_turn turn platform) (turn ≡ Some platform)
-is_turn-tells None platform = (λ t. cc, λ e. cc)
-is_turn-tells (Some turn) platform =
+is_expected_platform-tells : (turn : Option PlatformCode) (platform : PlatformCode) → Decides (is_expected_platform turn platform) (turn ≡ Some platform)
+is_expected_platform-tells None platform = (λ t. cc, λ e. cc)
+is_expected_platform-tells (Some turn) platform =
     (λ t. ap Some ((code_eq-Decides turn platform).0 t), λ e. let same : turn ≡ platform = cc in (code_eq-Decides turn platform).1 same)
 
 not_false : {P : Type 0} (b : Bool) → Decides b P → b ≡ false → ¬ P
@@ -130,16 +130,16 @@ Judged roster document front entry place title (Ok after) = EntryRight roster do
 Judged roster document front entry place title (Err refusal) = EntryWrong roster document front entry place refusal
 
 -- transactions of which the last alone moves, where there are some
-ends_right : (ts : List Transaction) (before : Option Title) (ran : Ran) → 1 ≤ length ts
+ends_right : (ts : List Transaction) (before : Option Title) (ran : Replayed) → 1 ≤ length ts
     → run ts before true 0 ≡ Ok ran → ran.moves_last ≡ true → MovesAtItsEnd before ts
 ends_right [] before ran some h right = absurd (omega arith)
 ends_right (t ∷ ts) before ran some h right = (run-ends (t ∷ ts) before true 0 ran h right).1
 
-pub judged-tells : (roster : RosterRecord) (document : DocumentRecord) (front : List ChainLink) (previous : Option Checksum)
+pub check_entry-tells : (roster : RosterRecord) (document : DocumentRecord) (front : List ChainLink) (previous : Option Checksum)
     (title : Option Title) (place : ℕ) (entry : Entry) → Stands front previous title → 1 ≤ length entry.transactions
     → Judged roster document front entry place title
-    (judged (carrier roster document.provider document.code) (bill_of document) previous title place entry)
-judged-tells roster document front previous title place entry stands some =
+    (check_entry (carrier roster document.provider document.code) (bill_of document) previous title place entry)
+check_entry-tells roster document front previous title place entry stands some =
     joined (same_name entry.previous previous) refl
   where
     party : Option Party
@@ -159,13 +159,13 @@ judged-tells roster document front previous title place entry stands some =
     carrier_is : Decides (is_by_carrier party title ts) (IsByCarrier roster document front entry)
     carrier_is = by_carrier roster document front title entry stands.begun
 
-    turn_is : Decides (is_turn (turn_of title ts) entry.platform) (IsInTurn front entry)
+    turn_is : Decides (is_expected_platform (turn_of title ts) entry.platform) (IsInTurn front entry)
     turn_is =
-        subst (λ t. Decides (is_turn (turn_of title ts) entry.platform) (t ≡ Some entry.platform))
-        (turn front previous title entry stands) (is_turn-tells (turn_of title ts) entry.platform)
+        subst (λ t. Decides (is_expected_platform (turn_of title ts) entry.platform) (t ≡ Some entry.platform))
+        (turn front previous title entry stands) (is_expected_platform-tells (turn_of title ts) entry.platform)
 
     moved : IsJoined front entry → IsOfBill document entry → IsByCarrier roster document front entry
-        → IsInTurn front entry → (ran : Ran) → run ts title true 0 ≡ Ok ran → (b : Bool) → ran.moves_last ≡ b
+        → IsInTurn front entry → (ran : Replayed) → run ts title true 0 ≡ Ok ran → (b : Bool) → ran.moves_last ≡ b
         → Judged roster document front entry place title (cond b (Ok ran.title) (Err (Move place)))
     moved j b c t ran e true right =
         record {
@@ -187,37 +187,37 @@ judged-tells roster document front previous title place entry stands some =
         not_right ends =
             let same : Ok (record { title = Some ends.after; moves_last = true }) ≡ Ok ran = sym (ends-run ts title 0 ends) ∙ e in
             let told : record { title = Some ends.after; moves_last = true } ≡ ran = cc in
-            let no : true ≡ false = ap (λ (r : Ran). r.moves_last) told ∙ wrong in
+            let no : true ≡ false = ap (λ (r : Replayed). r.moves_last) told ∙ wrong in
             cc
 
     ran_on : IsJoined front entry → IsOfBill document entry → IsByCarrier roster document front entry
-        → IsInTurn front entry → (r : Result Ran FoldAt) → run ts title true 0 ≡ r
+        → IsInTurn front entry → (r : Result Replayed FoldAt) → run ts title true 0 ≡ r
         → Judged roster document front entry place title (after_run place r)
     ran_on j b c t (Ok ran) e = moved j b c t ran e ran.moves_last refl
     ran_on j b c t (Err at) e =
         (refl, j, b, c, t, (title, stands.title, run-stops ts title true 0 at e))
 
     in_turn : IsJoined front entry → IsOfBill document entry → IsByCarrier roster document front entry
-        → (b : Bool) → is_turn (turn_of title ts) entry.platform ≡ b
+        → (b : Bool) → is_expected_platform (turn_of title ts) entry.platform ≡ b
         → Judged roster document front entry place title
         (cond (not b) (Err (WrongPlatform place)) (after_run place (run ts title true 0)))
-    in_turn j b c false e = (refl, j, b, c, not_false (is_turn (turn_of title ts) entry.platform) turn_is e)
+    in_turn j b c false e = (refl, j, b, c, not_false (is_expected_platform (turn_of title ts) entry.platform) turn_is e)
     in_turn j b c true e = ran_on j b c (turn_is.0 e) (run ts title true 0) refl
 
     by_the_carrier : IsJoined front entry → IsOfBill document entry
         → (b : Bool) → is_by_carrier party title ts ≡ b
         → Judged roster document front entry place title
         (cond (not b) (Err Carrier)
-        (cond (not (is_turn (turn_of title ts) entry.platform)) (Err (WrongPlatform place)) (after_run place (run ts title true 0))))
+        (cond (not (is_expected_platform (turn_of title ts) entry.platform)) (Err (WrongPlatform place)) (after_run place (run ts title true 0))))
     by_the_carrier j b false e =
         (carrier_first party front title ts stands.begun e, j, b, not_false (is_by_carrier party title ts) carrier_is e)
-    by_the_carrier j b true e = in_turn j b (carrier_is.0 e) (is_turn (turn_of title ts) entry.platform) refl
+    by_the_carrier j b true e = in_turn j b (carrier_is.0 e) (is_expected_platform (turn_of title ts) entry.platform) refl
 
     of_bill : IsJoined front entry → (b : Bool) → checksum_eq entry.bill bill ≡ b
         → Judged roster document front entry place title
         (cond (not b) (Err (WrongBill place))
         (cond (not (is_by_carrier party title ts)) (Err Carrier)
-        (cond (not (is_turn (turn_of title ts) entry.platform)) (Err (WrongPlatform place)) (after_run place (run ts title true 0)))))
+        (cond (not (is_expected_platform (turn_of title ts) entry.platform)) (Err (WrongPlatform place)) (after_run place (run ts title true 0)))))
     of_bill j false e = (refl, j, not_false (checksum_eq entry.bill bill) (checksum_eq-Decides entry.bill bill) e)
     of_bill j true e = by_the_carrier j ((checksum_eq-Decides entry.bill bill).0 e) (is_by_carrier party title ts) refl
 
@@ -226,6 +226,6 @@ judged-tells roster document front previous title place entry stands some =
         (cond (not b) (Err (BrokenLink place))
         (cond (not (checksum_eq entry.bill bill)) (Err (WrongBill place))
         (cond (not (is_by_carrier party title ts)) (Err Carrier)
-        (cond (not (is_turn (turn_of title ts) entry.platform)) (Err (WrongPlatform place)) (after_run place (run ts title true 0))))))
+        (cond (not (is_expected_platform (turn_of title ts) entry.platform)) (Err (WrongPlatform place)) (after_run place (run ts title true 0))))))
     joined false e = (refl, not_false (same_name entry.previous previous) joined_is e)
     joined true e = of_bill (joined_is.0 e) (checksum_eq entry.bill bill) refl

@@ -6,9 +6,7 @@ use Rattle.chain_entry.specs.declared.fault.EntryField.{EntryField}
 use Rattle.ebl_base.specs.declared.chain.ChainLink.{ChainLink}
 use Rattle.ebl_base.specs.declared.checksum.Checksum.{Checksum}
 use Rattle.ebl_base.specs.declared.entry.Entry.{Entry}
-use Rattle.ebl_base.specs.declared.party.Party.{Party}
 use Rattle.ebl_base.specs.declared.signed_text.SignedText.{SignedText}
-use Rattle.ebl_base.specs.declared.transaction.Transaction.{Transaction}
 use Rattle.party_roster.specs.RosterRecord.{RosterRecord}
 use Rattle.signed_envelope.specs.KeyRing.{Keys}
 use Rattle.signed_envelope.specs.declared.fault.BadSigned.{BadSigned}
@@ -16,15 +14,16 @@ use Rattle.signed_envelope.proofs.Readings.{same_signed, refused_or_signed}
 use Rattle.title_fold.specs.declared.refusal.FoldAt.{FoldAt}
 use Rattle.title_fold.specs.declared.refusal.FoldRefusal.{FoldRefusal}
 use Rattle.title_fold.specs.declared.title.Title.{Title}
-use Rattle.title_fold.specs.Chain.{transactions_of, title_after_chain, MovesAtItsEnd, FollowsChain}
+use Rattle.bill_chain.specs.Chain.{transactions_of, title_after_chain, MovesAtItsEnd, FollowsChain}
 use Rattle.title_fold.specs.Fold.{Folded, fold_from}
 use Rattle.transport_document.specs.DocumentRecord.{DocumentRecord, bill_of}
-use Rattle.transfer_chain.specs.GoodChain.{first_actor, IsLink, AreLinks, IsGoodChain}
+use Rattle.transfer_chain.specs.GoodChain.{IsLink, AreLinks, IsGoodChain}
 use Rattle.transfer_chain.specs.Refusal.{IsBadlySigned, HasNoEntry, IsOfAnother, IsTextWrong, IsTextRefused, IsByCarrier, IsFoldRefused, IsMoveRefused, IsChainRefused, IsRefusedAt, IsRefused}
 use Rattle.transfer_chain.specs.declared.fault.ChainRefusal.{ChainRefusal}
 use Rattle.transfer_chain.specs.declared.fault.ChainRefusal.TheVariants.{Empty, TooLong, BadSignature, EntryForm, WrongSigner, BrokenLink, WrongBill, Carrier, WrongPlatform, Fold, Move, NoMemory}
 use Rattle.transfer_chain.proofs.LinkLemmas.{link_form}
 use Rattle.transfer_chain.proofs.GoodChainLemmas.{same_links, ends-folds, good-follows}
+use Rattle.transfer_chain.proofs.PassLemmas.{first_of}
 
 -- ---- texts
 
@@ -108,11 +107,6 @@ pub move_taken : (front : List ChainLink) (entry : Entry) (bill : Checksum)
     → FollowsChain bill front entry → IsMoveRefused front entry → ⊥
 move_taken front entry bill f wrong =
     wrong.4 (subst (λ t. MovesAtItsEnd t entry.transactions) (one_title front f.before wrong.0 f.title wrong.2) f.moves)
-
-pub first_of : (ts more : List Transaction) (party : Party) → 1 ≤ length ts → first_actor (ts ++ more) ≡ Some party
-    → first_actor ts ≡ Some party
-first_of [] more party some h = absurd (omega arith)
-first_of (t ∷ ts) more party some h = h
 
 by_carrier : (roster : RosterRecord) (keys : Keys) (document : DocumentRecord) (texts : List SignedText)
     (front : List ChainLink) (link : ChainLink) (rest : List ChainLink)

@@ -1,6 +1,7 @@
 -- What a good chain has: fronts that are good, a title, entries that hand over, one chain of its texts.
-use Rattle.std.proofs.Common.{◌≡◌, ◌≢◌, ◌≤◌, suc, Bool, true, false, not, List, [], ◌∷◌, ◌++◌, Option, Some, None, Result, Ok, Err, length, refl, sym, ap, ◌∙◌, subst, arith, append_assoc, append-nil}
-use Rattle.std.specs.Prelude.{IfOk, option_map, slice_get}
+use Rattle.std.proofs.Common.{◌≡◌, ◌≢◌, ◌≤◌, suc, Bool, true, false, not, List, [], ◌∷◌, ◌++◌, Option, Some, None, Ok, length, refl, sym, ap, ◌∙◌, subst, arith, append_assoc, append-nil}
+use Rattle.std.specs.Prelude.{IsSome, option_map, slice_get}
+use Rattle.std.specs.Option.{option_or}
 use Rattle.std.proofs.lemmas.List.{length-append}
 use Rattle.chain_entry.specs.Reading.{entry_of}
 use Rattle.ebl_base.specs.PlatformCode.{code_eq}
@@ -8,7 +9,6 @@ use Rattle.ebl_base.proofs.SameLemmas.{code_eq-Decides}
 use Rattle.ebl_base.specs.declared.chain.ChainLink.{ChainLink}
 use Rattle.ebl_base.specs.declared.checksum.Checksum.{Checksum}
 use Rattle.ebl_base.specs.declared.entry.Entry.{Entry}
-use Rattle.ebl_base.specs.declared.party.Party.{Party}
 use Rattle.ebl_base.specs.declared.platform_code.PlatformCode.{PlatformCode}
 use Rattle.ebl_base.specs.declared.signed_text.SignedText.{SignedText}
 use Rattle.ebl_base.specs.declared.transaction.Transaction.{Transaction}
@@ -17,16 +17,16 @@ use Rattle.signed_envelope.specs.KeyRing.{Keys}
 use Rattle.signed_envelope.proofs.Readings.{same_signed}
 use Rattle.title_fold.specs.declared.title.Title.{Title}
 use Rattle.title_fold.specs.declared.title.Title.TheVariants.{Signed}
-use Rattle.title_fold.specs.Chain.{transactions_of, title_after_chain, platform_with, destination, platform_at_turn, Stays, MovesAtItsEnd, FollowsChain, FollowEachOther}
+use Rattle.bill_chain.specs.Chain.{last_of, transactions_of, title_after_chain, platform_with, destination, platform_at_turn, Stays, MovesAtItsEnd, FollowsChain, FollowEachOther}
 use Rattle.title_fold.specs.Fold.{fold_from}
 use Rattle.title_fold.specs.Movement.{moves}
 use Rattle.title_fold.specs.Title.{possessor}
 use Rattle.title_fold.proofs.TitleLaws.{begins_as_signed}
 use Rattle.transport_document.specs.DocumentRecord.{DocumentRecord, bill_of}
 use Rattle.transfer_chain.specs.Checked.{texts_of, IsChecked}
-use Rattle.transfer_chain.specs.GoodChain.{first_actor, IsLink, AreLinks, IsBegunByCarrier, IsGoodChain}
+use Rattle.transfer_chain.specs.GoodChain.{IsLink, AreLinks, IsBegunByCarrier, IsGoodChain}
 use Rattle.transfer_chain.proofs.LinkLemmas.{link_form, links_have_transactions}
-use Rattle.transfer_chain.proofs.PassLemmas.{last_name-push, title-push}
+use Rattle.transfer_chain.proofs.PassLemmas.{first_actor-more, first_of, last_name-push, title-push}
 use Rattle.transfer_chain.proofs.RunLemmas.{run-folds, ends-run}
 
 -- ---- links
@@ -222,11 +222,6 @@ good-hands_over roster keys document texts front a b rest good =
       platform = sym (turn_is_destination front a b.entry) ∙ follows.platform;
     }
 
-first_actor-of : (ts more other : List Transaction) (party : Party) → 1 ≤ length ts
-    → first_actor (ts ++ more) ≡ Some party → first_actor (ts ++ other) ≡ Some party
-first_actor-of [] more other party some h = absurd (omega arith)
-first_actor-of (t ∷ ts) more other party some h = h
-
 -- the carrier began the front, where it began the whole
 begun-front : (roster : RosterRecord) (keys : Keys) (document : DocumentRecord) (texts : List SignedText)
     (front rest : List ChainLink) → 1 ≤ length front → AreLinks keys texts (front ++ rest)
@@ -237,8 +232,8 @@ begun-front roster keys document [] (link ∷ front) rest some are h = absurd ar
 begun-front roster keys document (text ∷ texts) (link ∷ front) rest some are h = (
   h.0,
   h.1,
-  first_actor-of link.entry.transactions (transactions_of (front ++ rest)) (transactions_of front) h.0
-      (link_form keys text link are.0).some h.2,
+  first_actor-more link.entry.transactions (transactions_of front) h.0
+      (first_of link.entry.transactions (transactions_of (front ++ rest)) h.0 (link_form keys text link are.0).some h.2),
 )
 
 pub good-front : (roster : RosterRecord) (keys : Keys) (document : DocumentRecord) (texts : List SignedText)
@@ -266,8 +261,15 @@ good-checked roster keys document texts chain good =
       some = links_have_transactions keys texts chain good.links;
     }
 
--- what is good where there is a chain is checked there
-pub good-if_ok : (roster : RosterRecord) (keys : Keys) (document : DocumentRecord) (texts : List SignedText) {E : Type 0}
-    (answer : Result (List ChainLink) E) → IfOk answer (IsGoodChain roster keys document texts) → IfOk answer IsChecked
-good-if_ok roster keys document texts (Ok chain) good = good-checked roster keys document texts chain good
-good-if_ok roster keys document texts (Err refusal) good = _
+-- a good chain has a last entry
+last_there : (link : ChainLink) (chain : List ChainLink) (last : Option ChainLink) → IsSome (option_or last (Some link))
+last_there link chain None = refl
+last_there link chain (Some other) = refl
+
+pub good-last : (roster : RosterRecord) (keys : Keys) (document : DocumentRecord) (texts : List SignedText)
+    (chain : List ChainLink) → IsGoodChain roster keys document texts chain → IsSome (last_of chain)
+good-last roster keys document texts [] good =
+    let count = links-length keys texts [] good.links in
+    let some = good.some in
+    absurd (omega arith)
+good-last roster keys document texts (link ∷ chain) good = last_there link chain (last_of chain)

@@ -19,8 +19,8 @@ use Rattle.transfer_chain.specs.Checked.{texts_of, HaveTransactions}
 use Rattle.transfer_chain.specs.GoodChain.{IsLink, AreLinks}
 use Rattle.transfer_chain.specs.Refusal.{IsTextWrong, IsTextRefused}
 use Rattle.transfer_chain.specs.Steps.{IsTextFault, refusal_at}
-use Rattle.transfer_chain.specs.declared.linking.TextFault.{TextFault}
-use Rattle.transfer_chain.specs.declared.linking.TextFault.TheVariants.{Signature, Form, Signer, NoMemory}
+use Rattle.transfer_chain.specs.declared.verify_texts.TextFault.{TextFault}
+use Rattle.transfer_chain.specs.declared.verify_texts.TextFault.TheVariants.{Signature, Form, Signer, NoMemory}
 
 -- ---- as a loop makes them
 

@@ -1,110 +1,142 @@
--- How two chains are gone over side by side.
-use Rattle.std.proofs.Common.{◌≡◌, ◌≢◌, ◌+◌, ◌≤◌, ℕ, Bool, true, false, not, List, [], ◌∷◌, ◌++◌, length, refl, sym, ap, ◌∙◌, arith, append_assoc, append-nil, zero-add}
-use Rattle.std.proofs.lemmas.List.{length-append}
+-- What two lists of names are by how many they have in common in front.
+use Rattle.std.proofs.Common.{◌≡◌, ◌≢◌, ◌+◌, ◌<◌, ◌≤◌, ℕ, Bool, true, false, cond, List, [], ◌∷◌, ◌++◌, length, refl, sym, ap, ◌∙◌, arith, append-nil, length-append}
+use Rattle.std.specs.Bool.{Decides}
+use Rattle.std.specs.List.{common_prefix_len}
+use Rattle.std.proofs.lemmas.List.{length-map}
 use Rattle.ebl_base.specs.Checksum.{checksum_eq}
 use Rattle.ebl_base.specs.declared.chain.ChainLink.{ChainLink}
 use Rattle.ebl_base.specs.declared.checksum.Checksum.{Checksum}
-use Rattle.title_fold.specs.Chain.{names_of}
-use Rattle.transfer_chain.specs.Meeting.{IsFront, PartAt}
 use Rattle.ebl_base.proofs.ChecksumLemmas.{checksum_eq-Decides}
+use Rattle.bill_chain.specs.Chain.{common_front, names_of}
+use Rattle.transfer_chain.specs.Meeting.{IsFront, PartAt}
 
--- both begin with these names, and this is what is left of each
-pub record BothBegin (a b first second : List ChainLink) (place : ℕ) : Type 0 where
-  pub front : List Checksum
-  pub of_a : names_of a ≡ front ++ names_of first
-  pub of_b : names_of b ≡ front ++ names_of second
-  pub far : length front ≡ place
-  pub left : place + length first ≡ length a
+-- two lists that don't begin with one name
+abbrev BeginApart : List Checksum → List Checksum → Type 0
+BeginApart (x ∷ xs) (y ∷ ys) = x ≢ y
+BeginApart xs ys = Unit {0}
 
-pub at_first : (a b first second : List ChainLink) → first ≡ a → second ≡ b → BothBegin a b first second 0
-at_first a b first second is_a is_b =
+-- the names in common, and what is left of each list
+record Split (a b : List Checksum) (place : ℕ) : Type 0 where
+  front : List Checksum
+  first : List Checksum
+  second : List Checksum
+  of_a : a ≡ front ++ first
+  of_b : b ≡ front ++ second
+  far : length front ≡ place
+  apart : BeginApart first second
+
+split_on : (x y : Checksum) (a b : List Checksum) (place : ℕ) (same : Bool) → Decides same (x ≡ y)
+    → Split a b place → Split (x ∷ a) (y ∷ b) (cond same (1 + place) 0)
+split_on x y a b place true decides split =
+    let far = split.far in
+    record {
+      front = x ∷ split.front;
+      first = split.first;
+      second = split.second;
+      of_a = ap (λ l. x ∷ l) split.of_a;
+      of_b = ap (λ l. y ∷ l) split.of_b ∙ ap (λ z. z ∷ (split.front ++ split.second)) (sym (decides.0 refl));
+      far = omega (arith, far);
+      apart = split.apart;
+    }
+split_on x y a b place false decides split =
     record {
       front = [];
-      of_a = ap names_of (sym is_a);
-      of_b = ap names_of (sym is_b);
+      first = x ∷ a;
+      second = y ∷ b;
+      of_a = refl;
+      of_b = refl;
       far = refl;
-      left = zero-add (length first) ∙ ap length is_a;
+      apart = λ e. let no : false ≡ true = decides.1 e in cc;
     }
 
--- one entry more on both sides
-pub one_more : (a b first second : List ChainLink) (x y : ChainLink) (xs ys : List ChainLink) (place : ℕ)
-    → BothBegin a b first second place → first ≡ x ∷ xs → second ≡ y ∷ ys → x.name ≡ y.name
-    → BothBegin a b xs ys (place + 1)
-one_more a b first second x y xs ys place begin is_first is_second same =
-    let len = length-append begin.front (x.name ∷ []) in
-    let far = begin.far in
-    let left = begin.left in
-    let one : length first ≡ length xs + 1 = omega (arith, ap length is_first) in
+split : (a b : List Checksum) → Split a b (common_prefix_len checksum_eq a b)
+split [] b = record { front = []; first = []; second = b; of_a = refl; of_b = refl; far = refl; apart = tt }
+split (x ∷ a) [] = record { front = []; first = x ∷ a; second = []; of_a = refl; of_b = refl; far = refl; apart = tt }
+split (x ∷ a) (y ∷ b) =
+    split_on x y a b (common_prefix_len checksum_eq a b) (checksum_eq x y) (checksum_eq-Decides x y) (split a b)
+
+-- ---- by what is left of each
+
+-- a whole is as long as its front and its rest
+len_of : (a front rest : List Checksum) → a ≡ front ++ rest → length a ≡ length front + length rest
+len_of a front rest is = ap length is ∙ length-append front rest
+
+parts : (a b front first second : List Checksum) (place : ℕ) → a ≡ front ++ first → b ≡ front ++ second
+    → length front ≡ place → BeginApart first second → place < length a → place < length b → PartAt a b place
+parts a b front [] second place of_a of_b far apart more_a more_b =
+    let len = len_of a front [] of_a in
+    absurd (omega (arith, len))
+parts a b front (x ∷ xs) [] place of_a of_b far apart more_a more_b =
+    let len = len_of b front [] of_b in
+    absurd (omega (arith, len))
+parts a b front (x ∷ xs) (y ∷ ys) place of_a of_b far apart more_a more_b =
     record {
-      front = begin.front ++ x.name ∷ [];
-      of_a = begin.of_a ∙ ap (λ ls. begin.front ++ names_of ls) is_first
-          ∙ sym (append_assoc begin.front (x.name ∷ []) (names_of xs));
-      of_b = begin.of_b ∙ ap (λ ls. begin.front ++ names_of ls) is_second
-          ∙ ap (λ n. begin.front ++ n ∷ names_of ys) (sym same)
-          ∙ sym (append_assoc begin.front (x.name ∷ []) (names_of ys));
-      far = omega (arith, len);
-      left = omega (arith, left, one);
+      front = front;
+      x = x;
+      xs = xs;
+      y = y;
+      ys = ys;
+      first = of_a;
+      second = of_b;
+      place = far;
+      differ = apart;
     }
 
--- a list of no items
-none_of : {T : Type 0} (xs : List T) → length xs ≡ 0 → xs ≡ []
-none_of [] h = refl
-none_of (x ∷ xs) h = absurd (omega arith)
+-- the first list ends there
+is_front : (a b front second : List Checksum) → a ≡ front → b ≡ front ++ second → length a < length b → IsFront a b
+is_front a b front [] of_a of_b more =
+    let len_a = ap length of_a in
+    let len_b = len_of b front [] of_b in
+    absurd (omega (arith, len_a, len_b))
+is_front a b front (y ∷ ys) of_a of_b more = (y, ys, of_b ∙ ap (λ l. l ++ y ∷ ys) (sym of_a))
 
--- a list with an item
-some_of : (ls : List ChainLink) → 1 ≤ length ls → (x : ChainLink) × (xs : List ChainLink) × (ls ≡ x ∷ xs)
-some_of [] h = absurd (omega arith)
-some_of (x ∷ xs) h = (x, xs, refl)
+ends : (a front first : List Checksum) → a ≡ front ++ first → length a ≤ length front → a ≡ front
+ends a front [] of_a within = of_a ∙ append-nil front
+ends a front (x ∷ xs) of_a within =
+    let len = len_of a front (x ∷ xs) of_a in
+    absurd (omega (arith, len))
 
-pub both_end : (a b first second : List ChainLink) (place : ℕ) → BothBegin a b first second place
-    → length first ≡ 0 → length second ≡ 0 → names_of a ≡ names_of b
-both_end a b first second place begin no_first no_second =
-    begin.of_a ∙ ap (λ ls. begin.front ++ names_of ls) (none_of first no_first ∙ sym (none_of second no_second))
-    ∙ sym begin.of_b
+-- ---- chains
 
-pub first_ends : (a b first second : List ChainLink) (place : ℕ) → BothBegin a b first second place
-    → length first ≡ 0 → 1 ≤ length second → IsFront (names_of a) (names_of b)
-first_ends a b first second place begin no_first more =
-    let next = some_of second more in
-    let whole : names_of a ≡ begin.front = begin.of_a ∙ ap (λ ls. begin.front ++ names_of ls) (none_of first no_first)
-    ∙ append-nil begin.front in (
-      next.0.name,
-      names_of next.1,
-      begin.of_b ∙ ap (λ ls. begin.front ++ names_of ls) next.2
-          ∙ ap (λ ns. ns ++ next.0.name ∷ names_of next.1) (sym whole),
-    )
+pub chains_part : (a b : List ChainLink) → common_front a b < length a → common_front a b < length b
+    → PartAt (names_of a) (names_of b) (common_front a b)
+chains_part a b more_a more_b =
+    let names : ChainLink → Checksum = λ link. link.name in
+    let is = split (names_of a) (names_of b) in
+    let len_a = length-map a names in
+    let len_b = length-map b names in
+    parts (names_of a) (names_of b) is.front is.first is.second (common_front a b) is.of_a is.of_b is.far is.apart
+    (omega (arith, len_a)) (omega (arith, len_b))
 
-pub second_ends : (a b first second : List ChainLink) (x : ChainLink) (xs : List ChainLink) (place : ℕ)
-    → BothBegin a b first second place → first ≡ x ∷ xs → length second ≡ 0 → IsFront (names_of b) (names_of a)
-second_ends a b first second x xs place begin is_first no_second =
-    let whole : names_of b ≡ begin.front = begin.of_b ∙ ap (λ ls. begin.front ++ names_of ls) (none_of second no_second)
-    ∙ append-nil begin.front in (
-      x.name,
-      names_of xs,
-      begin.of_a ∙ ap (λ ls. begin.front ++ names_of ls) is_first
-          ∙ ap (λ ns. ns ++ x.name ∷ names_of xs) (sym whole),
-    )
+pub first_is_front : (a b : List ChainLink) → length a ≤ common_front a b → length a < length b
+    → IsFront (names_of a) (names_of b)
+first_is_front a b ended more =
+    let names : ChainLink → Checksum = λ link. link.name in
+    let is = split (names_of a) (names_of b) in
+    let len_a = length-map a names in
+    let len_b = length-map b names in
+    let far = is.far in
+    is_front (names_of a) (names_of b) is.front is.second
+    (ends (names_of a) is.front is.first is.of_a (omega (arith, len_a, far))) is.of_b (omega (arith, len_a, len_b))
 
-pub they_part : (a b first second : List ChainLink) (x y : ChainLink) (xs ys : List ChainLink) (place : ℕ)
-    → BothBegin a b first second place → first ≡ x ∷ xs → second ≡ y ∷ ys → x.name ≢ y.name
-    → PartAt (names_of a) (names_of b) place
-they_part a b first second x y xs ys place begin is_first is_second differ =
-    record {
-      front = begin.front;
-      x = x.name;
-      xs = names_of xs;
-      y = y.name;
-      ys = names_of ys;
-      first = begin.of_a ∙ ap (λ ls. begin.front ++ names_of ls) is_first;
-      second = begin.of_b ∙ ap (λ ls. begin.front ++ names_of ls) is_second;
-      place = begin.far;
-      differ = differ;
-    }
+pub second_is_front : (a b : List ChainLink) → length b ≤ common_front a b → length b < length a
+    → IsFront (names_of b) (names_of a)
+second_is_front a b ended more =
+    let names : ChainLink → Checksum = λ link. link.name in
+    let is = split (names_of a) (names_of b) in
+    let len_a = length-map a names in
+    let len_b = length-map b names in
+    let far = is.far in
+    is_front (names_of b) (names_of a) is.front is.first
+    (ends (names_of b) is.front is.second is.of_b (omega (arith, len_b, far))) is.of_a (omega (arith, len_a, len_b))
 
--- two names that don't differ are one
-pub same_checksum : (a b : Checksum) → false ≡ not (checksum_eq a b) → a ≡ b
-same_checksum a b h = (checksum_eq-Decides a b).0 (by_test (checksum_eq a b) h)
-  where
-    by_test : (t : Bool) → false ≡ not t → t ≡ true
-    by_test true e = refl
-    by_test false e = cc
+pub both_end : (a b : List ChainLink) → length a ≤ common_front a b → length b ≤ common_front a b
+    → names_of a ≡ names_of b
+both_end a b ended_a ended_b =
+    let names : ChainLink → Checksum = λ link. link.name in
+    let is = split (names_of a) (names_of b) in
+    let len_a = length-map a names in
+    let len_b = length-map b names in
+    let far = is.far in
+    ends (names_of a) is.front is.first is.of_a (omega (arith, len_a, far))
+    ∙ sym (ends (names_of b) is.front is.second is.of_b (omega (arith, len_b, far)))

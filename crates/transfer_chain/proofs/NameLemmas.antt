@@ -9,13 +9,13 @@ use Rattle.ebl_base.specs.declared.checksum.Checksum.{Checksum}
 use Rattle.ebl_base.specs.declared.signed_text.SignedText.{SignedText}
 use Rattle.party_roster.specs.RosterRecord.{RosterRecord}
 use Rattle.signed_envelope.specs.KeyRing.{Keys}
-use Rattle.title_fold.specs.Chain.{names_of, last_name, FollowsChain, FollowEachOther}
+use Rattle.bill_chain.specs.Chain.{names_of, last_name, FollowsChain, FollowEachOther}
 use Rattle.transport_document.specs.DocumentRecord.{DocumentRecord, bill_of}
 use Rattle.transfer_chain.specs.Checked.{texts_of}
 use Rattle.transfer_chain.specs.GoodChain.{IsLink, AreLinks, IsGoodChain, HaveDistinctNames, HaveOwnNames}
 use Rattle.transfer_chain.specs.Meeting.{IsFront, PartAt, Meet}
-use Rattle.transfer_chain.specs.declared.meeting.Meeting.{Meeting}
-use Rattle.transfer_chain.specs.declared.meeting.Meeting.TheVariants.{Equal, FirstIsPrefix, SecondIsPrefix, Parts}
+use Rattle.transfer_chain.specs.declared.compare.Meeting.{Meeting}
+use Rattle.transfer_chain.specs.declared.compare.Meeting.TheVariants.{Equal, FirstIsPrefix, SecondIsPrefix, Parts}
 use Rattle.transfer_chain.proofs.PassLemmas.{last_name-push}
 use Rattle.transfer_chain.proofs.GoodChainLemmas.{link_in, same_link, follow-front, follows_at}
 

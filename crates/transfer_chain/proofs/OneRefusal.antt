@@ -25,8 +25,8 @@ use Rattle.signed_envelope.proofs.Readings.{same_parts, same_signer, same_signed
 use Rattle.title_fold.specs.declared.refusal.FoldAt.{FoldAt}
 use Rattle.title_fold.specs.declared.refusal.FoldRefusal.{FoldRefusal}
 use Rattle.title_fold.specs.declared.title.Title.{Title}
-use Rattle.title_fold.specs.Chain as chains
-use Rattle.title_fold.specs.Chain.{transactions_of, MovesAtItsEnd, FollowsChain}
+use Rattle.bill_chain.specs.Chain as chains
+use Rattle.bill_chain.specs.Chain.{transactions_of, MovesAtItsEnd, FollowsChain}
 use Rattle.title_fold.specs.Fold.{Folded, fold_from}
 use Rattle.transport_document.specs.DocumentRecord.{DocumentRecord, bill_of}
 use Rattle.transfer_chain.specs.GoodChain.{IsLink, AreLinks}
@@ -34,11 +34,12 @@ use Rattle.transfer_chain.specs.Refusal.{IsTextWrong, IsTextRefused, IsBegunIfAn
 use Rattle.transfer_chain.specs.Steps.{IsTextFault, refusal_at}
 use Rattle.transfer_chain.specs.declared.fault.ChainRefusal.{ChainRefusal}
 use Rattle.transfer_chain.specs.declared.fault.ChainRefusal.TheVariants.{Empty, TooLong, BadSignature, EntryForm, WrongSigner, BrokenLink, WrongBill, Carrier, WrongPlatform, Fold, Move, NoMemory}
-use Rattle.transfer_chain.specs.declared.linking.TextFault.{TextFault}
-use Rattle.transfer_chain.specs.declared.linking.TextFault.TheVariants as text
+use Rattle.transfer_chain.specs.declared.verify_texts.TextFault.{TextFault}
+use Rattle.transfer_chain.specs.declared.verify_texts.TextFault.TheVariants as text
 use Rattle.transfer_chain.proofs.EntryLemmas.{EntryWrong}
 use Rattle.transfer_chain.proofs.GoodChainLemmas.{same_links, follows_at}
-use Rattle.transfer_chain.proofs.ExclusionLemmas.{not_badly_signed, has_entry, not_of_another, link_there, texts_right, one_title, fold_taken, move_taken, first_of}
+use Rattle.transfer_chain.proofs.ExclusionLemmas.{not_badly_signed, has_entry, not_of_another, link_there, texts_right, one_title, fold_taken, move_taken}
+use Rattle.transfer_chain.proofs.PassLemmas.{first_of}
 
 -- ---- one cause of a bad signature
 
@@ -377,7 +378,7 @@ record EntryAt (roster : RosterRecord) (document : DocumentRecord) (chain : List
   link : ChainLink
   rest : List ChainLink
   parts : chain ≡ front ++ link ∷ rest
-  good : chains.IsGoodChain (bill_of document) front
+  good : chains.IsChainOfBill (bill_of document) front
   begun : IsBegunIfAny roster document front
   wrong : EntryWrong roster document front link.entry (length front) r
 
@@ -475,11 +476,11 @@ by_carrier_in roster document (first ∷ front) link m f h = tt
 -- an entry that is wrong doesn't stand in a good chain
 not_in_good : (roster : RosterRecord) (document : DocumentRecord) (front : List ChainLink) (link : ChainLink)
     (m whole : List ChainLink) (r : ChainRefusal) → whole ≡ front ++ link ∷ m
-    → chains.IsGoodChain (bill_of document) whole → IsBegunIfAny roster document whole
+    → chains.IsChainOfBill (bill_of document) whole → IsBegunIfAny roster document whole
     → EntryWrong roster document front link.entry (length front) r → ⊥
 not_in_good roster document front link m whole r is good begun wrong =
     let f : FollowsChain (bill_of document) front link.entry =
-    follows_at (bill_of document) [] front link m (subst (chains.IsGoodChain (bill_of document)) is good) in
+    follows_at (bill_of document) [] front link m (subst (chains.IsChainOfBill (bill_of document)) is good) in
     follows-right roster document front link.entry (length front) r f
     (by_carrier_in roster document front link m f (subst (IsBegunIfAny roster document) is begun)) wrong
 

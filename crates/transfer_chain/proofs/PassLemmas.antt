@@ -13,19 +13,19 @@ use Rattle.party_roster.specs.RosterRecord.{RosterRecord, carrier}
 use Rattle.transport_document.specs.DocumentRecord.{DocumentRecord, bill_of}
 use Rattle.title_fold.specs.declared.refusal.FoldRefusal.{FoldRefusal}
 use Rattle.title_fold.specs.declared.title.Title.{Title}
-use Rattle.title_fold.specs.Chain as chains
-use Rattle.title_fold.specs.Chain.{last_of, last_name, transactions_of, title_after_chain, FollowsChain, FollowEachOther}
+use Rattle.bill_chain.specs.Chain as chains
+use Rattle.bill_chain.specs.Chain.{last_of, last_name, transactions_of, title_after_chain, FollowsChain, FollowEachOther}
 use Rattle.title_fold.specs.Fold.{fold, fold_from, fold_on, goes_on}
 use Rattle.title_fold.specs.Step.{step_title}
-use Rattle.title_fold.proofs.ChainLemmas.{last_of-push}
+use Rattle.bill_chain.proofs.ChainLemmas.{last_of-push}
 use Rattle.title_fold.proofs.FoldLemmas.{fold-append, fold_from-elsewhere}
 use Rattle.transfer_chain.specs.Checked.{HaveTransactions}
 use Rattle.transfer_chain.specs.GoodChain.{first_actor}
 use Rattle.transfer_chain.specs.Refusal.{IsByCarrier, IsBegunIfAny, IsEntryWrong, IsChainRefused}
-use Rattle.transfer_chain.specs.Steps.{after_entry, judged, pass}
+use Rattle.transfer_chain.specs.Steps.{after_entry, check_entry, pass}
 use Rattle.transfer_chain.specs.declared.fault.ChainRefusal.{ChainRefusal}
 use Rattle.transfer_chain.specs.declared.fault.ChainRefusal.TheVariants.{Empty, TooLong, BadSignature, EntryForm, WrongSigner, BrokenLink, WrongBill, Carrier, WrongPlatform, Fold, Move, NoMemory}
-use Rattle.transfer_chain.proofs.EntryLemmas.{IsBegun, Stands, EntryWrong, EntryRight, Judged, judged-tells}
+use Rattle.transfer_chain.proofs.EntryLemmas.{IsBegun, Stands, EntryWrong, EntryRight, Judged, check_entry-tells}
 
 -- ---- one entry more
 
@@ -137,8 +137,8 @@ pass-tells : (roster : RosterRecord) (document : DocumentRecord) (chain front : 
 pass-tells roster document [] front previous title place stands at some = (tt, tt)
 pass-tells roster document (link ∷ chain) front previous title place stands at some =
     by_entry
-    (judged (carrier roster document.provider document.code) (bill_of document) previous title place link.entry)
-    (judged-tells roster document front previous title place link.entry stands here)
+    (check_entry (carrier roster document.provider document.code) (bill_of document) previous title place link.entry)
+    (check_entry-tells roster document front previous title place link.entry stands here)
     (λ after further. pass-tells roster document chain (front ++ link ∷ []) (Some link.name) after (place + 1) further next_place
     (All-tail (λ (l : ChainLink). 1 ≤ length l.entry.transactions) link chain some))
   where
@@ -173,8 +173,14 @@ pass-tells roster document (link ∷ chain) front previous title place stands at
 
 -- ---- from the first entry on
 
+-- the first actor of a list is that of its front, if that has a transaction
+pub first_of : (ts more : List Transaction) (party : Party) → 1 ≤ length ts → first_actor (ts ++ more) ≡ Some party
+    → first_actor ts ≡ Some party
+first_of [] more party some h = absurd (omega arith)
+first_of (t ∷ ts) more party some h = h
+
 -- the first actor of more transactions is that of the first ones
-first_actor-more : (ts more : List Transaction) (party : Party) → first_actor ts ≡ Some party
+pub first_actor-more : (ts more : List Transaction) (party : Party) → first_actor ts ≡ Some party
     → first_actor (ts ++ more) ≡ Some party
 first_actor-more [] more party h = cc
 first_actor-more (t ∷ ts) more party h = h
@@ -190,7 +196,7 @@ none_before = record { name = refl; title = refl; begun = refl }
 
 -- a chain that passes
 pub record PassedChain (roster : RosterRecord) (document : DocumentRecord) (chain : List ChainLink) : Type 0 where
-  pub entries : chains.IsGoodChain (bill_of document) chain
+  pub entries : chains.IsChainOfBill (bill_of document) chain
   pub begun : IsBegunIfAny roster document chain
 
 -- an entry that is wrong, as the refusal says it

@@ -5,17 +5,17 @@ use Rattle.ebl_base.specs.declared.transaction.Transaction.{Transaction}
 use Rattle.title_fold.specs.declared.title.Title.{Title}
 use Rattle.title_fold.specs.declared.refusal.FoldRefusal.{FoldRefusal}
 use Rattle.title_fold.specs.declared.refusal.FoldAt.{FoldAt}
-use Rattle.title_fold.specs.Chain.{Stays, MovesAtItsEnd}
+use Rattle.bill_chain.specs.Chain.{Stays, MovesAtItsEnd}
 use Rattle.title_fold.specs.Fold.{Folded, goes_on, fold_from}
 use Rattle.title_fold.specs.Movement.{moves}
 use Rattle.title_fold.specs.Step.{step_title}
 use Rattle.transfer_chain.specs.Steps.{agree, after_step, is_end, run}
-use Rattle.transfer_chain.specs.declared.passing.Ran.{Ran}
+use Rattle.transfer_chain.specs.declared.replay.Replayed.{Replayed}
 
-abbrev ran_to : Ran → Result Ran FoldAt
+abbrev ran_to : Replayed → Result Replayed FoldAt
 ran_to ran = Ok ran
 
-abbrev stopped : FoldAt → Result Ran FoldAt
+abbrev stopped : FoldAt → Result Replayed FoldAt
 stopped at = Err at
 
 abbrev gave : Option Title → Folded
@@ -26,7 +26,7 @@ refused at = Err at
 
 -- ---- the fold
 
-run-folds_on : (ts : List Transaction) (place : ℕ) (ran : Ran) (next : Title → Bool)
+run-folds_on : (ts : List Transaction) (place : ℕ) (ran : Replayed) (next : Title → Bool)
     → ((after : Title) → run ts (Some after) (next after) (place + 1) ≡ ran_to ran
     → fold_from ts (Some after) (place + 1) ≡ gave ran.title)
     → (step : Result Title FoldRefusal)
@@ -36,11 +36,11 @@ run-folds_on ts place ran next further (Err rule) h = cc
 run-folds_on ts place ran next further (Ok after) h = further after h
 
 -- a run to the end is a fold
-pub run-folds : (ts : List Transaction) (before : Option Title) (so_far : Bool) (place : ℕ) (ran : Ran)
+pub run-folds : (ts : List Transaction) (before : Option Title) (so_far : Bool) (place : ℕ) (ran : Replayed)
     → run ts before so_far place ≡ ran_to ran → fold_from ts before place ≡ gave ran.title
-run-folds [] before so_far place ran h = ap (λ (r : Result Ran FoldAt). title_in r) h
+run-folds [] before so_far place ran h = ap (λ (r : Result Replayed FoldAt). title_in r) h
   where
-    title_in : Result Ran FoldAt → Folded
+    title_in : Result Replayed FoldAt → Folded
     title_in (Ok r) = Ok r.title
     title_in (Err at) = Err at
 run-folds (t ∷ ts) before so_far place ran h =
@@ -108,7 +108,7 @@ EndsRight-cons t (u ∷ us) before after steps here behind =
       moved = behind.moved;
     }
 
-run-ends_on : (t : Transaction) (ts : List Transaction) (before : Option Title) (so_far : Bool) (place : ℕ) (ran : Ran)
+run-ends_on : (t : Transaction) (ts : List Transaction) (before : Option Title) (so_far : Bool) (place : ℕ) (ran : Replayed)
     → ((after : Title) (b : Bool) → run ts (Some after) b (place + 1) ≡ ran_to ran
     → (b ≡ true) × EndsRight ts (Some after))
     → (step : Result Title FoldRefusal) → step_title before t ≡ step
@@ -121,11 +121,11 @@ run-ends_on t ts before so_far place ran further (Ok after) steps h =
     (parts.0, EndsRight-cons t ts before after steps (agree-same (moves before after) (is_end ts) parts.1) right.1)
 
 -- what a run to the end found right
-pub run-ends : (ts : List Transaction) (before : Option Title) (so_far : Bool) (place : ℕ) (ran : Ran)
+pub run-ends : (ts : List Transaction) (before : Option Title) (so_far : Bool) (place : ℕ) (ran : Replayed)
     → run ts before so_far place ≡ ran_to ran → ran.moves_last ≡ true → (so_far ≡ true) × EndsRight ts before
-run-ends [] before so_far place ran h right = (ap (λ (r : Result Ran FoldAt). found r) h ∙ right, tt)
+run-ends [] before so_far place ran h right = (ap (λ (r : Result Replayed FoldAt). found r) h ∙ right, tt)
   where
-    found : Result Ran FoldAt → Bool
+    found : Result Replayed FoldAt → Bool
     found (Ok r) = r.moves_last
     found (Err at) = false
 run-ends (t ∷ ts) before so_far place ran h right =

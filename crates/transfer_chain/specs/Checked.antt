@@ -3,7 +3,7 @@ use Rattle.std.specs.Prelude.{◌≡◌, ◌≤◌, List, Option, Ok, All, lengt
 use Rattle.ebl_base.specs.declared.chain.ChainLink.{ChainLink}
 use Rattle.ebl_base.specs.declared.signed_text.SignedText.{SignedText}
 use Rattle.title_fold.specs.declared.title.Title.{Title}
-use Rattle.title_fold.specs.Chain.{title_after_chain}
+use Rattle.bill_chain.specs.Chain.{title_after_chain}
 
 -- the texts, in their order
 abbrev pub texts_of : List ChainLink → List SignedText

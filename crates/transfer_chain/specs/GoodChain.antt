@@ -6,20 +6,21 @@ use Rattle.signed_envelope.specs.KeyRing.{Keys}
 use Rattle.signed_envelope.specs.SignedText.{IsSigned}
 use Rattle.chain_entry.specs.Reading.{entry_of}
 use Rattle.ebl_base.specs.declared.chain.ChainLink.{ChainLink}
+use Rattle.ebl_base.specs.declared.limits.TheConstants.{MAX_CHAIN_ENTRIES, MAX_SIGNED_TEXT}
 use Rattle.ebl_base.specs.declared.party.Party.{Party}
 use Rattle.ebl_base.specs.declared.signed_text.SignedText.{SignedText}
 use Rattle.ebl_base.specs.declared.transaction.Transaction.{Transaction}
 use Rattle.party_roster.specs.RosterRecord.{RosterRecord, carrier}
 use Rattle.transport_document.specs.DocumentRecord.{DocumentRecord, bill_of}
-use Rattle.title_fold.specs.Chain as chains
-use Rattle.title_fold.specs.Chain.{transactions_of}
+use Rattle.bill_chain.specs.Chain as chains
+use Rattle.bill_chain.specs.Chain.{transactions_of}
 
 -- the link is that of a text: the text, its name, and the entry that its payload is, of the platform that signed it
 pub record IsLink (keys : Keys) (t : SignedText) (link : ChainLink) : Type 0 where
   pub text : link.text ≡ t
   pub name : link.name ≡ checksum_of t.0
   pub value : Value
-  pub signed : IsSigned keys 16384 t.0 link.entry.platform value
+  pub signed : IsSigned keys MAX_SIGNED_TEXT t.0 link.entry.platform value
   pub entry : entry_of value ≡ Ok link.entry
 
 -- the links are those of the texts, one for each
@@ -44,10 +45,10 @@ IsBegunByCarrier roster document transactions =
 pub record IsGoodChain (roster : RosterRecord) (keys : Keys) (document : DocumentRecord) (texts : List SignedText)
     (chain : List ChainLink) : Type 0 where
   pub some : 1 ≤ length texts
-  pub most : length texts ≤ 64
+  pub most : length texts ≤ MAX_CHAIN_ENTRIES
   pub links : AreLinks keys texts chain
   pub carrier : IsBegunByCarrier roster document (transactions_of chain)
-  pub entries : chains.IsGoodChain (bill_of document) chain
+  pub entries : chains.IsChainOfBill (bill_of document) chain
 
 -- no two different texts of the list have one name
 abbrev pub HaveDistinctNames : List SignedText → Type 0

@@ -1,7 +1,7 @@
 -- How two lists meet: which of them begins with the other, or where they part.
 use Rattle.std.specs.Prelude.{◌≡◌, ◌≢◌, ℕ, List, ◌∷◌, ◌++◌, length}
-use Rattle.transfer_chain.specs.declared.meeting.Meeting.{Meeting}
-use Rattle.transfer_chain.specs.declared.meeting.Meeting.TheVariants.{Equal, FirstIsPrefix, SecondIsPrefix, Parts}
+use Rattle.transfer_chain.specs.declared.compare.Meeting.{Meeting}
+use Rattle.transfer_chain.specs.declared.compare.Meeting.TheVariants.{Equal, FirstIsPrefix, SecondIsPrefix, Parts}
 
 -- the first list is a front of the second, and shorter
 abbrev pub IsFront : {T : Type 0} → List T → List T → Type 0

@@ -1,4 +1,4 @@
--- Why texts are no good chain: the first cause that fits, texts before links, and of each the first.
+-- Why texts are no good chain: the first cause that applies, texts before links, and of each the first.
 use Rattle.std.specs.Prelude.{◌≡◌, ◌≢◌, ◌≤◌, ◌<◌, ◌⊎◌, ℕ, List, [], ◌∷◌, ◌++◌, Option, Some, None, Ok, Err, length}
 use Rattle.canonical_json.specs.Value.{Value}
 use Rattle.signed_envelope.specs.KeyRing.{Keys}
@@ -10,14 +10,15 @@ use Rattle.chain_entry.specs.Reading.{entry_of}
 use Rattle.chain_entry.specs.declared.fault.EntryField.{EntryField}
 use Rattle.ebl_base.specs.declared.chain.ChainLink.{ChainLink}
 use Rattle.ebl_base.specs.declared.entry.Entry.{Entry}
+use Rattle.ebl_base.specs.declared.limits.TheConstants.{MAX_CHAIN_ENTRIES, MAX_SIGNED_TEXT}
 use Rattle.ebl_base.specs.declared.platform_code.PlatformCode.{PlatformCode}
 use Rattle.ebl_base.specs.declared.signed_text.SignedText.{SignedText}
 use Rattle.party_roster.specs.RosterRecord.{RosterRecord}
 use Rattle.transport_document.specs.DocumentRecord.{DocumentRecord, bill_of}
 use Rattle.title_fold.specs.declared.refusal.FoldRefusal.{FoldRefusal}
 use Rattle.title_fold.specs.declared.title.Title.{Title}
-use Rattle.title_fold.specs.Chain as chains
-use Rattle.title_fold.specs.Chain.{last_name, transactions_of, title_after_chain, platform_at_turn, MovesAtItsEnd}
+use Rattle.bill_chain.specs.Chain as chains
+use Rattle.bill_chain.specs.Chain.{last_name, transactions_of, title_after_chain, platform_at_turn, MovesAtItsEnd}
 use Rattle.title_fold.specs.Fold.{fold_from}
 use Rattle.transfer_chain.specs.GoodChain.{AreLinks, IsBegunByCarrier}
 use Rattle.transfer_chain.specs.declared.fault.ChainRefusal.{ChainRefusal}
@@ -27,17 +28,17 @@ use Rattle.transfer_chain.specs.declared.fault.ChainRefusal.TheVariants.{Empty, 
 
 -- it is not signed within the limit, and this is why
 abbrev pub IsBadlySigned : Keys → BadSigned → SignedText → Type 0
-IsBadlySigned keys why text = (why ≢ bad.NoMemory) × envelope.IsRefused keys 16384 None text.0 why
+IsBadlySigned keys why text = (why ≢ bad.NoMemory) × envelope.IsRefused keys MAX_SIGNED_TEXT None text.0 why
 
 -- it is signed, and its payload is no entry: this is the first wrong member
 abbrev pub HasNoEntry : Keys → EntryField → SignedText → Type 0
 HasNoEntry keys field text =
-    (who : PlatformCode) × (value : Value) × IsSigned keys 16384 text.0 who value × (entry_of value ≡ Err field)
+    (who : PlatformCode) × (value : Value) × IsSigned keys MAX_SIGNED_TEXT text.0 who value × (entry_of value ≡ Err field)
 
 -- it is signed by another platform than the one whose entry it is
 abbrev pub IsOfAnother : Keys → SignedText → Type 0
 IsOfAnother keys text =
-    (who : PlatformCode) × (value : Value) × (entry : Entry) × IsSigned keys 16384 text.0 who value
+    (who : PlatformCode) × (value : Value) × (entry : Entry) × IsSigned keys MAX_SIGNED_TEXT text.0 who value
     × (entry_of value ≡ Ok entry) × (entry.platform ≢ who)
 
 -- this text is wrong, and those before it are right
@@ -74,7 +75,7 @@ pub record IsEntryWrong (roster : RosterRecord) (document : DocumentRecord) (cha
   pub rest : List ChainLink
   pub parts : chain ≡ front ++ link ∷ rest
   pub place : length front ≡ at
-  pub good : chains.IsGoodChain (bill_of document) front
+  pub good : chains.IsChainOfBill (bill_of document) front
   pub begun : IsBegunIfAny roster document front
   pub is_wrong : wrong front link.entry
 
@@ -133,13 +134,13 @@ IsChainRefused roster document chain other = ⊥
 pub record IsRefusedAt (roster : RosterRecord) (keys : Keys) (document : DocumentRecord) (texts : List SignedText)
     (refusal : ChainRefusal) : Type 0 where
   pub some : 1 ≤ length texts
-  pub most : length texts ≤ 64
+  pub most : length texts ≤ MAX_CHAIN_ENTRIES
   pub cause : IsTextRefused keys texts refusal
       ⊎ ((chain : List ChainLink) × AreLinks keys texts chain × IsChainRefused roster document chain refusal)
 
 -- no text; more than 64, before one is looked at; then the first wrong text; then the first wrong entry
 abbrev pub IsRefused : RosterRecord → Keys → DocumentRecord → List SignedText → ChainRefusal → Type 0
 IsRefused roster keys document texts Empty = texts ≡ []
-IsRefused roster keys document texts TooLong = 64 < length texts
+IsRefused roster keys document texts TooLong = MAX_CHAIN_ENTRIES < length texts
 IsRefused roster keys document texts NoMemory = Unit {0}
 IsRefused roster keys document texts refusal = IsRefusedAt roster keys document texts refusal

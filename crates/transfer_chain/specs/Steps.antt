@@ -25,9 +25,9 @@ use Rattle.transfer_chain.specs.GoodChain.{first_actor}
 use Rattle.transfer_chain.specs.Refusal.{IsBadlySigned, HasNoEntry, IsOfAnother}
 use Rattle.transfer_chain.specs.declared.fault.ChainRefusal.{ChainRefusal}
 use Rattle.transfer_chain.specs.declared.fault.ChainRefusal.TheVariants.{BadSignature, EntryForm, WrongSigner, BrokenLink, WrongBill, Carrier, WrongPlatform, Fold, Move, NoMemory}
-use Rattle.transfer_chain.specs.declared.linking.TextFault.{TextFault}
-use Rattle.transfer_chain.specs.declared.linking.TextFault.TheVariants as text
-use Rattle.transfer_chain.specs.declared.passing.Ran.{Ran}
+use Rattle.transfer_chain.specs.declared.verify_texts.TextFault.{TextFault}
+use Rattle.transfer_chain.specs.declared.verify_texts.TextFault.TheVariants as text
+use Rattle.transfer_chain.specs.declared.replay.Replayed.{Replayed}
 
 -- ---- texts
 
@@ -91,11 +91,11 @@ turn_of None ts = platform_at (first_actor ts)
 turn_of (Some title) ts = Some (possessor title).platform
 
 -- whether it is the platform's turn
-abbrev pub is_turn : Option PlatformCode → PlatformCode → Bool
-is_turn None platform = false
-is_turn (Some turn) platform = code_eq turn platform
+abbrev pub is_expected_platform : Option PlatformCode → PlatformCode → Bool
+is_expected_platform None platform = false
+is_expected_platform (Some turn) platform = code_eq turn platform
 
--- whether a transaction moves exactly where it is the last
+-- whether a transaction moves if and only if it is the last
 abbrev pub agree : Bool → Bool → Bool
 agree true true = true
 agree true false = false
@@ -103,30 +103,30 @@ agree false true = false
 agree false false = true
 
 -- after a step that is taken
-abbrev pub after_step : ℕ → (Title → Result Ran FoldAt) → Result Title FoldRefusal → Result Ran FoldAt
+abbrev pub after_step : ℕ → (Title → Result Replayed FoldAt) → Result Title FoldRefusal → Result Replayed FoldAt
 after_step place next (Ok title) = next title
 after_step place next (Err rule) = Err (record { place = place; rule = rule })
 
 -- the title after the transactions, and whether the last alone moves
-abbrev pub run : List Transaction → Option Title → Bool → ℕ → Result Ran FoldAt
+abbrev pub run : List Transaction → Option Title → Bool → ℕ → Result Replayed FoldAt
 run [] title so_far place = Ok (record { title = title; moves_last = so_far })
 run (t ∷ ts) title so_far place =
     after_step place (λ after. run ts (Some after) (so_far && agree (moves title after) (is_end ts)) (place + 1))
     (step_title title t)
 
 -- the title after the entry at this place
-abbrev pub after_run : ℕ → Result Ran FoldAt → Result (Option Title) ChainRefusal
+abbrev pub after_run : ℕ → Result Replayed FoldAt → Result (Option Title) ChainRefusal
 after_run place (Err at) = Err (Fold place at.place at.rule)
 after_run place (Ok ran) = if ran.moves_last then Ok ran.title else Err (Move place)
 
 -- the title after an entry that may stand here, or what is wrong with it first
-abbrev pub judged : Option Party → Checksum → Option Checksum → Option Title → ℕ → Entry
+abbrev pub check_entry : Option Party → Checksum → Option Checksum → Option Title → ℕ → Entry
     → Result (Option Title) ChainRefusal
-judged carrier bill previous title place entry =
+check_entry carrier bill previous title place entry =
     if not (same_name entry.previous previous) then Err (BrokenLink place) else
     if not (checksum_eq entry.bill bill) then Err (WrongBill place) else
     if not (is_by_carrier carrier title entry.transactions) then Err Carrier else
-    if not (is_turn (turn_of title entry.transactions) entry.platform) then Err (WrongPlatform place) else
+    if not (is_expected_platform (turn_of title entry.transactions) entry.platform) then Err (WrongPlatform place) else
     after_run place (run entry.transactions title true 0)
 
 -- ---- all entries
@@ -143,4 +143,4 @@ abbrev pub pass : Option Party → Checksum → List ChainLink → Option Checks
 pass carrier bill [] previous title place = Ok title
 pass carrier bill (link ∷ chain) previous title place =
     after_entry (λ after. pass carrier bill chain (Some link.name) after (place + 1))
-    (judged carrier bill previous title place link.entry)
+    (check_entry carrier bill previous title place link.entry)

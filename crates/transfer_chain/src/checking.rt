@@ -1,25 +1,24 @@
 //! Which texts are a good chain.
-ghost use Rattle.std.specs.Prelude.{IfOk, IfErr};
+ghost use Rattle.std.specs.Prelude.{IfOk, IfErr, IsSome};
+ghost use Rattle.bill_chain.specs.Chain.{last_of};
+ghost use Rattle.transfer_chain.specs.Checked.{IsChecked};
 ghost use Rattle.transfer_chain.specs.GoodChain.{IsGoodChain};
 ghost use Rattle.transfer_chain.specs.Refusal.{IsRefused};
 
 use crate::fault::ChainRefusal;
-use crate::linking::links_of;
-use crate::passing::pass;
-use ebl_base::{Chain, TextList};
+use crate::replay::pass;
+use crate::verify_texts::links_of;
+use ebl_base::{Chain, MAX_CHAIN_ENTRIES, TextList};
 use party_roster::Roster;
 use signed_envelope::KeyRing;
 use std::alloc::Global;
 use transport_document::Document;
 
-/// The most texts of a chain.
-const MOST: usize = 64;
-
 /// The good chain that the texts are for the document's bill: 1 to 64 entries, each signed by its platform, of that
 /// bill and after the one before it; the transactions of all begin with the roster's carrier of the document and fold;
 /// each entry is of the platform that has possession then, and its last transaction alone moves possession to another.
 ///
-/// The first [`ChainRefusal`] that fits is answered. Each signature is verified once, each text named and read once,
+/// The first [`ChainRefusal`] that applies is answered. Each signature is verified once, each text named and read once,
 /// each transaction folded once.
 pub fn check<G: KeyRing>(
     alloc: Global,
@@ -29,13 +28,15 @@ pub fn check<G: KeyRing>(
     texts: &TextList,
 ) -> Result<Chain, ChainRefusal>
     ensures ok { IfOk result (IsGoodChain roster.now (G.keys ring.now) document.now texts.now) }
+    ensures checked { IfOk result IsChecked }
+    ensures last { IfOk result (λ chain. IsSome (last_of chain)) }
     ensures err { IfErr result (IsRefused roster.now (G.keys ring.now) document.now texts.now) }
 {
     let texts = texts.as_slice();
     if texts.is_empty() {
         return Err(ChainRefusal::Empty);
     }
-    if texts.len() > MOST {
+    if texts.len() > MAX_CHAIN_ENTRIES {
         return Err(ChainRefusal::TooLong);
     }
     let links = match links_of(alloc, ring, texts) {

@@ -8,7 +8,7 @@ use title_fold::FoldRefusal;
 /// Why texts aren't taken as a good chain. Places count from 0.
 ///
 /// All texts are looked at before any entry is compared with those before it; of each, the first that is wrong is
-/// named, with the first cause that fits in this order.
+/// named, with the first cause that applies in this order.
 #[derive(Clone, Copy, Debug, PartialEq, Eq)]
 pub enum ChainRefusal {
     /// There is no text.

@@ -7,7 +7,7 @@ ghost use Rattle.ebl_base.specs.declared.signed_text.SignedText.{SignedText};
 ghost use Rattle.party_roster.specs.RosterRecord.{RosterRecord};
 ghost use Rattle.signed_envelope.specs.KeyRing.{Keys};
 ghost use Rattle.signed_envelope.specs.SignedText.{IsSigned};
-ghost use Rattle.title_fold.specs.Chain.{destination, last_name, names_of};
+ghost use Rattle.bill_chain.specs.Chain.{destination, last_name, names_of};
 ghost use Rattle.transport_document.specs.DocumentRecord.{DocumentRecord};
 ghost use Rattle.transfer_chain.specs.Checked.{IsChecked, texts_of};
 ghost use Rattle.transfer_chain.specs.GoodChain.{HaveDistinctNames, HaveOwnNames, IsGoodChain};
@@ -15,8 +15,9 @@ ghost use Rattle.transfer_chain.specs.Meeting.{Meet};
 ghost use Rattle.transfer_chain.specs.Refusal.{IsRefused};
 ghost use Rattle.transfer_chain.specs.declared.fault.ChainRefusal.TheVariants.{NoMemory};
 
+use crate::compare::Meeting;
 use crate::fault::ChainRefusal;
-use crate::meeting::Meeting;
+use ebl_base::MAX_SIGNED_TEXT;
 
 /// A front of a good chain is a good chain of its texts, if it has an entry.
 pub fn front_of_good_chain_is_good()
@@ -37,7 +38,7 @@ pub fn entries_of_good_chain_hand_over()
     ensures signed { (roster : RosterRecord) (keys : Keys) (document : DocumentRecord) (texts : List SignedText)
         (front : List ChainLink) (a : ChainLink) (rest : List ChainLink)
         → IsGoodChain roster keys document texts (front ++ a ∷ rest)
-        → (value : Value) × IsSigned keys 16384 a.text.0 a.entry.platform value × (entry_of value ≡ Ok a.entry) }
+        → (value : Value) × IsSigned keys MAX_SIGNED_TEXT a.text.0 a.entry.platform value × (entry_of value ≡ Ok a.entry) }
     ensures moves { (roster : RosterRecord) (keys : Keys) (document : DocumentRecord) (texts : List SignedText)
         (front : List ChainLink) (a : ChainLink) (rest : List ChainLink)
         → IsGoodChain roster keys document texts (front ++ a ∷ rest)
@@ -52,7 +53,7 @@ pub fn entries_of_good_chain_hand_over()
         → destination (front ++ a ∷ []) ≡ Some b.entry.platform }
 {}
 
-/// Texts that are refused, but for want of memory, are no good chain; and texts are one good chain at most.
+/// Texts that are refused, except out of memory, are no good chain; and texts are one good chain at most.
 pub fn refused_texts_are_no_good_chain()
     ensures refused { (roster : RosterRecord) (keys : Keys) (document : DocumentRecord) (texts : List SignedText)
         (chain : List ChainLink) (refusal : ChainRefusal) → IsRefused roster keys document texts refusal
@@ -62,8 +63,8 @@ pub fn refused_texts_are_no_good_chain()
         → a ≡ b }
 {}
 
-/// Texts have one refusal at most, but for want of memory: so each refusal of [`check`](crate::check) comes exactly
-/// where it fits first.
+/// Texts have one refusal at most, except out of memory: so each refusal of [`check`](crate::check) comes if and
+/// only if it is the first that applies.
 pub fn refused_texts_have_one_refusal()
     ensures { (roster : RosterRecord) (keys : Keys) (document : DocumentRecord) (texts : List SignedText)
         (one other : ChainRefusal) → IsRefused roster keys document texts one

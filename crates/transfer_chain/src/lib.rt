@@ -2,16 +2,17 @@
 #![tactic(auto)]
 
 mod checking;
+mod compare;
 mod destination;
 mod fault;
 mod laws;
-mod linking;
-mod meeting;
-mod passing;
+mod replay;
 #[cfg(test)]
 mod tests;
+mod verify_texts;
 
 pub use checking::check;
+pub use compare::{Meeting, meet};
 pub use destination::dest;
 pub use fault::ChainRefusal;
 pub use laws::{
@@ -19,4 +20,3 @@ pub use laws::{
     good_chain_is_checked, last_name_determines_the_chain, refused_texts_are_no_good_chain,
     refused_texts_have_one_refusal,
 };
-pub use meeting::{Meeting, meet};

@@ -1,6 +1,4 @@
 //! Chains of a bill that goes to and fro between two platforms, signed by the test ring, with flaws at will.
-ghost use Rattle.std.specs.Prelude.{IfOk, IfSome};
-ghost use Rattle.transfer_chain.specs.Checked.{IsChecked};
 
 use crate::{ChainRefusal, check};
 use canonical_json::{Json, is_lawful, read};
@@ -236,9 +234,7 @@ pub(crate) fn texts(alloc: Global, count: usize, flaws: &Flaws) -> Option<TextLi
 }
 
 /// What the check of these texts says.
-pub(crate) fn checked(alloc: Global, texts: &TextList) -> Option<Result<Chain, ChainRefusal>>
-    ensures { IfSome result (λ answer. IfOk answer IsChecked) }
-{
+pub(crate) fn checked(alloc: Global, texts: &TextList) -> Option<Result<Chain, ChainRefusal>> {
     let roster = Roster::read(alloc, &json(alloc, ROSTER)?).ok()?;
     let document = Document::of_json(alloc, &json(alloc, DOCUMENT)?).ok()?;
     Some(checked_by(alloc, &roster, &document, texts, &KeyedRing::derived()))
@@ -250,8 +246,6 @@ fn checked_by(
     document: &Document,
     texts: &TextList,
     ring: &KeyedRing,
-) -> Result<Chain, ChainRefusal>
-    ensures { IfOk result IsChecked }
-{
+) -> Result<Chain, ChainRefusal> {
     check(alloc, roster, ring, document, texts)
 }

@@ -1,4 +1,4 @@
-//! The first refusal that fits.
+//! The first refusal that applies.
 use super::making::{Flaw, Flaws, GOOD, checked, one, texts};
 use crate::ChainRefusal;
 use chain_entry::EntryField;

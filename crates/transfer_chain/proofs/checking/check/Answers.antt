@@ -1,6 +1,7 @@
 use Rattle.std.proofs.Common.{length, ap, ◌∙◌}
 use Rattle.party_roster.specs.RosterRecord.{carrier}
 use Rattle.transfer_chain.proofs.CheckLemmas.{check-good, check-entry}
+use Rattle.transfer_chain.proofs.GoodChainLemmas.{good-checked, good-last}
 use Rattle.transfer_chain.proofs.LinkLemmas.{not_empty}
 use Rattle.transfer_chain.proofs.checking.check.Goals as goal
 
@@ -12,7 +13,7 @@ returns-in-Ok-pass-clause-ok g c =
     (record {
       texts_seen = c.as_slice-texts.ensures;
       some = not_empty (length c.as_slice-texts.result.now) c.if-is_empty.ensures;
-      most = c.if-texts-gt-MOST.false;
+      most = c.if-texts-gt-MAX_CHAIN_ENTRIES.false;
       carrier_seen = c.carrier-carrier.ensures
           ∙ ap (λ p. carrier c.args.roster.now p c.code.result) c.provider.ensures
           ∙ ap (λ k. carrier c.args.roster.now c.args.document.now.provider k) c.code.ensures;
@@ -20,6 +21,16 @@ returns-in-Ok-pass-clause-ok g c =
       chain_seen = c.as_slice.ensures.value;
     })
     c.in-Ok.ensures.ok c.in-Ok-pass.ensures c.from_vec.ensures
+
+pub returns-in-Ok-pass-clause-checked : goal.returns-in-Ok-pass-clause-checked
+returns-in-Ok-pass-clause-checked g c =
+    good-checked c.args.roster.now (g.G.KeyRing.keys c.args.ring.now) c.args.document.now c.args.texts.now
+    c.from_vec.result (returns-in-Ok-pass-clause-ok g c)
+
+pub returns-in-Ok-pass-clause-last : goal.returns-in-Ok-pass-clause-last
+returns-in-Ok-pass-clause-last g c =
+    good-last c.args.roster.now (g.G.KeyRing.keys c.args.ring.now) c.args.document.now c.args.texts.now
+    c.from_vec.result (returns-in-Ok-pass-clause-ok g c)
 
 pub returns-in-Err-pass-clause-err : goal.returns-in-Err-pass-clause-err
 returns-in-Err-pass-clause-err g c =
@@ -29,7 +40,7 @@ returns-in-Err-pass-clause-err g c =
     (record {
       texts_seen = c.as_slice-texts.ensures;
       some = not_empty (length c.as_slice-texts.result.now) c.if-is_empty.ensures;
-      most = c.if-texts-gt-MOST.false;
+      most = c.if-texts-gt-MAX_CHAIN_ENTRIES.false;
       carrier_seen = c.carrier-carrier.ensures
           ∙ ap (λ p. carrier c.args.roster.now p c.code.result) c.provider.ensures
           ∙ ap (λ k. carrier c.args.roster.now c.args.document.now.provider k) c.code.ensures;

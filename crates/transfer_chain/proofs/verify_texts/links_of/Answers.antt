@@ -1,7 +1,7 @@
 use Rattle.std.proofs.Common.{sym, subst}
 use Rattle.transfer_chain.specs.Refusal.{IsTextRefused}
 use Rattle.transfer_chain.proofs.LinkLemmas.{links-more, text-refused}
-use Rattle.transfer_chain.proofs.linking.links_of.Goals as goal
+use Rattle.transfer_chain.proofs.verify_texts.links_of.Goals as goal
 
 pub returns-in-Err-link_of-clause-err : goal.returns-in-Err-link_of-clause-err
 returns-in-Err-link_of-clause-err g c =

@@ -7,12 +7,9 @@ ghost use Rattle.transfer_chain.specs.Steps.{IsTextFault, refusal_at};
 use crate::fault::ChainRefusal;
 use chain_entry::{EntryFault, EntryField, decode};
 use document_checksum::checksum;
-use ebl_base::{ChainLink, Copied, NoMemory, SignedText};
+use ebl_base::{ChainLink, Copied, MAX_SIGNED_TEXT, NoMemory, SignedText};
 use signed_envelope::{BadSigned, KeyRing, verify_any};
 use std::alloc::Global;
-
-/// The most bytes of an entry's text.
-const MOST: usize = 16_384;
 
 /// What is wrong with a text.
 #[derive(Clone, Copy, Debug, PartialEq, Eq)]
@@ -64,7 +61,7 @@ impl From<EntryFault> for TextFault {
 }
 
 impl From<NoMemory> for TextFault {
-    ghost use Rattle.transfer_chain.specs.declared.linking.TextFault.TheVariants as faults;
+    ghost use Rattle.transfer_chain.specs.declared.verify_texts.TextFault.TheVariants as faults;
 
     ghost from_gives = { λ _ fault. fault ≡ faults.NoMemory };
 
@@ -107,7 +104,7 @@ fn link_of<G: KeyRing>(alloc: Global, ring: &G, text: &SignedText) -> Result<Cha
     ensures ok { IfOk result (IsLink (G.keys ring.now) text.now) }
     ensures err { IfErr result (IsTextFault (G.keys ring.now) text.now) }
 {
-    let verified = verify_any(alloc, ring, text.0.as_slice(), MOST)?;
+    let verified = verify_any(alloc, ring, text.0.as_slice(), MAX_SIGNED_TEXT)?;
     let entry = decode(alloc, &verified.payload)?;
     if entry.platform != verified.platform {
         return Err(TextFault::Signer);

@@ -1,7 +1,7 @@
 use Rattle.canonical_json.specs.View.{view}
 use Rattle.signed_envelope.proofs.Refusals.{same_code}
 use Rattle.transfer_chain.proofs.LinkLemmas.{link_is}
-use Rattle.transfer_chain.proofs.linking.link_of.Goals as goal
+use Rattle.transfer_chain.proofs.verify_texts.link_of.Goals as goal
 
 pub returns-clause-ok : goal.returns-clause-ok
 returns-clause-ok g c =

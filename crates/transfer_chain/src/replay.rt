@@ -1,7 +1,7 @@
 //! The pass over a chain, entry by entry, with the title so far: each transaction is folded once.
 ghost use Rattle.std.specs.Prelude.{◌≡◌, None, true};
 ghost use Rattle.transfer_chain.specs.GoodChain.{first_actor};
-ghost use Rattle.transfer_chain.specs.Steps.{agree, is_by_carrier, is_turn, judged, pass, run, same_name, same_party, turn_of};
+ghost use Rattle.transfer_chain.specs.Steps.{agree, is_by_carrier, is_expected_platform, check_entry, pass, run, same_name, same_party, turn_of};
 
 use crate::fault::ChainRefusal;
 use ebl_base::{ChainLink, Checksum, Entry, Party, PlatformCode, Transaction};
@@ -9,7 +9,7 @@ use title_fold::{FoldAt, Title, apply, moves, possessor};
 
 /// The title after an entry's transactions, and whether the last of them alone moves.
 #[derive(Clone, Copy, Debug, PartialEq, Eq)]
-pub(crate) struct Ran {
+pub(crate) struct Replayed {
     pub(crate) title: Option<Title>,
     pub(crate) moves_last: bool,
 }
@@ -25,7 +25,7 @@ pub(crate) fn pass(
     let mut previous = None;
     let mut title = None;
     for (place, link) in chain.iter().enumerate() {
-        match judged(carrier, bill, previous, title, place, &link.entry) {
+        match check_entry(carrier, bill, previous, title, place, &link.entry) {
             Ok(after) => title = after,
             Err(refusal) => return Err(refusal),
         }
@@ -34,7 +34,7 @@ pub(crate) fn pass(
     Ok(title)
 }
 
-fn judged(
+fn check_entry(
     carrier: Option<Party>,
     bill: Checksum,
     previous: Option<Checksum>,
@@ -42,7 +42,7 @@ fn judged(
     place: usize,
     entry: &Entry,
 ) -> Result<Option<Title>, ChainRefusal>
-    ensures { result ≡ judged carrier bill previous title place entry.now }
+    ensures { result ≡ check_entry carrier bill previous title place entry.now }
 {
     let transactions = entry.transactions.as_slice();
     if !same_name(entry.previous, previous) {
@@ -54,7 +54,7 @@ fn judged(
     if !is_by_carrier(carrier, title, transactions) {
         return Err(ChainRefusal::Carrier);
     }
-    if !is_turn(turn_of(title, transactions), entry.platform) {
+    if !is_expected_platform(turn_of(title, transactions), entry.platform) {
         return Err(ChainRefusal::WrongPlatform(place));
     }
     match run(title, transactions) {
@@ -113,8 +113,8 @@ fn turn_of(title: Option<Title>, transactions: &[Transaction]) -> Option<Platfor
     }
 }
 
-fn is_turn(turn: Option<PlatformCode>, platform: PlatformCode) -> bool
-    ensures { result ≡ is_turn turn platform }
+fn is_expected_platform(turn: Option<PlatformCode>, platform: PlatformCode) -> bool
+    ensures { result ≡ is_expected_platform turn platform }
 {
     match turn {
         None => false,
@@ -130,7 +130,7 @@ fn agree(moved: bool, is_last: bool) -> bool
 
 /// The title after transactions that are made one after the other on a title, and whether the last of them alone
 /// moves; or the first that is refused.
-pub(crate) fn run(before: Option<Title>, transactions: &[Transaction]) -> Result<Ran, FoldAt>
+pub(crate) fn run(before: Option<Title>, transactions: &[Transaction]) -> Result<Replayed, FoldAt>
     ensures { result ≡ run transactions.now before true 0 }
 {
     let mut title = before;
@@ -148,5 +148,5 @@ pub(crate) fn run(before: Option<Title>, transactions: &[Transaction]) -> Result
         rest = behind;
         place += 1;
     }
-    Ok(Ran { title, moves_last })
+    Ok(Replayed { title, moves_last })
 }
