@@ -4,8 +4,8 @@ use Rattle.std.specs.Prelude.{option_map}
 use Rattle.std.proofs.lemmas.List.{append-nil, append_assoc, map-append}
 use Rattle.ebl_base.specs.declared.chain.ChainLink.{ChainLink}
 use Rattle.ebl_base.specs.declared.platform_code.PlatformCode.{PlatformCode}
-use Rattle.title_fold.specs.Chain.{names_of}
-use Rattle.title_fold.proofs.ChainLemmas.{goes_beyond-parts}
+use Rattle.bill_chain.specs.Chain.{names_of}
+use Rattle.bill_chain.proofs.ChainLemmas.{goes_beyond-parts}
 use Rattle.bill_diary.specs.declared.record.Record.{Record}
 use Rattle.bill_diary.specs.declared.record.Record.TheVariants.{Signed, Acted, Attached, Parted, Settled, Regained, Begun, Stored, Taken, Declined}
 use Rattle.bill_diary.specs.declared.bill_place.BillPlace.TheVariants.{Held, Parting, Gone}

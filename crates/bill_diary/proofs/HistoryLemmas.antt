@@ -1,8 +1,8 @@
 -- The records of one bill in a sound diary are sound by themselves.
-use Rattle.std.proofs.Common.{◌≡◌, Bool, true, false, ◌||◌, cond, reverse, List, [], ◌∷◌, ◌++◌, refl, ap, subst, ◌∙◌}
+use Rattle.std.proofs.Common.{◌≡◌, Bool, true, false, ◌||◌, cond, reverse, List, [], ◌∷◌, ◌++◌, refl, ap, sym, subst, ◌∙◌}
 use Rattle.std.specs.List.{list_any, filter, flat_map}
 use Rattle.std.proofs.lemmas.Bool.{or_parts}
-use Rattle.std.proofs.lemmas.List.{reverse-append}
+use Rattle.std.proofs.lemmas.List.{reverse-append, append_assoc, append-nil}
 use Rattle.std.proofs.lemmas.List.Concat.{flat_map-append}
 use Rattle.std.proofs.lemmas.List.Elements.{filter-append}
 use Rattle.ebl_base.specs.Checksum.{checksum_eq}
@@ -14,7 +14,7 @@ use Rattle.bill_diary.specs.declared.record.Record.{Record}
 use Rattle.bill_diary.specs.declared.record.Record.TheVariants.{Signed, Acted, Attached, Parted, Settled, Regained, Begun, Stored, Taken, Declined}
 use Rattle.bill_diary.specs.declared.frame.Frame.{Frame}
 use Rattle.bill_diary.specs.History.{bill_of, records_of, newest_first, of_bill, history}
-use Rattle.bill_diary.specs.Sound.{MayReceive, MayFollow, AreSound, AreFrames, IsSound, IsSoundHistory}
+use Rattle.bill_diary.specs.Sound.{MayReceive, MayFollow, MayFollowEach, MayFollowDiary, AreSound, IsFrame, AreFrames, IsSound, IsSoundHistory}
 
 none_kept_on : (test : Record → Bool) (r : Record) (kept : List Record) (keeps : Bool)
     → test r ≡ false → list_any test kept ≡ false → list_any test (cond keeps (r ∷ kept) kept) ≡ false
@@ -59,6 +59,7 @@ follows_alone me b records h (Begun bill chain manifest body) follows = record {
   good = follows.good;
   links_are = follows.links_are;
   receives = receives_alone me b records h chain follows.receives;
+  manifest_form = follows.manifest_form;
   names_bill = follows.names_bill;
   names_last = follows.names_last;
 }
@@ -75,6 +76,7 @@ follows_alone me b records h (Declined bill entry code reason evidence) follows 
       not_taken = none_kept _ keeps records follows.not_taken;
       not_declined = none_kept _ keeps records follows.not_declined;
       cause = follows.cause;
+      evidence_is = follows.evidence_is;
     }
 
 alone_on : (me : PlatformCode) (bill : Checksum) (records : List Record) (r : Record) (test : Bool)
@@ -104,7 +106,7 @@ history_of_sound me diary bill sound = sound_alone me bill (newest_first diary) 
 
 -- ---- further frames
 
-newest_first-append : (diary more : List Frame)
+pub newest_first-append : (diary more : List Frame)
     → newest_first (diary ++ more) ≡ newest_first more ++ newest_first diary
 newest_first-append diary more =
     ap reverse (flat_map-append records_of diary more)
@@ -117,7 +119,7 @@ history-append diary more bill =
     ap (of_bill bill) (newest_first-append diary more)
     ∙ filter-append (λ r. checksum_eq (bill_of r) bill) (newest_first more) (newest_first diary)
 
-frames_before : (diary more : List Frame) → AreFrames (diary ++ more) → AreFrames diary
+pub frames_before : (diary more : List Frame) → AreFrames (diary ++ more) → AreFrames diary
 frames_before [] more are = tt
 frames_before (frame ∷ frames) more are = (are.0, frames_before frames more are.1)
 
@@ -133,3 +135,64 @@ front_is_sound me diary more sound = record {
   records = sound_behind me (newest_first more) (newest_first diary)
       (subst (AreSound me) (newest_first-append diary more) sound.records);
 }
+
+-- ---- one frame more
+
+pub frames_with : (diary : List Frame) (frame : Frame) → AreFrames diary → IsFrame frame
+    → AreFrames (diary ++ frame ∷ [])
+frames_with [] frame are is = (is, tt)
+frames_with (first ∷ diary) frame are is = (are.0, frames_with diary frame are.1 is)
+
+pub last_frame : (diary : List Frame) (frame : Frame) → AreFrames (diary ++ frame ∷ []) → IsFrame frame
+last_frame [] frame are = are.0
+last_frame (first ∷ diary) frame are = last_frame diary frame are.1
+
+-- records that may follow sound ones, one after the other, keep them sound
+sound_each : (me : PlatformCode) (rs records : List Record)
+    → AreSound me records → MayFollowEach me records rs → AreSound me (reverse rs ++ records)
+sound_each me [] records sound follow = sound
+sound_each me (r ∷ rs) records sound follow =
+    subst (AreSound me)
+    (sym (append_assoc (reverse rs) (r ∷ []) records) ∙ ap (λ xs. xs ++ records) (sym (reverse-append (r ∷ []) rs)))
+    (sound_each me rs (r ∷ records) (follow.0, follow.1, sound) follow.2)
+
+each_followed : (me : PlatformCode) (rs records : List Record)
+    → AreSound me (reverse rs ++ records) → MayFollowEach me records rs
+each_followed me [] records sound = tt
+each_followed me (r ∷ rs) records sound =
+    let whole : AreSound me (reverse rs ++ (r ∷ records)) =
+    subst (AreSound me)
+    (ap (λ xs. xs ++ records) (reverse-append (r ∷ []) rs) ∙ append_assoc (reverse rs) (r ∷ []) records) sound in
+    let here = sound_behind me (reverse rs) (r ∷ records) whole in
+    (here.0, here.1, each_followed me rs (r ∷ records) whole)
+
+pub one_frame : (diary : List Frame) (frame : Frame)
+    → newest_first (diary ++ frame ∷ []) ≡ reverse (records_of frame) ++ newest_first diary
+one_frame diary frame =
+    newest_first-append diary (frame ∷ [])
+    ∙ ap (λ rs. reverse rs ++ newest_first diary) (append-nil (records_of frame))
+
+-- a frame that may follow a sound diary keeps it sound
+pub one_more_is_sound : (me : PlatformCode) (diary : List Frame) (frame : Frame) → IsSound me diary
+    → MayFollowDiary me diary frame → IsSound me (diary ++ frame ∷ [])
+one_more_is_sound me diary frame sound follows = record {
+  frames = frames_with diary frame sound.frames follows.is_frame;
+  records = subst (AreSound me) (sym (one_frame diary frame))
+      (sound_each me (records_of frame) (newest_first diary) sound.records follows.records);
+}
+
+last_may_follow : (me : PlatformCode) (diary : List Frame) (frame : Frame) → IsSound me (diary ++ frame ∷ [])
+    → MayFollowDiary me diary frame
+last_may_follow me diary frame sound = record {
+  is_frame = last_frame diary frame sound.frames;
+  records = each_followed me (records_of frame) (newest_first diary)
+      (subst (AreSound me) (one_frame diary frame) sound.records);
+}
+
+-- each frame of a sound diary may follow those before it
+pub each_may_follow : (me : PlatformCode) (diary more : List Frame) (frame : Frame)
+    → IsSound me (diary ++ frame ∷ more) → MayFollowDiary me diary frame
+each_may_follow me diary more frame sound =
+    last_may_follow me diary frame
+    (front_is_sound me (diary ++ frame ∷ []) more
+    (subst (IsSound me) (sym (append_assoc diary (frame ∷ []) more)) sound))

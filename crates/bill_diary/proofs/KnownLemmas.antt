@@ -1,5 +1,5 @@
 -- In a sound history the newest record that tells a chain tells the known one.
-use Rattle.std.proofs.Common.{◌≡◌, ◌≢◌, ℕ, ◌<◌, ◌≤◌, Bool, true, false, ◌||◌, cond, List, [], ◌∷◌, ◌++◌, Option, Some, None, length, refl, ap, sym, subst, ◌∙◌, arith}
+use Rattle.std.proofs.Common.{◌≡◌, ◌≢◌, ◌<◌, ◌≤◌, Bool, true, false, ◌||◌, cond, List, [], ◌∷◌, ◌++◌, Option, Some, None, length, refl, ap, sym, subst, ◌∙◌, arith}
 use Rattle.std.specs.Prelude.{option_map, nat_lt}
 use Rattle.std.specs.List.{list_any}
 use Rattle.std.specs.Option.{option_to_list}
@@ -10,10 +10,9 @@ use Rattle.ebl_base.specs.Checksum.{checksum_eq}
 use Rattle.ebl_base.specs.declared.checksum.Checksum.{Checksum}
 use Rattle.ebl_base.specs.declared.chain.ChainLink.{ChainLink}
 use Rattle.ebl_base.specs.declared.platform_code.PlatformCode.{PlatformCode}
-use Rattle.ebl_base.specs.declared.transaction.Transaction.{Transaction}
 use Rattle.ebl_base.proofs.ChecksumLemmas.{checksum_eq-Decides}
-use Rattle.title_fold.specs.Chain.{has_entry}
-use Rattle.title_fold.proofs.ChainLemmas.{has_entry-last, goes_beyond-parts, goes_beyond-has}
+use Rattle.bill_chain.specs.Chain.{has_entry}
+use Rattle.bill_chain.proofs.ChainLemmas.{has_entry-last, goes_beyond-parts, goes_beyond-has}
 use Rattle.bill_diary.specs.declared.record.Record.{Record}
 use Rattle.bill_diary.specs.declared.record.Record.TheVariants.{Signed, Acted, Attached, Parted, Settled, Regained, Begun, Stored, Taken, Declined}
 use Rattle.bill_diary.specs.declared.bill_place.BillPlace.TheVariants.{Held, Parting, Gone}

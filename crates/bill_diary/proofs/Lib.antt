@@ -1,6 +1,12 @@
 pub mod HistoryLemmas
 pub mod PlaceLemmas
 pub mod KnownLemmas
-pub mod ToldLemmas
+pub mod KnownChainsLemmas
 pub mod GrowthLemmas
+pub mod ReferenceLemmas
+pub mod BegunLemmas
+pub mod TextLemmas
+pub mod TitleLemmas
+pub mod CountLemmas
+pub mod PieceLemmas
 pub mod DiaryLaws

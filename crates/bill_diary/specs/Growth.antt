@@ -2,7 +2,7 @@
 use Rattle.std.specs.Prelude.{◌≡◌, List, ◌++◌, Option, Some, None}
 use Rattle.ebl_base.specs.declared.checksum.Checksum.{Checksum}
 use Rattle.ebl_base.specs.declared.chain.ChainLink.{ChainLink}
-use Rattle.title_fold.specs.Chain.{names_of}
+use Rattle.bill_chain.specs.Chain.{names_of}
 
 -- what was known goes on: the names of its entries stand in front of the later ones
 abbrev pub GoesOnIn : Option (List ChainLink) → Option (List ChainLink) → Type 0

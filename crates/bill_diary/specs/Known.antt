@@ -5,17 +5,17 @@ use Rattle.ebl_base.specs.Checksum.{checksum_eq}
 use Rattle.ebl_base.specs.declared.checksum.Checksum.{Checksum}
 use Rattle.ebl_base.specs.declared.chain.ChainLink.{ChainLink}
 use Rattle.envelope_manifest.specs.declared.manifest.Manifest.{Manifest}
-use Rattle.title_fold.specs.Chain.{ends_in}
+use Rattle.bill_chain.specs.Chain.{ends_in}
 use Rattle.bill_diary.specs.declared.record.Record.{Record}
 use Rattle.bill_diary.specs.declared.record.Record.TheVariants.{Signed, Parted, Settled, Begun, Taken}
 
 -- what came with a Begun: a chain, and a manifest
-pub record Came : Type 0 where
+pub record Received : Type 0 where
   pub chain : List ChainLink
   pub manifest : Manifest
 
 -- what came with the last Begun of a chain that ends in this entry
-abbrev pub last_begun : Checksum → List Record → Option Came
+abbrev pub last_begun : Checksum → List Record → Option Received
 last_begun entry [] = None
 last_begun entry (Begun bill chain manifest body ∷ h) =
     if ends_in entry chain then Some (record { chain = chain; manifest = manifest }) else last_begun entry h

@@ -6,5 +6,7 @@ pub mod Growth
 pub mod Pieces
 pub mod Receiving
 pub mod Texts
-pub mod Told
+pub mod KnownChains
 pub mod Sound
+pub mod Searches
+pub mod Titles

@@ -1,5 +1,5 @@
 -- The additional documents of a bill: those listed for it, and those whose bytes are there.
-use Rattle.std.specs.Prelude.{◌≡◌, Bool, false, not, ℕ, List, [], ◌∷◌, ◌++◌, length, map, filter}
+use Rattle.std.specs.Prelude.{◌≡◌, Bool, false, not, ℕ, List, [], ◌∷◌, ◌++◌, length, map, filter, bytes_eq}
 use Rattle.std.specs.List.{list_any}
 use Rattle.std.specs.Option.{option_map_or}
 use Rattle.ebl_base.specs.Checksum.{checksum_eq}
@@ -36,6 +36,16 @@ brings checksum r = false
 -- whether the bytes of this checksum are there for the bill: attached, or stored
 abbrev pub is_there : List Record → Checksum → Bool
 is_there h checksum = list_any (brings checksum) h
+
+-- whether a record brought these bytes
+abbrev pub brings_bytes : List ℕ → Record → Bool
+brings_bytes bytes (Attached bill piece other) = bytes_eq other bytes
+brings_bytes bytes (Stored bill entry checksum other) = bytes_eq other bytes
+brings_bytes bytes r = false
+
+-- whether these bytes are there for the bill: attached, or stored
+abbrev pub are_there : List Record → List ℕ → Bool
+are_there h bytes = list_any (brings_bytes bytes) h
 
 -- the checksums of a manifest's documents that aren't there, in its order
 abbrev pub missing_of : Manifest → List Record → List Checksum

@@ -5,10 +5,12 @@ use Rattle.std.specs.Option.{option_to_list, option_map_or}
 use Rattle.ebl_base.specs.Checksum.{checksum_eq}
 use Rattle.ebl_base.specs.declared.checksum.Checksum.{Checksum}
 use Rattle.ebl_base.specs.declared.chain.ChainLink.{ChainLink}
+use Rattle.ebl_base.specs.declared.place_tag.PlaceTag.{PlaceTag}
+use Rattle.ebl_base.specs.declared.place_tag.PlaceTag.TheVariants as tags
 use Rattle.ebl_base.specs.declared.transaction.Transaction.{Transaction}
 use Rattle.title_fold.specs.Fold.{Folded, fold}
 use Rattle.title_fold.specs.Table.{ended, stands_at}
-use Rattle.title_fold.specs.Chain.{has_entry, last_of, transactions_of}
+use Rattle.bill_chain.specs.Chain.{has_entry, last_of, transactions_of}
 use Rattle.bill_diary.specs.declared.record.Record.{Record}
 use Rattle.bill_diary.specs.declared.record.Record.TheVariants.{Signed, Acted, Parted, Settled, Regained, Taken}
 use Rattle.bill_diary.specs.declared.bill_place.BillPlace.{BillPlace}
@@ -66,7 +68,7 @@ since (Acted bill transaction ∷ h) = since h ++ transaction ∷ []
 since (Taken bill entry ∷ h) = []
 since (r ∷ h) = since h
 
--- the first that fits: no chain is known; an entry is parting; the last entry of the known chain is settled; else held
+-- the first that applies: no chain is known; an entry is parting; the last entry of the known chain is settled; else held
 abbrev pub place_with : Option (List ChainLink) → Option ChainLink → List Record → BillPlace
 place_with None parting h = Absent
 place_with (Some known) (Some entry) h = Parting known entry
@@ -75,6 +77,27 @@ place_with (Some known) None h = if is_left known h then Gone known else Held kn
 -- the place of a bill, by its records
 abbrev pub place_of : List Record → BillPlace
 place_of h = place_with (known h) (parting h) h
+
+-- the tag of a place
+abbrev pub tag_of : BillPlace → PlaceTag
+tag_of Absent = tags.Absent
+tag_of (Held known since) = tags.Held
+tag_of (Parting known link) = tags.Parting
+tag_of (Gone known) = tags.Gone
+
+-- the known chain at a place, if one is known
+abbrev pub known_at : BillPlace → Option (List ChainLink)
+known_at Absent = None
+known_at (Held known since) = Some known
+known_at (Parting known link) = Some known
+known_at (Gone known) = Some known
+
+-- the chain that is known at a place, followed by the entry that is parting, if one is
+abbrev pub chain_at : BillPlace → List ChainLink
+chain_at Absent = []
+chain_at (Held known since) = known
+chain_at (Parting known link) = known ++ link ∷ []
+chain_at (Gone known) = known
 
 -- ---- titles
 

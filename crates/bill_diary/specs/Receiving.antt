@@ -7,7 +7,7 @@ use Rattle.ebl_base.specs.declared.chain.ChainLink.{ChainLink}
 use Rattle.ebl_base.specs.declared.code.Code.{Code}
 use Rattle.ebl_base.specs.declared.evidence.Evidence.{Evidence}
 use Rattle.ebl_base.specs.declared.reason.Reason.{Reason}
-use Rattle.title_fold.specs.Chain.{goes_beyond}
+use Rattle.bill_chain.specs.Chain.{goes_beyond}
 use Rattle.bill_diary.specs.declared.record.Record.{Record}
 use Rattle.bill_diary.specs.declared.record.Record.TheVariants.{Taken, Declined}
 use Rattle.bill_diary.specs.declared.bill_place.BillPlace.{BillPlace}

@@ -18,31 +18,35 @@ use Rattle.ebl_base.specs.declared.signed_text.SignedText.{SignedText}
 use Rattle.ebl_base.specs.declared.transaction.Transaction.{Transaction}
 use Rattle.envelope_manifest.specs.declared.manifest.Manifest.{Manifest}
 use Rattle.envelope_manifest.specs.declared.piece.Piece.{Piece}
+use Rattle.envelope_manifest.specs.Manifest.{IsManifest}
+use Rattle.envelope_manifest.specs.Piece.{IsPiece}
+use Rattle.chain_entry.specs.Form.{IsTransaction}
 use Rattle.title_fold.specs.declared.title.Title.{Title}
 use Rattle.title_fold.specs.Fold.{fold}
 use Rattle.title_fold.specs.Step.{step_title}
 use Rattle.title_fold.specs.Movement.{moves}
-use Rattle.title_fold.specs.Chain.{last_of, last_name, ends_in, transactions_of, destination, IsGoodChain}
+use Rattle.bill_chain.specs.Chain.{last_of, last_name, ends_in, transactions_of, destination, IsChainOfBill}
 use Rattle.bill_diary.specs.declared.record.Record.{Record}
 use Rattle.bill_diary.specs.declared.record.Record.TheVariants.{Signed, Acted, Attached, Parted, Settled, Regained, Begun, Stored, Taken, Declined}
 use Rattle.bill_diary.specs.declared.frame.Frame.{Frame}
 use Rattle.bill_diary.specs.declared.frame.Frame.TheVariants.{One, BegunTaken}
 use Rattle.bill_diary.specs.declared.bill_place.BillPlace.{BillPlace}
 use Rattle.bill_diary.specs.declared.bill_place.BillPlace.TheVariants.{Absent, Held, Parting}
-use Rattle.bill_diary.specs.History.{bill_of, newest_first, of_bill}
-use Rattle.bill_diary.specs.Known.{Came, last_begun}
+use Rattle.bill_diary.specs.History.{bill_of, records_of, newest_first, of_bill}
+use Rattle.bill_diary.specs.Known.{Received, last_begun}
 use Rattle.bill_diary.specs.Place.{place_of, title_at, is_ended}
-use Rattle.bill_diary.specs.Pieces.{Fits, pieces_of, lists, is_there, missing_of}
+use Rattle.bill_diary.specs.Pieces.{Fits, pieces_of, lists, are_there, missing_of}
 use Rattle.bill_diary.specs.Receiving.{is_taken, is_declined, continues}
-use Rattle.bill_diary.specs.Texts.{LinkIsItsText, LinksAreTheirTexts, ManifestIsItsText, IsDocumentOf, IsBodyOf}
+use Rattle.bill_diary.specs.Texts.{LinkIsItsText, LinksAreTheirTexts, ManifestIsItsText, AreCompact, IsDocumentOf, IsBodyOf}
 
 -- ---- holding a bill
 
--- a SIGN without recipient by a party of this platform, of an absent bill whose name is that of the document
+-- a well-formed SIGN without recipient by a party of this platform, of an absent bill whose name is that of the document
 pub record MaySign (me : PlatformCode) (h : List Record) (bill : Checksum) (document : List ℕ) (t : Transaction)
     : Type 0 where
   pub absent : place_of h ≡ Absent
   pub document_is : IsDocumentOf bill document
+  pub form : IsTransaction t
   pub kind : t.kind ≡ Sign
   pub recipient : t.recipient ≡ None
   pub actor : t.actor.platform ≡ me
@@ -55,7 +59,7 @@ most_with SurrenderForDelivery = 30
 most_with SurrenderForAmendment = 30
 most_with kind = 31
 
--- the bill is held; the transaction is taken, doesn't move, and stays within the limit
+-- the bill is held; the transaction is well-formed, is taken, doesn't move, and stays within the limit
 pub record MayAct (h : List Record) (t : Transaction) : Type 0 where
   pub known : List ChainLink
   pub since : List Transaction
@@ -65,14 +69,17 @@ pub record MayAct (h : List Record) (t : Transaction) : Type 0 where
   pub after : Title
   pub taken : step_title before t ≡ Ok after
   pub stays : moves before after ≡ false
+  pub form : IsTransaction t
   pub room : length since + 1 ≤ most_with t.kind
 
--- the bill is held and not ended; the bytes are the document's, which is new and within the limits
+-- the bill is held and not ended; the bytes are those of the document, which is well-formed, new by its checksum, and
+-- within the limits
 pub record MayAttach (h : List Record) (piece : Piece) (bytes : List ℕ) : Type 0 where
   pub known : List ChainLink
   pub since : List Transaction
   pub held : place_of h ≡ Held known since
   pub lives : is_ended (title_at (Held known since)) ≡ false
+  pub form : IsPiece piece
   pub fits : Fits piece bytes
   pub new : lists (pieces_of h) piece.checksum ≡ false
   pub size : length bytes ≤ 2097152
@@ -108,6 +115,7 @@ pub record MayPart (me : PlatformCode) (h : List Record) (bill : Checksum) (link
   pub moved : moves before after ≡ true
   pub link_is : LinkIsItsText link
   pub manifest_is : ManifestIsItsText text manifest
+  pub manifest_form : IsManifest manifest
   pub names_bill : manifest.bill ≡ bill
   pub names_last : manifest.last ≡ link.name
   pub documents : manifest.documents ≡ pieces_of h
@@ -131,24 +139,29 @@ pub record MayReceive (me : PlatformCode) (records h : List Record) (chain : Lis
   pub not_declined : is_declined last.name records ≡ false
   pub continues_place : continues (place_of h) chain ≡ true
 
+-- whether the envelope of a chain has this reference
+abbrev pub refers : Checksum → List ChainLink → Reference → Bool
+refers bill chain reference =
+    option_map_or (λ link. bytes_eq (reference_of bill link.name).0 reference.0) (last_of chain) false
+
 -- whether a record is a Begun whose envelope has this reference
 abbrev pub has_reference : Reference → Record → Bool
-has_reference reference (Begun bill chain manifest body) =
-    option_map_or (λ link. bytes_eq (reference_of bill link.name).0 reference.0) (last_of chain) false
+has_reference reference (Begun bill chain manifest body) = refers bill chain reference
 has_reference reference r = false
 
 -- the last Begun, of any bill, with a reference
 abbrev pub last_with_reference : Reference → List Record → Option Record
 last_with_reference reference records = find (has_reference reference) records
 
--- a body with a good chain of the bill and a manifest that names both; the chain may be received
+-- a body with a good chain of the bill and a well-formed manifest that names both; the chain may be received
 pub record MayBegin (me : PlatformCode) (records h : List Record) (bill : Checksum) (chain : List ChainLink)
     (manifest : Manifest) (body : List ℕ) : Type 0 where
   pub body_is : IsBodyOf bill chain manifest body
   pub room : length chain ≤ 64
-  pub good : IsGoodChain bill chain
+  pub good : IsChainOfBill bill chain
   pub links_are : LinksAreTheirTexts chain
   pub receives : MayReceive me records h chain
+  pub manifest_form : IsManifest manifest
   pub names_bill : manifest.bill ≡ bill
   pub names_last : manifest.last ≡ receives.last.name
 
@@ -159,7 +172,7 @@ CameWith entry listed (Begun bill chain manifest body ∷ h) =
     ((ends_in entry chain ≡ true) × (listed ≡ manifest)) ⊎ CameWith entry listed h
 CameWith entry listed (r ∷ h) = CameWith entry listed h
 
--- a Begun of this entry lists a document that the bytes fit, and they aren't there for the bill
+-- a Begun of this entry lists a document that the bytes fit, and these bytes aren't there for the bill
 pub record MayStore (h : List Record) (entry checksum : Checksum) (bytes : List ℕ) : Type 0 where
   pub manifest : Manifest
   pub came : CameWith entry manifest h
@@ -167,11 +180,11 @@ pub record MayStore (h : List Record) (entry checksum : Checksum) (bytes : List 
   pub listed : Contains manifest.documents piece
   pub fits : Fits piece bytes
   pub names : checksum ≡ piece.checksum
-  pub new : is_there h checksum ≡ false
+  pub new : are_there h bytes ≡ false
 
 -- the last Begun of this entry came with a chain that may be received, and all documents of its manifest are there
 pub record MayTake (me : PlatformCode) (records h : List Record) (entry : Checksum) : Type 0 where
-  pub begun : Came
+  pub begun : Received
   pub begun_is : last_begun entry h ≡ Some begun
   pub receives : MayReceive me records h begun.chain
   pub whole : missing_of begun.manifest h ≡ []
@@ -189,12 +202,13 @@ IsCause place BadEnvelope reasons.Party evidence =
     IsNotHeld place × (evidence.own ≡ None) × (evidence.theirs ≡ None)
 IsCause place code reason evidence = ⊥
 
--- the entry was neither taken nor declined by any record, and there is a cause
+-- the entry was neither taken nor declined by any record, there is a cause, and the evidence is compact
 pub record MayDecline (records h : List Record) (entry : Checksum) (code : Code) (reason : Reason) (evidence : Evidence)
     : Type 0 where
   pub not_taken : is_taken entry records ≡ false
   pub not_declined : is_declined entry records ≡ false
   pub cause : IsCause (place_of h) code reason evidence
+  pub evidence_is : AreCompact evidence
 
 -- ---- sound diaries
 
@@ -224,12 +238,11 @@ AreSound me [] = Unit {0}
 AreSound me (r ∷ records) =
     MayFollow me records (of_bill (bill_of r) records) r × IsNotAgain records r × AreSound me records
 
--- a frame of two records is a Begun and the Taken of its last entry
+-- what is taken within a frame is a Begun
 abbrev pub IsFrame : Frame → Type 0
 IsFrame (One r) = Unit {0}
-IsFrame (BegunTaken (Begun bill chain manifest body) (Taken same entry)) =
-    (same ≡ bill) × (ends_in entry chain ≡ true)
-IsFrame (BegunTaken begun taken) = ⊥
+IsFrame (BegunTaken (Begun bill chain manifest body)) = Unit {0}
+IsFrame (BegunTaken r) = ⊥
 
 -- each frame of a diary is one
 abbrev pub AreFrames : List Frame → Type 0
@@ -240,6 +253,19 @@ AreFrames (frame ∷ frames) = IsFrame frame × AreFrames frames
 pub record IsSound (me : PlatformCode) (diary : List Frame) : Type 0 where
   pub frames : AreFrames diary
   pub records : AreSound me (newest_first diary)
+
+-- ---- frames that follow
+
+-- some records may follow those of a diary, one after the other
+abbrev pub MayFollowEach : PlatformCode → List Record → List Record → Type 0
+MayFollowEach me records [] = Unit {0}
+MayFollowEach me records (r ∷ rs) =
+    MayFollow me records (of_bill (bill_of r) records) r × IsNotAgain records r × MayFollowEach me (r ∷ records) rs
+
+-- a frame may follow a sound diary
+pub record MayFollowDiary (me : PlatformCode) (diary : List Frame) (frame : Frame) : Type 0 where
+  pub is_frame : IsFrame frame
+  pub records : MayFollowEach me (newest_first diary) (records_of frame)
 
 -- ---- the history of one bill
 

@@ -1,11 +1,12 @@
 -- The names and values in a record are those of its texts.
-use Rattle.std.specs.Prelude.{◌≡◌, ℕ, List, [], ◌∷◌, Ok, map}
+use Rattle.std.specs.Prelude.{◌≡◌, ℕ, ◌≤◌, List, [], ◌∷◌, Ok, IfSome, map}
 use Rattle.ebl_base.specs.declared.checksum.Checksum.{Checksum}
 use Rattle.ebl_base.specs.declared.chain.ChainLink.{ChainLink}
+use Rattle.ebl_base.specs.declared.evidence.Evidence.{Evidence}
 use Rattle.ebl_base.specs.declared.signed_text.SignedText.{SignedText}
-use Rattle.canonical_json.specs.Value.{Value}
+use Rattle.canonical_json.specs.Value.{Value, depth}
 use Rattle.canonical_json.specs.Canon.{canon}
-use Rattle.canonical_json.specs.Lawful.{IsLawful}
+use Rattle.canonical_json.specs.Lawful.{IsLawful, HasTexts}
 use Rattle.canonical_json.specs.Reading.{Reads}
 use Rattle.document_checksum.specs.Digest.{checksum_of}
 use Rattle.signed_envelope.specs.Compact.{IsCompact}
@@ -13,7 +14,7 @@ use Rattle.signed_envelope.specs.declared.compact.Parts.{Parts}
 use Rattle.transport_document.specs.DocumentRecord.{DocumentRecord, bill_of}
 use Rattle.transport_document.specs.Reading.{document_of}
 use Rattle.chain_entry.specs.Reading.{entry_of}
-use Rattle.envelope_manifest.specs.Body.{BodyRecord, body_of}
+use Rattle.envelope_manifest.specs.Body.{BodyRecord, body_of, body_value}
 use Rattle.envelope_manifest.specs.Manifest.{manifest_of}
 use Rattle.envelope_manifest.specs.declared.manifest.Manifest.{Manifest}
 
@@ -41,23 +42,36 @@ pub record ManifestIsItsText (text : SignedText) (manifest : Manifest) : Type 0 
   pub has_payload : HasPayload text payload
   pub reads_as : manifest_of payload ≡ Ok manifest
 
--- the text is the canonical text of a document of this bill
+-- the text is in the compact layout within 16,384 bytes
+pub record IsCompactText (text : SignedText) : Type 0 where
+  pub parts : Parts
+  pub compact : IsCompact 16384 text.0 parts
+
+-- each text of the evidence is
+pub record AreCompact (evidence : Evidence) : Type 0 where
+  pub own : IfSome evidence.own IsCompactText
+  pub theirs : IfSome evidence.theirs IsCompactText
+
+-- the text is the canonical text of a document of this bill, which nests at most 126 deep, so that it reads back
+-- within a body too
 pub record IsDocumentOf (bill : Checksum) (text : List ℕ) : Type 0 where
   pub value : Value
   pub lawful : IsLawful value
+  pub texts : HasTexts value
+  pub nests : depth value ≤ 126
   pub document : DocumentRecord
   pub reads : document_of value ≡ Ok document
   pub text_is : document.text ≡ text
   pub names : bill_of document ≡ bill
 
--- the text is the canonical text of a body with a document of this bill, this manifest's text, and the texts of this
--- chain, and it reads as that body
+-- the text reads as a body with a document of this bill, this manifest's text, and the texts of this chain; and it is
+-- the canonical text of that body's written form, which has no further member
 pub record IsBodyOf (bill : Checksum) (chain : List ChainLink) (manifest : Manifest) (body : List ℕ) : Type 0 where
   pub value : Value
   pub reads : Reads body value
-  pub text_is : canon value ≡ body
   pub parts : BodyRecord
   pub reads_as : body_of value ≡ Ok parts
+  pub text_is : canon (body_value parts) ≡ body
   pub document_is : IsDocumentOf bill (canon parts.document)
   pub manifest_is : ManifestIsItsText parts.manifest manifest
   pub chain_is : parts.chain ≡ map (λ link. link.text) chain

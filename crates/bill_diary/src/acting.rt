@@ -1,37 +1,35 @@
 //! Whether a bill's possessor may act.
-ghost use Rattle.std.specs.Prelude.{◌≡◌, ◌++◌, IfOk};
-ghost use Rattle.title_fold.specs.Chain.{transactions_of};
-ghost use Rattle.title_fold.specs.Fold.{fold};
+#![tactic(auto, using(crate::proofs::TitleLemmas::titles))]
+
+ghost use Rattle.std.specs.Prelude.{◌≡◌, IfOk};
 ghost use Rattle.bill_diary.specs.History.{history};
-ghost use Rattle.bill_diary.specs.Place.{is_ended, may_act_by};
+ghost use Rattle.bill_diary.specs.Place.{may_act_by, title_at};
+ghost use Rattle.bill_diary.specs.Titles.{is_ended_by, unplaced};
 
 use crate::bill_place::{BillPlace, place};
 use crate::frame::Diary;
-use ebl_base::{Chain, Checksum, NoMemory, TransactionList};
+use crate::titles::title_at;
+use ebl_base::{Checksum, NoMemory};
 use std::alloc::Global;
-use title_fold::{Title, fold};
+use title_fold::Title;
 
 /// Whether the possessor of a bill may act: the bill is held, and its title isn't ended.
 pub fn may_act(alloc: Global, d: &Diary, bill: Checksum) -> Result<bool, NoMemory>
     ensures { IfOk result (λ may. may ≡ may_act_by (history bill d.now)) }
 {
-    match place(alloc, d, bill)? {
-        BillPlace::Held { known, since } => Ok(!is_ended(alloc, &known, &since)?),
+    let place = place(alloc, d, bill)?;
+    match place {
+        BillPlace::Held { .. } => Ok(!is_ended(&place)),
         _ => Ok(false),
     }
 }
 
-// Whether the title after a chain and further transactions is ended.
-fn is_ended(alloc: Global, chain: &Chain, since: &TransactionList) -> Result<bool, NoMemory>
-    ensures { IfOk result (λ ended. ended ≡ is_ended (fold (transactions_of chain.now ++ since.now))) }
+// Whether the title at a place is ended.
+fn is_ended(place: &BillPlace) -> bool
+    ensures { result ≡ is_ended_by (unplaced (title_at place.now)) }
 {
-    let mut all = Vec::new(alloc);
-    for link in chain.as_slice() {
-        all.extend_from_slice(link.entry.transactions.as_slice())?;
-    }
-    all.extend_from_slice(since.as_slice())?;
-    match fold(&all) {
-        Ok(Some(Title::Ended { .. })) => Ok(true),
-        _ => Ok(false),
+    match title_at(place) {
+        Ok(Some(Title::Ended { .. })) => true,
+        _ => false,
     }
 }

@@ -1,34 +1,37 @@
 //! What came with a Begun.
 ghost use Rattle.std.specs.Prelude.{◌≡◌, MatchOption, None, Some, option_copied};
-ghost use Rattle.title_fold.specs.Chain.{ends_in, last_of};
+ghost use Rattle.bill_chain.specs.Chain.{ends_in, last_of};
 ghost use Rattle.bill_diary.specs.Known.{last_begun, taken_chain};
 
 use crate::record::Record;
+use crate::record_ref::RecordRef;
 use crate::walk::History;
 use ebl_base::{Chain, ChainLink, Checksum};
 use envelope_manifest::Manifest;
 
 /// A chain that came, with its manifest.
 #[derive(Clone, Copy)]
-pub(crate) struct Came<'a> {
+pub(crate) struct Received<'a> {
     pub(crate) chain: &'a Chain,
     pub(crate) manifest: &'a Manifest,
 }
 
 /// What came with the last Begun of a chain that ends in this entry.
-pub(crate) fn last_begun<'a>(mut h: History<'a>, entry: Checksum) -> Option<Came<'a>>
+pub(crate) fn last_begun<'a>(mut h: History<'a>, entry: Checksum) -> Option<Received<'a>>
     ensures { MatchOption result (last_begun entry h.entry ≡ None)
         (λ came. last_begun entry h.entry ≡ Some (record { chain = came.chain.now; manifest = came.manifest.now })) }
 {
     while let Some(record) = h.next() {
-        if let Record::Begun {
-            chain,
-            manifest,
-            ..
-        } = record
+        if let RecordRef::Kept(
+            Record::Begun {
+                chain,
+                manifest,
+                ..
+            },
+        ) = record
         {
             if ends_in(chain, entry) {
-                return Some(Came { chain, manifest });
+                return Some(Received { chain, manifest });
             }
         }
     }

@@ -1,8 +1,8 @@
 //! Where a bill stands on a platform.
-ghost use Rattle.std.specs.Prelude.{◌≡◌, IfOk, Some};
+ghost use Rattle.std.specs.Prelude.{◌≡◌, IfOk, Some, option_copied};
 ghost use Rattle.bill_diary.specs.History.{history};
 ghost use Rattle.bill_diary.specs.Known.{known};
-ghost use Rattle.bill_diary.specs.Place.{is_left, place_of};
+ghost use Rattle.bill_diary.specs.Place.{is_left, known_at, place_of, tag_of};
 
 use crate::begun::last_of;
 use crate::frame::{Diary, Frame};
@@ -10,7 +10,7 @@ use crate::known::known_chain;
 use crate::parting::{is_settled, parting};
 use crate::since::since;
 use crate::walk::History;
-use ebl_base::{Chain, ChainLink, Checksum, Copied, NoMemory, TransactionList};
+use ebl_base::{Chain, ChainLink, Checksum, Copied, NoMemory, PlaceTag, TransactionList};
 use std::alloc::Global;
 
 /// Where a bill stands on a platform, with what the platform knows of it.
@@ -18,7 +18,7 @@ use std::alloc::Global;
 pub enum BillPlace {
     /// The platform doesn't know the bill.
     Absent,
-    /// The platform holds the bill: its possessor may act there.
+    /// The platform holds the bill: its possessor may act there, unless its title is ended.
     Held {
         /// The chain by which the bill came here; empty where it began here.
         known: Chain,
@@ -35,6 +35,32 @@ pub enum BillPlace {
     Gone {
         known: Chain,
     },
+}
+
+impl BillPlace {
+    /// Which of the four places it is.
+    pub fn tag(&self) -> PlaceTag
+        ensures { result ≡ tag_of self.now }
+    {
+        match self {
+            BillPlace::Absent => PlaceTag::Absent,
+            BillPlace::Held { .. } => PlaceTag::Held,
+            BillPlace::Parting { .. } => PlaceTag::Parting,
+            BillPlace::Gone { .. } => PlaceTag::Gone,
+        }
+    }
+
+    /// The chain that is known there. `None` where the bill is absent.
+    pub fn known(&self) -> Option<&Chain>
+        ensures { option_copied result ≡ known_at self.now }
+    {
+        match self {
+            BillPlace::Absent => None,
+            BillPlace::Held { known, .. }
+            | BillPlace::Parting { known, .. }
+            | BillPlace::Gone { known } => Some(known),
+        }
+    }
 }
 
 /// The place of a bill by a diary.

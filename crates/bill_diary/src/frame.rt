@@ -8,8 +8,8 @@ use std::alloc::Global;
 pub enum Frame {
     /// One record.
     One(Record),
-    /// A Begun, and the Taken of the last entry of its chain.
-    BegunTaken { begun: Record, taken: Record },
+    /// A Begun that is taken. The Taken of the last entry of its chain follows it, and isn't kept apart.
+    BegunTaken(Record),
 }
 
 /// Frames in the order in which they were written.
@@ -19,10 +19,7 @@ impl Copied for Frame {
     fn copy(&self, alloc: Global) -> Result<Self, NoMemory> {
         match self {
             Frame::One(record) => Ok(Frame::One(record.copy(alloc)?)),
-            Frame::BegunTaken { begun, taken } => Ok(Frame::BegunTaken {
-                begun: begun.copy(alloc)?,
-                taken: taken.copy(alloc)?,
-            }),
+            Frame::BegunTaken(begun) => Ok(Frame::BegunTaken(begun.copy(alloc)?)),
         }
     }
 }

@@ -1,9 +1,11 @@
 //! The known chain of a bill, and the chain that a Settled tells.
 ghost use Rattle.std.specs.Prelude.{◌≡◌, ◌∷◌, [], ◌++◌, IfOk, map, option_map};
+ghost use Rattle.bill_diary.specs.History.{record_at};
 ghost use Rattle.bill_diary.specs.Known.{known, settled_chain};
 
+use crate::known_chains::KnownChains;
 use crate::record::Record;
-use crate::told::Told;
+use crate::record_ref::RecordRef;
 use crate::walk::History;
 use ebl_base::{Chain, ChainLink, Checksum, Copied, NoMemory};
 use std::alloc::Global;
@@ -11,13 +13,13 @@ use std::alloc::Global;
 /// The known chain of a bill by what is left of its history: the longest of the chains that the records tell, of
 /// equally long ones the last. `None` where neither a Signed nor a Taken is left.
 ///
-/// It goes over the history twice, keeps references to its chains and the entries that were parted, and copies the chain
-/// that it answers.
+/// It goes over the history twice, keeps references to its chains and the entries that were parted, and copies the
+/// chain that it answers.
 pub fn known_chain(alloc: Global, h: History) -> Result<Option<Chain>, NoMemory>
     ensures { IfOk result (λ chain. chain ≡ known h.entry) }
 {
     let mut left = records(alloc, h)?;
-    let mut told = Told::nothing(alloc);
+    let mut told = KnownChains::nothing(alloc);
     while let Some(record) = left.pop() {
         told.add(alloc, record)?;
     }
@@ -25,8 +27,8 @@ pub fn known_chain(alloc: Global, h: History) -> Result<Option<Chain>, NoMemory>
 }
 
 // The records that are left, newest first.
-fn records<'a>(alloc: Global, mut h: History<'a>) -> Result<Vec<&'a Record>, NoMemory>
-    ensures { IfOk result (λ records. map (λ r. r.now) records.items ≡ h.entry) }
+fn records<'a>(alloc: Global, mut h: History<'a>) -> Result<Vec<RecordRef<'a>>, NoMemory>
+    ensures { IfOk result (λ records. map record_at records.items ≡ h.entry) }
 {
     let mut records = Vec::new(alloc);
     while let Some(record) = h.next() {
@@ -47,7 +49,7 @@ pub fn settled_chain(
     ensures { IfOk result (λ chain. chain ≡ settled_chain entry before.entry) }
 {
     while let Some(record) = before.next() {
-        if let Record::Parted { link, .. } = record {
+        if let RecordRef::Kept(Record::Parted { link, .. }) = record {
             if link.name == entry {
                 return with_link(alloc, known_chain(alloc, before)?, link);
             }

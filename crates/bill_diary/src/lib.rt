@@ -4,29 +4,43 @@
 mod acting;
 mod begun;
 mod bill_place;
+mod documents;
 mod frame;
 mod known;
+mod known_chains;
 mod laws;
 mod links;
 mod look_ups;
 mod parting;
 mod record;
+mod record_ref;
+mod searching;
 mod since;
 #[cfg(test)]
 mod tests;
-mod told;
+mod titles;
 mod walk;
 
 pub use acting::may_act;
 pub use begun::taken_chain;
 pub use bill_place::{BillPlace, place};
+pub use documents::{count_parted, pieces};
 pub use frame::{Diary, Frame};
 pub use known::{known_chain, settled_chain};
 pub use laws::{
-    frames_of_other_bills_change_nothing, front_of_sound_diary_is_sound,
-    history_of_sound_diary_is_sound, known_chain_only_grows, place_is_what_stands,
-    possessor_acts_where_held_and_not_ended,
+    begun_is_fixed_by_its_body, body_has_no_further_member, declined_evidence_is_compact,
+    documents_are_stored_by_their_bytes, each_frame_of_a_sound_diary_may_follow,
+    frame_that_may_follow_keeps_a_diary_sound, frames_of_other_bills_change_nothing,
+    front_of_sound_diary_is_sound, history_of_sound_diary_is_sound, known_chain_only_grows,
+    known_links_are_their_texts, last_begun_with_a_reference_is_the_last_of_its_entry,
+    place_is_what_stands, possessor_acts_where_held_and_not_ended,
 };
 pub use look_ups::{Declination, has_bytes, is_taken, last_declined};
 pub use record::Record;
+pub use record_ref::RecordRef;
+pub use searching::{
+    BegunRef, PartedRef, first_bytes, last_body, last_parted_record, last_with_reference,
+    signed_text,
+};
+pub use titles::{title_after_chain, title_at};
 pub use walk::{History, Newest};

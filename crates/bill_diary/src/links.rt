@@ -55,8 +55,8 @@ impl<'a> Links<'a> {
         Ok(links)
     }
 
-    /// The same links once more.
-    pub(crate) fn again(&self, alloc: Global) -> Result<Self, NoMemory>
+    /// A copy of the references.
+    pub(crate) fn copy(&self, alloc: Global) -> Result<Self, NoMemory>
         ensures { IfOk result (λ links. links ≡ self.now) }
     {
         let links = Vec::from_slice(alloc, &self.links)?;
@@ -69,7 +69,7 @@ impl<'a> Links<'a> {
     {
         let mut chain = Items::new(alloc);
         for link in &self.links {
-            chain.push(link.copy(alloc)?)?;
+            chain.push((*link).copy(alloc)?)?;
         }
         Ok(chain)
     }

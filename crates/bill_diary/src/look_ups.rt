@@ -1,11 +1,12 @@
 //! What a diary says of an entry, by its name alone, and of the bytes of a document.
 ghost use Rattle.std.specs.Prelude.{◌≡◌, MatchOption, None, Some};
-ghost use Rattle.bill_diary.specs.History.{history, newest_first};
+ghost use Rattle.bill_diary.specs.History.{history, newest_first, record_at};
 ghost use Rattle.bill_diary.specs.Pieces.{brings, is_there};
-ghost use Rattle.bill_diary.specs.Receiving.{is_taken, last_declined};
+ghost use Rattle.bill_diary.specs.Receiving.{takes, is_taken, last_declined};
 
 use crate::frame::Diary;
 use crate::record::Record;
+use crate::record_ref::RecordRef;
 use crate::walk::{History, Newest};
 use ebl_base::{Checksum, Code, Evidence, Reason};
 
@@ -23,13 +24,24 @@ pub fn is_taken(d: &Diary, entry: Checksum) -> bool
 {
     let mut left = Newest::of(d.as_slice());
     while let Some(record) = left.next() {
-        if let Record::Taken { entry: other, .. } = record {
-            if *other == entry {
-                return true;
-            }
+        if takes(record, entry) {
+            return true;
         }
     }
     false
+}
+
+// Whether a record is the Taken of an entry.
+fn takes(one: RecordRef, entry: Checksum) -> bool
+    ensures { result ≡ takes entry (record_at one.entry) }
+{
+    match one {
+        RecordRef::Kept(kept) => match kept {
+            Record::Taken { entry: other, .. } => *other == entry,
+            _ => false,
+        },
+        RecordRef::Taken { entry: other, .. } => other == entry,
+    }
 }
 
 /// The last Declined of an entry. It goes over the records of all bills.
@@ -40,13 +52,15 @@ pub fn last_declined(d: &Diary, entry: Checksum) -> Option<Declination<'_>>
 {
     let mut left = Newest::of(d.as_slice());
     while let Some(record) = left.next() {
-        if let Record::Declined {
-            entry: other,
-            code,
-            reason,
-            evidence,
-            ..
-        } = record
+        if let RecordRef::Kept(
+            Record::Declined {
+                entry: other,
+                code,
+                reason,
+                evidence,
+                ..
+            },
+        ) = record
         {
             if *other == entry {
                 return Some(Declination {
@@ -74,15 +88,18 @@ pub fn has_bytes(d: &Diary, bill: Checksum, checksum: Checksum) -> bool
 }
 
 // Whether a record brought the bytes of this checksum.
-fn brings(one: &Record, checksum: Checksum) -> bool
-    ensures { result ≡ brings checksum one.now }
+fn brings(one: RecordRef, checksum: Checksum) -> bool
+    ensures { result ≡ brings checksum (record_at one.entry) }
 {
     match one {
-        Record::Attached { piece, .. } => piece.checksum == checksum,
-        Record::Stored {
-            checksum: other,
-            ..
-        } => *other == checksum,
-        _ => false,
+        RecordRef::Kept(kept) => match kept {
+            Record::Attached { piece, .. } => piece.checksum == checksum,
+            Record::Stored {
+                checksum: other,
+                ..
+            } => *other == checksum,
+            _ => false,
+        },
+        RecordRef::Taken { .. } => false,
     }
 }

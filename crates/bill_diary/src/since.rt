@@ -3,6 +3,7 @@ ghost use Rattle.std.specs.Prelude.{◌≡◌, IfOk};
 ghost use Rattle.bill_diary.specs.Place.{since};
 
 use crate::record::Record;
+use crate::record_ref::RecordRef;
 use crate::walk::History;
 use ebl_base::{Items, NoMemory, TransactionList};
 use std::alloc::Global;
@@ -14,10 +15,13 @@ pub(crate) fn since(alloc: Global, mut h: History) -> Result<TransactionList, No
     let mut newest_first = Vec::new(alloc);
     while let Some(record) = h.next() {
         match record {
-            Record::Signed { transaction, .. } | Record::Acted { transaction, .. } =>
-                newest_first.push(*transaction)?,
-            Record::Taken { .. } => break,
-            _ => {}
+            RecordRef::Kept(kept) => match kept {
+                Record::Signed { transaction, .. } | Record::Acted { transaction, .. } =>
+                    newest_first.push(*transaction)?,
+                Record::Taken { .. } => break,
+                _ => {}
+            },
+            RecordRef::Taken { .. } => break,
         }
     }
     newest_first.reverse();

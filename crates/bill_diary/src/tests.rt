@@ -1,17 +1,20 @@
 //! Places of bills by short diaries. A number stands for the name of an entry; the texts are empty, since no place
 //! looks at them.
 use crate::{
-    BillPlace, Diary, Frame, History, Record, has_bytes, is_taken, known_chain, last_declined,
-    may_act, place, settled_chain, taken_chain,
+    BillPlace, Diary, Frame, History, Record, count_parted, first_bytes, has_bytes, is_taken,
+    known_chain, last_body, last_declined, last_parted_record, last_with_reference, may_act,
+    pieces, place, settled_chain, signed_text, taken_chain, title_at,
 };
 use ebl_base::{
-    Chain, ChainLink, Checksum, Code, Entry, Evidence, Items, Kind, Moment, NoMemory, Party,
-    PlaceTag, Reason, SignedText, Transaction,
+    ByteList, Chain, ChainLink, CharList, Checksum, Code, Copied, Entry, Evidence, Items, Kind,
+    Moment, NoMemory, Party, PlaceTag, Reason, SignedText, Transaction,
 };
-use envelope_manifest::Manifest;
+use envelope_manifest::{Manifest, Piece};
 use std::alloc::Global;
 use std::process::Abort;
 use std::test::Fail;
+use title_fold::Title;
+use upload_state::reference_of;
 
 const BILL: Checksum = Checksum([9; 32]);
 
@@ -38,24 +41,16 @@ fn ends(chain: &Chain) -> [u8; 2] {
 }
 
 fn shown(place: &BillPlace) -> Shown {
-    match place {
-        BillPlace::Absent => (PlaceTag::Absent, [0, 0], 0, 0, 0),
-        BillPlace::Held { known, since } => (
-            PlaceTag::Held,
-            ends(known),
-            known.len(),
-            0,
-            since.len(),
-        ),
-        BillPlace::Parting { known, entry } => (
-            PlaceTag::Parting,
-            ends(known),
-            known.len(),
-            number_of(Some(entry)),
-            0,
-        ),
-        BillPlace::Gone { known } => (PlaceTag::Gone, ends(known), known.len(), 0, 0),
-    }
+    let (first_and_last, entries) = match place.known() {
+        Some(chain) => (ends(chain), chain.len()),
+        None => ([0, 0], 0),
+    };
+    let (parting, since) = match place {
+        BillPlace::Parting { entry, .. } => (number_of(Some(entry)), 0),
+        BillPlace::Held { since, .. } => (0, since.len()),
+        _ => (0, 0),
+    };
+    (place.tag(), first_and_last, entries, parting, since)
 }
 
 /// The parties of the tests, both on one platform, and when they act.
@@ -189,10 +184,7 @@ impl Cast {
             })),
             Step::Begun(first, last) => Ok(Frame::One(self.begun(alloc, first, last)?)),
             Step::Taken(n) => Ok(Frame::One(taken(n))),
-            Step::BegunTaken(first, last) => Ok(Frame::BegunTaken {
-                begun: self.begun(alloc, first, last)?,
-                taken: taken(last),
-            }),
+            Step::BegunTaken(first, last) => Ok(Frame::BegunTaken(self.begun(alloc, first, last)?)),
         }
     }
 }
@@ -207,7 +199,7 @@ fn taken(n: u8) -> Record {
 /// A step, where the bill stands after it, and whether its possessor may act.
 type Row = (Step, Shown, bool);
 
-fn see<R: Abort>(rt: &R, alloc: Global, rows: &[Row]) -> Result<(), Fail> {
+fn assert_rows<R: Abort>(rt: &R, alloc: Global, rows: &[Row]) -> Result<(), Fail> {
     let cast = players()?;
     let mut d = Items::new(alloc);
     for (step, want, acts) in rows {
@@ -251,7 +243,7 @@ const ROUND_TRIP: [Row; 10] = [
 
 #[test]
 fn each_way_into_and_out_of_each_place(rt: HostRuntime) -> Result<(), Fail> {
-    see(&rt, rt.alloc(), &ROUND_TRIP)
+    assert_rows(&rt, rt.alloc(), &ROUND_TRIP)
 }
 
 // What no sound diary has, but the definition says: the longest chain counts and not the newest, of equally long ones
@@ -277,7 +269,7 @@ const ANY_RECORDS: [Row; 8] = [
 
 #[test]
 fn the_first_place_that_fits_any_records(rt: HostRuntime) -> Result<(), Fail> {
-    see(&rt, rt.alloc(), &ANY_RECORDS)
+    assert_rows(&rt, rt.alloc(), &ANY_RECORDS)
 }
 
 // A title that is ended lets nobody act, though the bill is held.
@@ -298,7 +290,7 @@ const SURRENDER: [Row; 4] = [
 
 #[test]
 fn nobody_acts_on_an_ended_title(rt: HostRuntime) -> Result<(), Fail> {
-    see(&rt, rt.alloc(), &SURRENDER)
+    assert_rows(&rt, rt.alloc(), &SURRENDER)
 }
 
 // Look-ups by the name of an entry go over all bills; the bytes of a document are those of one bill.
@@ -343,12 +335,12 @@ fn look_ups(rt: HostRuntime) -> Result<(), Fail> {
 
 /// The chains that a history tells, by the ends of each: the known one, and those that a Taken and a Settled of an
 /// entry would tell.
-type Told = (Option<[u8; 2]>, Option<[u8; 2]>, Option<[u8; 2]>);
+type ToldEnds = (Option<[u8; 2]>, Option<[u8; 2]>, Option<[u8; 2]>);
 
-fn told(alloc: Global, d: &Diary, n: u8) -> Result<Told, NoMemory> {
+fn told(alloc: Global, d: &Diary, n: u8) -> Result<ToldEnds, NoMemory> {
     let history = History::of(d.as_slice(), BILL);
-    let taken = taken_chain(history.again(), name(n)).map(ends);
-    let settled = settled_chain(alloc, history.again(), name(n))?;
+    let taken = taken_chain(history.restart(), name(n)).map(ends);
+    let settled = settled_chain(alloc, history.restart(), name(n))?;
     let known = known_chain(alloc, history)?;
     Ok((known.as_ref().map(ends), taken, settled.as_ref().map(ends)))
 }
@@ -364,5 +356,120 @@ fn chains_that_a_history_tells(rt: HostRuntime) -> Result<(), Fail> {
     d.push(cast.frame(alloc, Step::Parted(3))?)?;
     assert_eq!(rt; told(alloc, &d, 3)?, (Some([1, 2]), None, Some([1, 3])));
     assert_eq!(rt; told(alloc, &d, 4)?, (Some([1, 2]), None, None));
+    Ok(())
+}
+
+// A document of the bill, named by its number.
+fn piece(alloc: Global, n: u8) -> Piece {
+    Piece {
+        name: CharList::new(alloc),
+        media: CharList::new(alloc),
+        size: 1,
+        checksum: name(n),
+    }
+}
+
+fn attached(alloc: Global, n: u8) -> Result<Record, NoMemory> {
+    Ok(Record::Attached {
+        bill: BILL,
+        piece: piece(alloc, n),
+        bytes: ByteList::from_slice(alloc, &[n])?,
+    })
+}
+
+// The first bytes of a text, 0 where there is none.
+fn first_of(bytes: Option<&ByteList>) -> u8 {
+    match bytes {
+        Some(list) => match list.as_slice().first() {
+            Some(byte) => *byte,
+            None => 0,
+        },
+        None => 0,
+    }
+}
+
+// A bill with documents came, was sent on twice, and has one document more; another bill was attached to.
+fn with_documents(alloc: Global, cast: Cast) -> Result<Diary, NoMemory> {
+    let mut listed = manifest(alloc, 2);
+    listed.documents.push(piece(alloc, 5))?;
+    let mut chain = Items::new(alloc);
+    chain.push(cast.link(alloc, 2))?;
+    let mut d = Items::new(alloc);
+    d.push(Frame::One(cast.signed(alloc)))?;
+    d.push(Frame::BegunTaken(Record::Begun {
+        bill: BILL,
+        chain,
+        manifest: listed,
+        body: ByteList::from_slice(alloc, &[77])?,
+    }))?;
+    d.push(Frame::One(attached(alloc, 6)?))?;
+    d.push(Frame::One(Record::Stored {
+        bill: BILL,
+        entry: name(2),
+        checksum: name(6),
+        bytes: ByteList::from_slice(alloc, &[66])?,
+    }))?;
+    d.push(Frame::One(cast.parted(alloc, 3)))?;
+    d.push(Frame::One(cast.parted(alloc, 4)))?;
+    Ok(d)
+}
+
+#[test]
+fn documents_of_a_bill(rt: HostRuntime) -> Result<(), Fail> {
+    let alloc = rt.alloc();
+    let d = with_documents(alloc, players()?)?;
+    let listed = pieces(alloc, &d, BILL)?.into_vec();
+    assert_eq!(rt; listed.len(), 2);
+    assert_eq!(rt; listed[0].checksum, name(5));
+    assert_eq!(rt; listed[1].checksum, name(6));
+    assert_eq!(rt; first_of(first_bytes(&d, BILL, name(6))), 6);
+    assert!(rt; first_bytes(&d, name(8), name(6)).is_none());
+    assert_eq!(rt; pieces(alloc, &d, name(8))?.len(), 0);
+    Ok(())
+}
+
+#[test]
+fn searches(rt: HostRuntime) -> Result<(), Fail> {
+    let alloc = rt.alloc();
+    let d = with_documents(alloc, players()?)?;
+    assert_eq!(rt; count_parted(&d, BILL), 2);
+    assert_eq!(rt; count_parted(&d, name(8)), 0);
+    let parted = last_parted_record(&d, BILL).ok_or("a Parted")?;
+    assert_eq!(rt; parted.link.name, name(4));
+    let begun = last_with_reference(&d, reference_of(BILL, name(2))).ok_or("a Begun")?;
+    assert_eq!(rt; first_of(Some(begun.body)), 77);
+    assert!(rt; last_with_reference(&d, reference_of(BILL, name(3))).is_none());
+    assert_eq!(rt; first_of(last_body(&d, BILL)), 77);
+    assert!(rt; signed_text(&d, BILL).is_some());
+    assert!(rt; signed_text(&d, name(8)).is_none());
+    Ok(())
+}
+
+#[test]
+fn title_of_a_bill_that_was_signed(rt: HostRuntime) -> Result<(), Fail> {
+    let alloc = rt.alloc();
+    let cast = players()?;
+    let mut d = Items::new(alloc);
+    d.push(Frame::One(cast.signed(alloc)))?;
+    let title = title_at(&place(alloc, &d, BILL)?).ok().ok_or("folds")?;
+    let want = Title::Signed {
+        carrier: cast.carrier,
+    };
+    assert!(rt; title == Some(want));
+    Ok(())
+}
+
+// A copy says the same.
+#[test]
+fn copies(rt: HostRuntime) -> Result<(), Fail> {
+    let alloc = rt.alloc();
+    let d = with_documents(alloc, players()?)?;
+    let copied = d.copy(alloc)?;
+    let text = format!(in alloc; "{d:?}")?;
+    assert!(rt; format!(in alloc; "{copied:?}")?.as_str() == text.as_str());
+    let stands = place(alloc, &d, BILL)?;
+    let text = format!(in alloc; "{stands:?}")?;
+    let copied = stands.copy(alloc)?;
+    assert!(rt; format!(in alloc; "{copied:?}")?.as_str() == text.as_str());
     Ok(())
 }

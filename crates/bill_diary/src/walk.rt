@@ -1,9 +1,11 @@
 //! The records of a diary, from the newest to the oldest.
-ghost use Rattle.std.specs.Prelude.{◌≡◌, [], ◌∷◌, MatchOption};
-ghost use Rattle.bill_diary.specs.History.{newest_first, of_bill, history};
+ghost use Rattle.std.specs.Prelude.{◌≡◌, [], ◌∷◌, MatchOption, option_map};
+ghost use Rattle.bill_diary.specs.History.{newest_first, of_bill, history, record_at, taken_after};
 
+use crate::begun::last_of;
 use crate::frame::Frame;
 use crate::record::Record;
+use crate::record_ref::RecordRef;
 use ebl_base::Checksum;
 use std::marker::Model;
 
@@ -39,21 +41,24 @@ impl<'a> Newest<'a> {
     }
 
     /// The newest record that is left.
-    pub fn next(&mut self) -> Option<&'a Record>
-        ensures { MatchOption result (self.old ≡ []) (λ «record». self.old ≡ «record».now ∷ self.new) }
+    pub fn next(&mut self) -> Option<RecordRef<'a>>
+        ensures { MatchOption result (self.old ≡ []) (λ r. self.old ≡ record_at r ∷ self.new) }
     {
-        if let Some(record) = self.begun {
+        if let Some(kept) = self.begun {
             self.begun = None;
-            return Some(record);
+            return Some(RecordRef::Kept(kept));
         }
         let (frame, before) = self.frames.split_last()?;
         self.frames = before;
         match frame {
-            Frame::One(record) => Some(record),
-            Frame::BegunTaken { begun, taken } => {
-                self.begun = Some(begun);
-                Some(taken)
-            }
+            Frame::One(kept) => Some(RecordRef::Kept(kept)),
+            Frame::BegunTaken(begun) => match taken_after(begun) {
+                Some(taken) => {
+                    self.begun = Some(begun);
+                    Some(taken)
+                }
+                None => Some(RecordRef::Kept(begun)),
+            },
         }
     }
 
@@ -100,8 +105,8 @@ impl<'a> History<'a> {
     }
 
     /// The newest record that is left.
-    pub fn next(&mut self) -> Option<&'a Record>
-        ensures { MatchOption result (self.old ≡ []) (λ «record». self.old ≡ «record».now ∷ self.new) }
+    pub fn next(&mut self) -> Option<RecordRef<'a>>
+        ensures { MatchOption result (self.old ≡ []) (λ r. self.old ≡ record_at r ∷ self.new) }
     {
         while let Some(record) = self.records.next() {
             if record.bill() == self.bill {
@@ -111,10 +116,26 @@ impl<'a> History<'a> {
         None
     }
 
-    /// The same records once more, for a search that goes its own way.
-    pub fn again(&self) -> History<'a>
+    /// The same records from their newest on, for a search that goes its own way.
+    pub fn restart(&self) -> History<'a>
         ensures { result ≡ self.now }
     {
         self.records.of_bill(self.bill)
+    }
+}
+
+// The Taken that follows a Begun in its frame.
+fn taken_after<'a>(begun: &Record) -> Option<RecordRef<'a>>
+    ensures { option_map record_at result ≡ taken_after begun.now }
+{
+    match begun {
+        Record::Begun { bill, chain, .. } => match last_of(chain) {
+            Some(link) => Some(RecordRef::Taken {
+                bill: *bill,
+                entry: link.name,
+            }),
+            None => None,
+        },
+        _ => None,
     }
 }

@@ -1,12 +1,13 @@
 -- What was told is told by the records behind those that are left.
 use Rattle.std.proofs.Common.{◌≡◌, List, ◌++◌, map, vec_len}
 use Rattle.bill_diary.specs.declared.record.Record.{Record}
-use Rattle.bill_diary.specs.Told.{IsToldBy}
+use Rattle.bill_diary.specs.KnownChains.{IsToldBy}
+use Rattle.bill_diary.specs.History.{record_at}
 use Rattle.bill_diary.proofs.known.known_chain.Given as goal
 
 abbrev pub invariant-loop-record : goal.invariant-loop-record
 invariant-loop-record l =
-    (done : List Record) × (map (λ r. r.now) l.left.items ++ done ≡ l.fn.h) × IsToldBy done l.told
+    (done : List Record) × (map record_at l.left.items ++ done ≡ l.fn.h) × IsToldBy done l.told
 
 abbrev pub decreases-loop-record : goal.decreases-loop-record
 decreases-loop-record l = vec_len l.left

@@ -1,7 +1,7 @@
 -- What is left gives what the whole gives.
 use Rattle.std.proofs.Common.{◌≡◌, length}
 use Rattle.std.specs.List.{list_any}
-use Rattle.title_fold.specs.Chain.{has_entry}
+use Rattle.bill_chain.specs.Chain.{has_entry}
 use Rattle.bill_diary.specs.Place.{taken_chains}
 use Rattle.bill_diary.proofs.parting.is_taken_along.Given as goal
 
