@@ -8,8 +8,8 @@ use Rattle.std.proofs.lemmas.List.{length-map}
 use Rattle.ebl_base.specs.Checksum.{checksum_eq}
 use Rattle.ebl_base.specs.declared.checksum.Checksum.{Checksum}
 use Rattle.ebl_base.specs.declared.chain.ChainLink.{ChainLink}
-use Rattle.title_fold.specs.Chain.{last_of, names_of, goes_beyond}
-use Rattle.title_fold.proofs.ChainLemmas.{last_of-get}
+use Rattle.bill_chain.specs.Chain.{last_of, names_of, goes_beyond}
+use Rattle.bill_chain.proofs.ChainLemmas.{last_of-get}
 use Rattle.transfer_judge.specs.Dispute.{place_of_parting, text_at}
 
 none_is_short : (n : ℕ) → nat_eq 0 (suc n) ≡ false

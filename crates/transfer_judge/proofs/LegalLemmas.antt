@@ -19,67 +19,77 @@ use Rattle.envelope_manifest.specs.declared.manifest.Manifest.{Manifest}
 use Rattle.party_roster.specs.RosterRecord.{RosterRecord, knows}
 use Rattle.title_fold.specs.Title.{possessor}
 use Rattle.title_fold.specs.Fold.{Folded}
-use Rattle.title_fold.specs.Chain.{last_of, platform_with, title_after_chain, IsGoodChain}
+use Rattle.bill_chain.specs.Chain.{last_of, platform_with, title_after_chain, IsChainOfBill}
 use Rattle.transfer_chain.specs.GoodChain.{IsLink, AreLinks}
 use Rattle.bill_diary.specs.declared.record.Record.{Record}
 use Rattle.bill_diary.specs.declared.record.Record.TheVariants.{Signed, Acted, Attached, Parted, Settled, Regained, Begun, Stored, Taken, Declined}
 use Rattle.bill_diary.specs.declared.frame.Frame.{Frame}
-use Rattle.bill_diary.specs.History.{bill_of, newest_first, of_bill}
+use Rattle.bill_diary.specs.History.{bill_of, records_of, newest_first, of_bill}
 use Rattle.bill_diary.specs.Texts.{LinkIsItsText, LinksAreTheirTexts}
 use Rattle.bill_diary.specs.Pieces.{missing_of}
-use Rattle.bill_diary.specs.Place.{place_of}
+use Rattle.bill_diary.specs.Place.{place_of, chain_at}
 use Rattle.bill_diary.specs.Receiving.{Declination, continues, is_declined, is_taken, last_declined}
-use Rattle.bill_diary.specs.Sound.{MayReceive, MayFollow, AreSound, IsSound}
+use Rattle.bill_diary.specs.Sound.{MayReceive, MayFollow, MayFollowEach, MayFollowDiary, AreSound, IsSound}
 use Rattle.transfer_judge.specs.declared.judgement.Judgement.{Judgement}
 use Rattle.transfer_judge.specs.declared.judgement.Judgement.TheVariants as judgements
-use Rattle.transfer_judge.specs.Dispute.{evidence_of, own_chain}
+use Rattle.transfer_judge.specs.Dispute.{evidence_of}
 use Rattle.transfer_judge.specs.Judgement.{receiver_of, receiver_with, on_missing, on_receiver, on_dispute, on_declined, on_taken, on_receiver_here, on_last, judgement_of}
-use Rattle.transfer_judge.specs.Legal.{IsWelcome, FollowsLegally, AreLegal, IsLegal}
+use Rattle.transfer_judge.specs.Legal.{IsReceivable, FollowsLegally, FollowEachLegally, FollowsDiaryLegally, AreLegal, IsLegal}
 
 -- ---- a chain that isn't refused
 
--- a fact that no refusal for good has
+-- ---- past each case, for a fact that its refusal excludes
+
+pub past_last : (P : Judgement → Type 0) → (P judgements.Elsewhere → ⊥) → (last : Option ChainLink)
+    (rest : ChainLink → Judgement) → P (on_last last rest) → (link : ChainLink) × (last ≡ Some link) × P (rest link)
+past_last P not_so None rest p = absurd (not_so p)
+past_last P not_so (Some link) rest p = (link, refl, p)
+
+past_here_on : (P : Judgement → Type 0) → (P judgements.Elsewhere → ⊥) → (me : PlatformCode) (receiver : Party)
+    (test : Bool) (rest : Party → Judgement) → (test ≡ true → receiver.platform ≡ me)
+    → P (cond test (rest receiver) judgements.Elsewhere) → (receiver.platform ≡ me) × P (rest receiver)
+past_here_on P not_so me receiver true rest decides p = (decides refl, p)
+past_here_on P not_so me receiver false rest decides p = absurd (not_so p)
+
+pub past_here : (P : Judgement → Type 0) → (P judgements.Elsewhere → ⊥) → (me : PlatformCode) (party : Option Party)
+    (rest : Party → Judgement) → P (on_receiver_here me party rest)
+    → (receiver : Party) × (party ≡ Some receiver) × (receiver.platform ≡ me) × P (rest receiver)
+past_here P not_so me None rest p = absurd (not_so p)
+past_here P not_so me (Some receiver) rest p =
+    let (here, further) =
+    past_here_on P not_so me receiver (code_eq receiver.platform me) rest
+    (code_eq-Decides receiver.platform me).0 p in
+    (receiver, refl, here, further)
+
+pub past_taken : (P : Judgement → Type 0) → (P judgements.Duplicate → ⊥) → (taken : Bool) (rest : Judgement)
+    → P (on_taken taken rest) → (taken ≡ false) × P rest
+past_taken P not_so true rest p = absurd (not_so p)
+past_taken P not_so false rest p = (refl, p)
+
+pub past_declined : (P : Judgement → Type 0)
+    → ((code : Code) (reason : Reason) (evidence : Evidence) → P (judgements.Declined code reason evidence) → ⊥)
+    → (declined : Option Declination) (rest : Judgement)
+    → P (on_declined declined rest) → (declined ≡ None) × P rest
+past_declined P not_so None rest p = (refl, p)
+past_declined P not_so (Some d) rest p = absurd (not_so d.code d.reason d.evidence p)
+
+pub past_dispute : (P : Judgement → Type 0) → ((evidence : Evidence) → P (judgements.Parts evidence) → ⊥)
+    → (goes : Bool) (evidence : Evidence) (rest : Judgement)
+    → P (on_dispute (cond goes None (Some evidence)) rest) → (goes ≡ true) × P rest
+past_dispute P not_so true evidence rest p = (refl, p)
+past_dispute P not_so false evidence rest p = absurd (not_so evidence p)
+
+pub past_receiver : (P : Judgement → Type 0) → (P judgements.Unknown → ⊥) → (known : Bool) (rest : Judgement)
+    → P (cond known rest judgements.Unknown) → (known ≡ true) × P rest
+past_receiver P not_so true rest p = (refl, p)
+past_receiver P not_so false rest p = absurd (not_so p)
+
+-- a fact that no refusal by name or place has
 record NoRefusal (P : Judgement → Type 0) : Type 0 where
   elsewhere : P judgements.Elsewhere → ⊥
   duplicate : P judgements.Duplicate → ⊥
   declined : (code : Code) (reason : Reason) (evidence : Evidence) → P (judgements.Declined code reason evidence) → ⊥
   parts : (evidence : Evidence) → P (judgements.Parts evidence) → ⊥
-
-past_last : (P : Judgement → Type 0) (free : NoRefusal P) (last : Option ChainLink) (rest : ChainLink → Judgement)
-    → P (on_last last rest) → (link : ChainLink) × (last ≡ Some link) × P (rest link)
-past_last P free None rest p = absurd (free.elsewhere p)
-past_last P free (Some link) rest p = (link, refl, p)
-
-past_here_on : (P : Judgement → Type 0) (free : NoRefusal P) (me : PlatformCode) (receiver : Party) (test : Bool)
-    (rest : Party → Judgement) → (test ≡ true → receiver.platform ≡ me)
-    → P (cond test (rest receiver) judgements.Elsewhere) → (receiver.platform ≡ me) × P (rest receiver)
-past_here_on P free me receiver true rest decides p = (decides refl, p)
-past_here_on P free me receiver false rest decides p = absurd (free.elsewhere p)
-
-past_here : (P : Judgement → Type 0) (free : NoRefusal P) (me : PlatformCode) (party : Option Party)
-    (rest : Party → Judgement) → P (on_receiver_here me party rest)
-    → (receiver : Party) × (party ≡ Some receiver) × (receiver.platform ≡ me) × P (rest receiver)
-past_here P free me None rest p = absurd (free.elsewhere p)
-past_here P free me (Some receiver) rest p =
-    let (here, further) =
-    past_here_on P free me receiver (code_eq receiver.platform me) rest
-    (code_eq-Decides receiver.platform me).0 p in
-    (receiver, refl, here, further)
-
-past_taken : (P : Judgement → Type 0) (free : NoRefusal P) (taken : Bool) (rest : Judgement)
-    → P (on_taken taken rest) → (taken ≡ false) × P rest
-past_taken P free true rest p = absurd (free.duplicate p)
-past_taken P free false rest p = (refl, p)
-
-past_declined : (P : Judgement → Type 0) (free : NoRefusal P) (declined : Option Declination) (rest : Judgement)
-    → P (on_declined declined rest) → (declined ≡ None) × P rest
-past_declined P free None rest p = (refl, p)
-past_declined P free (Some d) rest p = absurd (free.declined d.code d.reason d.evidence p)
-
-past_dispute_on : (P : Judgement → Type 0) (free : NoRefusal P) (goes : Bool) (evidence : Evidence) (rest : Judgement)
-    → P (on_dispute (cond goes None (Some evidence)) rest) → (goes ≡ true) × P rest
-past_dispute_on P free true evidence rest p = (refl, p)
-past_dispute_on P free false evidence rest p = absurd (free.parts evidence p)
 
 -- ---- what it says
 
@@ -98,7 +108,7 @@ not_declined_on true declination rest declined further none = absurd (let no : S
 not_declined_on false declination rest declined further none = further none
 
 -- where no Declined of an entry is found, none is there
-not_declined : (entry : Checksum) (records : List Record) → last_declined entry records ≡ None
+pub not_declined : (entry : Checksum) (records : List Record) → last_declined entry records ≡ None
     → is_declined entry records ≡ false
 not_declined entry [] none = refl
 not_declined entry (Declined bill other code reason evidence ∷ records) none =
@@ -116,7 +126,7 @@ not_declined entry (Taken bill other ∷ records) none = not_declined entry reco
 
 -- a chain that isn't refused may be received; what is left is whether its possessor is known and its documents are
 -- there
-record Received (P : Judgement → Type 0) (roster : RosterRecord) (me : PlatformCode) (bill : Checksum)
+record Passes (P : Judgement → Type 0) (roster : RosterRecord) (me : PlatformCode) (bill : Checksum)
     (records : List Record) (chain : List ChainLink) (manifest : Manifest) : Type 0 where
   receives : MayReceive me records (of_bill bill records) chain
   receiver : Party
@@ -124,15 +134,15 @@ record Received (P : Judgement → Type 0) (roster : RosterRecord) (me : Platfor
 
 received : (P : Judgement → Type 0) (free : NoRefusal P) (roster : RosterRecord) (me : PlatformCode) (bill : Checksum)
     (records : List Record) (chain : List ChainLink) (manifest : Manifest)
-    → P (judgement_of roster me bill records chain manifest) → Received P roster me bill records chain manifest
+    → P (judgement_of roster me bill records chain manifest) → Passes P roster me bill records chain manifest
 received P free roster me bill records chain manifest p =
     let h = of_bill bill records in
-    let (last, last_is, p1) = past_last P free (last_of chain) _ p in
-    let (receiver, receiver_is, here, p2) = past_here P free me (receiver_of chain) _ p1 in
-    let (not_taken, p3) = past_taken P free (is_taken last.name records) _ p2 in
-    let (none, p4) = past_declined P free (last_declined last.name records) _ p3 in
+    let (last, last_is, p1) = past_last P free.elsewhere (last_of chain) _ p in
+    let (receiver, receiver_is, here, p2) = past_here P free.elsewhere me (receiver_of chain) _ p1 in
+    let (not_taken, p3) = past_taken P free.duplicate (is_taken last.name records) _ p2 in
+    let (none, p4) = past_declined P free.declined (last_declined last.name records) _ p3 in
     let (goes, p5) =
-    past_dispute_on P free (continues (place_of h) chain) (evidence_of (own_chain (place_of h)) chain) _ p4 in
+    past_dispute P free.parts (continues (place_of h) chain) (evidence_of (chain_at (place_of h)) chain) _ p4 in
     record {
       receives = record {
         last = last;
@@ -147,7 +157,7 @@ received P free roster me bill records chain manifest p =
     }
 
 -- a welcome chain, and an accepted one
-welcome : NoRefusal IsWelcome
+welcome : NoRefusal IsReceivable
 welcome = record {
   elsewhere = λ p. p;
   duplicate = λ p. p;
@@ -171,15 +181,10 @@ none_missing [] is = refl
 none_missing (checksum ∷ checksums) is =
     absurd (let no : judgements.Missing (checksum ∷ checksums) ≡ judgements.Accept = is in cc)
 
-past_receiver : (known : Bool) (rest : Judgement) → cond known rest judgements.Unknown ≡ judgements.Accept
-    → rest ≡ judgements.Accept
-past_receiver true rest is = is
-past_receiver false rest is = absurd (let no : judgements.Unknown ≡ judgements.Accept = is in cc)
-
 -- ---- good chains
 
 -- a link that was checked is its text's
-link_is : (keys : Keys) (text : SignedText) (link : ChainLink) → IsLink keys text link → LinkIsItsText link
+pub link_is : (keys : Keys) (text : SignedText) (link : ChainLink) → IsLink keys text link → LinkIsItsText link
 link_is keys text link is =
     let same : text ≡ link.text = sym is.text in
     record {
@@ -193,7 +198,7 @@ link_is keys text link is =
       reads_as = is.entry;
     }
 
-links_are : (keys : Keys) (texts : List SignedText) (chain : List ChainLink) → AreLinks keys texts chain
+pub links_are : (keys : Keys) (texts : List SignedText) (chain : List ChainLink) → AreLinks keys texts chain
     → LinksAreTheirTexts chain
 links_are keys [] [] are = tt
 links_are keys [] (link ∷ chain) are = absurd are
@@ -213,16 +218,17 @@ sound_record roster keys me records (Parted bill link manifest manifest_text) fo
 sound_record roster keys me records (Settled bill entry) follows = follows
 sound_record roster keys me records (Regained bill entry) follows = follows
 sound_record roster keys me records (Begun bill chain manifest body) follows =
-    let all = received IsWelcome welcome roster me bill records chain manifest follows.welcome in
+    let all = received IsReceivable welcome roster me bill records chain manifest follows.welcome in
     let same : Some follows.last ≡ Some all.receives.last = sym follows.last_is ∙ all.receives.last_is in
     let last_same : follows.last ≡ all.receives.last = cc in
     record {
       body_is = follows.body_is;
       room = subst (λ (n : ℕ). n ≤ 64)
           (ap length follows.body_is.chain_is ∙ length-map chain (λ (link : ChainLink). link.text)) follows.good.most;
-      good = subst (λ (b : Checksum). IsGoodChain b chain) follows.body_is.document_is.names follows.good.entries;
+      good = subst (λ (b : Checksum). IsChainOfBill b chain) follows.body_is.document_is.names follows.good.entries;
       links_are = links_are keys follows.body_is.parts.chain chain follows.good.links;
       receives = all.receives;
+      manifest_form = follows.manifest_form;
       names_bill = follows.names_bill;
       names_last = follows.names_last ∙ ap (λ (l : ChainLink). l.name) last_same;
     }
@@ -236,7 +242,8 @@ sound_record roster keys me records (Taken bill entry) follows =
       begun_is = follows.begun_is;
       receives = all.receives;
       whole = none_missing (missing_of follows.begun.manifest h)
-          (past_receiver (knows roster all.receiver) (on_missing (missing_of follows.begun.manifest h)) all.rest);
+          (past_receiver IsAccepted (λ p. cc) (knows roster all.receiver)
+          (on_missing (missing_of follows.begun.manifest h)) all.rest).1;
     }
 sound_record roster keys me records (Declined bill entry code reason evidence) follows = follows
 
@@ -252,4 +259,18 @@ pub legal_is_sound : (roster : RosterRecord) (keys : Keys) (me : PlatformCode) (
 legal_is_sound roster keys me diary legal = record {
   frames = legal.frames;
   records = sound_records roster keys me (newest_first diary) legal.records;
+}
+
+sound_each : (roster : RosterRecord) (keys : Keys) (me : PlatformCode) (rs records : List Record)
+    → FollowEachLegally roster keys me records rs → MayFollowEach me records rs
+sound_each roster keys me [] records follow = tt
+sound_each roster keys me (r ∷ rs) records follow =
+    (sound_record roster keys me records r follow.0, follow.1, sound_each roster keys me rs (r ∷ records) follow.2)
+
+-- a frame that may follow a legal diary may follow it as a sound one
+pub legal_frame_is_sound : (roster : RosterRecord) (keys : Keys) (me : PlatformCode) (diary : List Frame)
+    (frame : Frame) → FollowsDiaryLegally roster keys me diary frame → MayFollowDiary me diary frame
+legal_frame_is_sound roster keys me diary frame follows = record {
+  is_frame = follows.is_frame;
+  records = sound_each roster keys me (records_of frame) (newest_first diary) follows.records;
 }

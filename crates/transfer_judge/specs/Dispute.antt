@@ -1,22 +1,15 @@
 -- The evidence of a dispute: the entries at which the chain that is known here and the one that was shown part.
-use Rattle.std.specs.Prelude.{ℕ, List, [], ◌∷◌, ◌++◌, Option, Some, None, option_map, slice_get, if◌then◌else◌}
+use Rattle.std.specs.Prelude.{ℕ, List, Option, Some, None, option_map, slice_get, if◌then◌else◌}
 use Rattle.std.specs.List.{common_prefix_len}
 use Rattle.std.specs.Option.{option_or}
 use Rattle.ebl_base.specs.Checksum.{checksum_eq}
 use Rattle.ebl_base.specs.declared.chain.ChainLink.{ChainLink}
 use Rattle.ebl_base.specs.declared.evidence.Evidence.{Evidence}
 use Rattle.ebl_base.specs.declared.signed_text.SignedText.{SignedText}
-use Rattle.title_fold.specs.Chain.{last_of, names_of}
+use Rattle.bill_chain.specs.Chain.{last_of, names_of}
 use Rattle.bill_diary.specs.declared.bill_place.BillPlace.{BillPlace}
-use Rattle.bill_diary.specs.declared.bill_place.BillPlace.TheVariants.{Absent, Held, Parting, Gone}
+use Rattle.bill_diary.specs.Place.{chain_at}
 use Rattle.bill_diary.specs.Receiving.{continues}
-
--- the chain that is known at a place, followed by the entry that is parting, if one is
-abbrev pub own_chain : BillPlace → List ChainLink
-own_chain Absent = []
-own_chain (Held known since) = known
-own_chain (Parting known entry) = known ++ entry ∷ []
-own_chain (Gone known) = known
 
 -- the first place at which two chains have entries of different names, or one of them has none
 abbrev pub place_of_parting : List ChainLink → List ChainLink → ℕ
@@ -35,4 +28,4 @@ evidence_of own shown = record {
 
 -- what disputes a chain that doesn't continue the place
 abbrev pub dispute_of : BillPlace → List ChainLink → Option Evidence
-dispute_of place shown = if continues place shown then None else Some (evidence_of (own_chain place) shown)
+dispute_of place shown = if continues place shown then None else Some (evidence_of (chain_at place) shown)

@@ -1,4 +1,4 @@
--- The judgement of a chain with its manifest, by a diary: seven cases, of which the first that fits is given.
+-- The judgement of a chain with its manifest, by a diary: seven cases, of which the first that applies is given.
 use Rattle.std.specs.Prelude.{Bool, List, [], ◌∷◌, Option, Some, None, Ok, Err, option_map, if◌then◌else◌}
 use Rattle.ebl_base.specs.PlatformCode.{code_eq}
 use Rattle.ebl_base.specs.declared.chain.ChainLink.{ChainLink}
@@ -10,7 +10,7 @@ use Rattle.envelope_manifest.specs.declared.manifest.Manifest.{Manifest}
 use Rattle.party_roster.specs.RosterRecord.{RosterRecord, knows}
 use Rattle.title_fold.specs.Title.{possessor}
 use Rattle.title_fold.specs.Fold.{Folded}
-use Rattle.title_fold.specs.Chain.{last_of, title_after_chain}
+use Rattle.bill_chain.specs.Chain.{last_of, title_after_chain}
 use Rattle.bill_diary.specs.declared.record.Record.{Record}
 use Rattle.bill_diary.specs.History.{of_bill}
 use Rattle.bill_diary.specs.Place.{place_of}
@@ -84,3 +84,8 @@ judgement_of roster me bill records chain manifest =
     on_last (last_of chain) (λ last.
     on_receiver_here me (receiver_of chain) (λ receiver.
     judgement_here roster bill records last.name receiver chain manifest))
+
+-- the judgement of a chain of its last entry's bill
+abbrev pub judgement_by : RosterRecord → PlatformCode → List Record → List ChainLink → Manifest → Judgement
+judgement_by roster me records chain manifest =
+    on_last (last_of chain) (λ last. judgement_of roster me last.entry.bill records chain manifest)

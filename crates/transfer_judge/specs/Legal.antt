@@ -10,17 +10,18 @@ use Rattle.canonical_json.specs.Value.{Value}
 use Rattle.signed_envelope.specs.KeyRing.{Keys}
 use Rattle.signed_envelope.specs.SignedText.{IsSigned}
 use Rattle.envelope_manifest.specs.declared.manifest.Manifest.{Manifest}
+use Rattle.envelope_manifest.specs.Manifest.{IsManifest}
 use Rattle.party_roster.specs.RosterRecord.{RosterRecord, carrier, has_platform}
 use Rattle.title_fold.specs.Title.{possessor}
-use Rattle.title_fold.specs.Chain.{last_of}
+use Rattle.bill_chain.specs.Chain.{last_of}
 use Rattle.transfer_chain.specs.GoodChain.{IsGoodChain}
 use Rattle.bill_diary.specs.declared.record.Record.{Record}
 use Rattle.bill_diary.specs.declared.record.Record.TheVariants.{Signed, Acted, Attached, Parted, Settled, Regained, Begun, Stored, Taken, Declined}
 use Rattle.bill_diary.specs.declared.frame.Frame.{Frame}
-use Rattle.bill_diary.specs.History.{bill_of, newest_first, of_bill}
-use Rattle.bill_diary.specs.Known.{Came, last_begun}
+use Rattle.bill_diary.specs.History.{bill_of, records_of, newest_first, of_bill}
+use Rattle.bill_diary.specs.Known.{Received, last_begun}
 use Rattle.bill_diary.specs.Texts.{IsBodyOf}
-use Rattle.bill_diary.specs.Sound.{MaySign, MayAct, MayAttach, MayPart, IsParting, MayStore, MayDecline, IsNotAgain, AreFrames}
+use Rattle.bill_diary.specs.Sound.{MaySign, MayAct, MayAttach, MayPart, IsParting, MayStore, MayDecline, IsNotAgain, IsFrame, AreFrames}
 use Rattle.transfer_judge.specs.declared.judgement.Judgement.{Judgement}
 use Rattle.transfer_judge.specs.declared.judgement.Judgement.TheVariants.{Missing, Accept}
 use Rattle.transfer_judge.specs.Judgement.{judgement_of}
@@ -48,13 +49,13 @@ pub record PartsLegally (roster : RosterRecord) (keys : Keys) (me : PlatformCode
   pub manifest_signed : IsSignedBy keys me text
 
 -- a chain is received, now or once its documents are there
-abbrev pub IsWelcome : Judgement → Type 0
-IsWelcome Accept = Unit {0}
-IsWelcome (Missing checksums) = Unit {0}
-IsWelcome judgement = ⊥
+abbrev pub IsReceivable : Judgement → Type 0
+IsReceivable Accept = Unit {0}
+IsReceivable (Missing checksums) = Unit {0}
+IsReceivable judgement = ⊥
 
--- a body with a good chain of its document's bill, and a manifest by the last entry's platform that names both; the
--- judgement is to receive it
+-- a body with a good chain of its document's bill, and a well-formed manifest by the last entry's platform that names
+-- both; the judgement is to receive it
 pub record BeginsLegally (roster : RosterRecord) (keys : Keys) (me : PlatformCode) (records : List Record)
     (bill : Checksum) (chain : List ChainLink) (manifest : Manifest) (body : List ℕ) : Type 0 where
   pub body_is : IsBodyOf bill chain manifest body
@@ -62,14 +63,15 @@ pub record BeginsLegally (roster : RosterRecord) (keys : Keys) (me : PlatformCod
   pub last : ChainLink
   pub last_is : last_of chain ≡ Some last
   pub manifest_signed : IsSignedBy keys last.entry.platform body_is.parts.manifest
+  pub manifest_form : IsManifest manifest
   pub names_bill : manifest.bill ≡ bill
   pub names_last : manifest.last ≡ last.name
-  pub welcome : IsWelcome (judgement_of roster me bill records chain manifest)
+  pub welcome : IsReceivable (judgement_of roster me bill records chain manifest)
 
 -- the last Begun of this entry is received
 pub record TakesLegally (roster : RosterRecord) (me : PlatformCode) (records h : List Record) (bill entry : Checksum)
     : Type 0 where
-  pub begun : Came
+  pub begun : Received
   pub begun_is : last_begun entry h ≡ Some begun
   pub accepted : judgement_of roster me bill records begun.chain begun.manifest ≡ Accept
 
@@ -98,6 +100,19 @@ AreLegal roster keys me [] = Unit {0}
 AreLegal roster keys me (r ∷ records) =
     FollowsLegally roster keys me records (of_bill (bill_of r) records) r × IsNotAgain records r
     × AreLegal roster keys me records
+
+-- some records may follow those of a diary, one after the other
+abbrev pub FollowEachLegally : RosterRecord → Keys → PlatformCode → List Record → List Record → Type 0
+FollowEachLegally roster keys me records [] = Unit {0}
+FollowEachLegally roster keys me records (r ∷ rs) =
+    FollowsLegally roster keys me records (of_bill (bill_of r) records) r × IsNotAgain records r
+    × FollowEachLegally roster keys me (r ∷ records) rs
+
+-- a frame may follow a legal diary
+pub record FollowsDiaryLegally (roster : RosterRecord) (keys : Keys) (me : PlatformCode) (diary : List Frame)
+    (frame : Frame) : Type 0 where
+  pub is_frame : IsFrame frame
+  pub records : FollowEachLegally roster keys me (newest_first diary) (records_of frame)
 
 -- a diary is legal for a platform
 pub record IsLegal (roster : RosterRecord) (keys : Keys) (me : PlatformCode) (diary : List Frame) : Type 0 where

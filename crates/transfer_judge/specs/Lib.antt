@@ -1,3 +1,4 @@
 pub mod Dispute
 pub mod Judgement
 pub mod Legal
+pub mod Sealing

@@ -1,6 +1,6 @@
 //! Disputes: where the chain that is known here and the one that was shown part.
 ghost use Rattle.std.specs.Prelude.{◌≡◌, ◌∷◌, [], ◌++◌, IfOk, Some, None, if◌then◌else◌, option_copied, option_map};
-ghost use Rattle.title_fold.specs.Chain.{goes_beyond};
+ghost use Rattle.bill_chain.specs.Chain.{goes_beyond};
 ghost use Rattle.transfer_judge.specs.Dispute.{dispute_of, evidence_of, place_of_parting, text_at};
 
 use bill_diary::BillPlace;

@@ -2,7 +2,7 @@
 use ebl_base::{ChecksumList, Code, Copied, Evidence, NoMemory, Reason};
 use std::alloc::Global;
 
-/// What a platform makes of a chain that is shown to it: the first that fits.
+/// What a platform makes of a chain that is shown to it: the first that applies.
 #[derive(Debug, Drop)]
 pub enum Judgement {
     /// The chain moves possession to another platform.

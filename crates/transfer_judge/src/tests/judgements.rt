@@ -1,8 +1,9 @@
-//! The first of the seven judgements that fits, by what was written down before.
+//! The first of the seven judgements that applies, by what was written down before.
 use super::diaries::{Step, diary, document_name, manifest};
 use super::making::{checked, digit, document, roster, turn};
 use crate::{Judgement, judge};
-use ebl_base::{Checksum, ChecksumList, Code, PlatformCode, Reason};
+use document_checksum::checksum;
+use ebl_base::{Checksum, ChecksumList, Code, Copied, PlatformCode, Reason};
 use std::alloc::Global;
 use std::process::Abort;
 use std::test::Fail;
@@ -68,21 +69,26 @@ fn judged(
 /// What is written down, the chain that is shown, the documents that its manifest lists, and what is made of it.
 type Row = (&'static [Step], u16, u16, Shown);
 
-fn see<R: Abort>(rt: &R, alloc: Global, me: PlatformCode, rows: &[Row]) -> Result<(), Fail> {
+fn assert_rows<R: Abort>(
+    rt: &R,
+    alloc: Global,
+    me: PlatformCode,
+    rows: &[Row],
+) -> Result<(), Fail> {
     for (steps, digits, documents, want) in rows {
         let judgement = judged(alloc, me, steps, *digits, *documents)?;
-        let seen = shown(alloc, &judgement)?;
+        let seen = shown(alloc, &judgement.copy(alloc)?)?;
         assert_eq!(rt; seen, *want, "{digits} with {documents} after {steps:?}");
     }
     Ok(())
 }
 
 fn at_alph<R: Abort>(rt: &R, alloc: Global, rows: &[Row]) -> Result<(), Fail> {
-    see(rt, alloc, turn(0)?, rows)
+    assert_rows(rt, alloc, turn(0)?, rows)
 }
 
 fn at_beta<R: Abort>(rt: &R, alloc: Global, rows: &[Row]) -> Result<(), Fail> {
-    see(rt, alloc, turn(1)?, rows)
+    assert_rows(rt, alloc, turn(1)?, rows)
 }
 
 // At ALPH: the bill began there, was sent to BETA, came back, and was sent again.
@@ -365,4 +371,16 @@ const ACCEPT: [Row; 5] = [
 #[test]
 fn accepted(rt: HostRuntime) -> Result<(), Fail> {
     at_beta(&rt, rt.alloc(), &ACCEPT)
+}
+
+// The bill is the chain's, whatever bill the manifest names: held at ALPH, it is disputed.
+#[test]
+fn manifest_of_another_bill(rt: HostRuntime) -> Result<(), Fail> {
+    let alloc = rt.alloc();
+    let diary = diary(alloc, &SIGNED)?;
+    let chain = checked(alloc, 12)?;
+    let manifest = manifest(alloc, checksum(b"another"), 12, 0)?;
+    let judgement = judge(alloc, &diary, &roster(alloc)?, turn(0)?, &chain, &manifest)?;
+    assert_eq!(rt; shown(alloc, &judgement)?, (4, 0, 1));
+    Ok(())
 }

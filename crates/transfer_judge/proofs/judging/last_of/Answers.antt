@@ -1,5 +1,5 @@
 use Rattle.std.proofs.Common.{arith}
-use Rattle.title_fold.proofs.ChainLemmas.{last_of-get}
+use Rattle.bill_chain.proofs.ChainLemmas.{last_of-get}
 use Rattle.transfer_judge.proofs.judging.last_of.Goals as goal
 
 pub returns : goal.returns
