@@ -1,20 +1,20 @@
--- What stands behind a record in another platform's history.
+-- What corroborates a record in another platform's history.
 use Rattle.std.proofs.Common.{◌≡◌, true, List, [], ◌∷◌, ◌++◌, refl, ap, subst, ◌∙◌, inl, inr}
 use Rattle.std.specs.Prelude.{◌⊎◌, Option, Some, option_map, option_and_then, IfSome}
 use Rattle.ebl_base.specs.Checksum.{checksum_eq}
 use Rattle.ebl_base.specs.declared.chain.ChainLink.{ChainLink}
 use Rattle.ebl_base.specs.declared.checksum.Checksum.{Checksum}
 use Rattle.ebl_base.specs.declared.platform_code.PlatformCode.{PlatformCode}
-use Rattle.title_fold.specs.Chain.{destination}
+use Rattle.bill_chain.specs.Chain.{destination}
 use Rattle.bill_diary.specs.declared.record.Record.{Record}
 use Rattle.bill_diary.specs.declared.record.Record.TheVariants.{Parted, Settled, Regained, Begun, Taken}
-use Rattle.bill_diary.specs.Known.{Came, settled_chain}
+use Rattle.bill_diary.specs.Known.{Received, settled_chain}
 use Rattle.bill_diary.specs.Place.{taken_chains, is_settled, is_regained}
 use Rattle.bill_diary.specs.Receiving.{is_taken, is_declined}
 use Rattle.bill_diary.specs.Sound.{MayPart, IsParting, IsSoundHistory}
-use Rattle.closed_family.specs.Chains.{IsAmong, AreAmong, AreNamed}
+use Rattle.closed_family.specs.Chains.{IsAmong, AreAmong, NamesDetermineLinks}
 use Rattle.closed_family.specs.Histories.{PartedOn, links_of, is_parted}
-use Rattle.closed_family.specs.Closed.{Histories, AreParted, destination_of, IsBacked}
+use Rattle.closed_family.specs.Closed.{Histories, AreParted, destination_of, IsCorroborated}
 use Rattle.closed_family.proofs.Names.{checksum_eq-same, or_cases}
 use Rattle.closed_family.proofs.Linked.{among_rest}
 use Rattle.closed_family.proofs.Standing.{SomeParted, stands_held, stands_parting}
@@ -23,7 +23,7 @@ use Rattle.closed_family.proofs.History.{stands_so}
 
 -- each entry of a taken chain was parted
 pub chain_parted : (at : Histories) (me : PlatformCode) (h : List Record)
-    → IsSoundHistory me h → IsBacked at h
+    → IsSoundHistory me h → IsCorroborated at h
     → (c : List ChainLink) → IsAmong c (taken_chains h) → AreParted at c
 chain_parted at me [] sound backed c among = absurd among
 chain_parted at me (Taken bill entry ∷ h) sound backed c among =
@@ -34,7 +34,7 @@ chain_parted at me (Taken bill entry ∷ h) sound backed c among =
         → (IsAmong c (taken_chains h) → AreParted at c) → AreParted at c
     on_first (inl same) further =
         subst (AreParted at) same
-        (subst (λ (o : Option Came). IfSome (option_map (λ (came : Came). came.chain) o) (AreParted at))
+        (subst (λ (o : Option Received). IfSome (option_map (λ (came : Received). came.chain) o) (AreParted at))
         sound.0.begun_is backed.0)
     on_first (inr old) further = further old
 chain_parted at me (Settled bill entry ∷ h) sound backed c among = chain_parted at me h sound.1 backed.1 c among
@@ -68,7 +68,7 @@ more_parted name Parts More IsSo more w = record {
 -- what is said of the destination of an entry that is parting
 witness_here : (links : List ChainLink) (me : PlatformCode) (h : List Record) (entry : Checksum)
     (IsSo : PlatformCode → Type 0)
-    → AreNamed links → IsSoundHistory me h → AreAmong (links_of h) links
+    → NamesDetermineLinks links → IsSoundHistory me h → AreAmong (links_of h) links
     → IsParting h entry
     → IfSome (destination_of entry h) IsSo
     → HasWitness entry (λ (J : List ChainLink) (e : ChainLink). PartedOn J e h) IsSo
@@ -92,7 +92,7 @@ witness_here links me h entry IsSo named sound among may so =
 
 -- a settled entry was taken where it moves to
 pub settled_was_taken : (links : List ChainLink) (at : Histories) (me : PlatformCode) (h : List Record)
-    → AreNamed links → IsSoundHistory me h → AreAmong (links_of h) links → IsBacked at h
+    → NamesDetermineLinks links → IsSoundHistory me h → AreAmong (links_of h) links → IsCorroborated at h
     → (n : Checksum) → is_settled n h ≡ true
     → HasWitness n (λ (J : List ChainLink) (e : ChainLink). PartedOn J e h)
     (λ (to : PlatformCode). is_taken n (at to) ≡ true)
@@ -129,7 +129,7 @@ settled_was_taken links at me (r ∷ h) named sound among backed n s =
 
 -- a regained entry was declined where it moves to
 pub regained_was_declined : (links : List ChainLink) (at : Histories) (me : PlatformCode) (h : List Record)
-    → AreNamed links → IsSoundHistory me h → AreAmong (links_of h) links → IsBacked at h
+    → NamesDetermineLinks links → IsSoundHistory me h → AreAmong (links_of h) links → IsCorroborated at h
     → (n : Checksum) → is_regained n h ≡ true
     → HasWitness n (λ (J : List ChainLink) (e : ChainLink). PartedOn J e h)
     (λ (to : PlatformCode). is_declined n (at to) ≡ true)
@@ -166,7 +166,7 @@ regained_was_declined links at me (r ∷ h) named sound among backed n s =
 
 -- an entry of this name that was parted was so on a known chain
 pub parted_on : (links : List ChainLink) (me : PlatformCode) (h : List Record)
-    → AreNamed links → IsSoundHistory me h → AreAmong (links_of h) links
+    → NamesDetermineLinks links → IsSoundHistory me h → AreAmong (links_of h) links
     → (n : Checksum) → is_parted n h ≡ true
     → SomeParted n (λ (J : List ChainLink) (e : ChainLink). PartedOn J e h)
 parted_on links me [] named sound among n p = cc

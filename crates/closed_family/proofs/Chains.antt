@@ -3,7 +3,7 @@ use Rattle.std.proofs.Common.{◌≡◌, ◌+◌, ◌≤◌, List, [], ◌∷◌
 use Rattle.std.specs.Prelude.{◌⊎◌, Some, option_map}
 use Rattle.std.proofs.lemmas.List.{append_assoc}
 use Rattle.ebl_base.specs.declared.chain.ChainLink.{ChainLink}
-use Rattle.title_fold.specs.Chain.{last_of, last_name}
+use Rattle.bill_chain.specs.Chain.{last_of, last_name}
 use Rattle.closed_family.specs.Chains.{IsPrefix}
 
 -- ---- lists from their end

@@ -1,4 +1,4 @@
--- A sound family lacks nothing exactly where it is closed.
+-- A sound family lacks nothing if and only if it is closed.
 use Rattle.std.proofs.Common.{◌≡◌, ℕ, zero, suc, Bool, true, false, cond, List, [], ◌∷◌, ◌++◌, refl, sym, ap, subst, ◌∙◌, inl, inr}
 use Rattle.std.specs.Prelude.{◌⊎◌, Option, Some, None, slice_get, option_and_then, IfSome}
 use Rattle.std.specs.List.{flat_map}
@@ -7,7 +7,7 @@ use Rattle.ebl_base.specs.Checksum.{checksum_eq}
 use Rattle.ebl_base.specs.declared.checksum.Checksum.{Checksum}
 use Rattle.ebl_base.specs.declared.chain.ChainLink.{ChainLink}
 use Rattle.ebl_base.specs.declared.platform_code.PlatformCode.{PlatformCode}
-use Rattle.title_fold.specs.Chain.{last_of, destination}
+use Rattle.bill_chain.specs.Chain.{last_of, destination}
 use Rattle.bill_diary.specs.declared.record.Record.{Record}
 use Rattle.bill_diary.specs.declared.record.Record.TheVariants.{Settled, Regained, Taken}
 use Rattle.bill_diary.specs.declared.frame.Frame.{Frame}
@@ -20,7 +20,7 @@ use Rattle.closed_family.specs.declared.verdict.Lack.{Lack}
 use Rattle.closed_family.specs.declared.verdict.Lack.TheVariants as lacks
 use Rattle.closed_family.specs.Chains.{IsAmong}
 use Rattle.closed_family.specs.Histories.{is_parted}
-use Rattle.closed_family.specs.Closed.{Histories, AreParted, IsBacked}
+use Rattle.closed_family.specs.Closed.{Histories, AreParted, IsCorroborated}
 use Rattle.closed_family.specs.Family.{shard_of, histories_of, IsSoundFamily, IsClosedFamily}
 use Rattle.closed_family.specs.Lacking.{first_of, unless_it_stands, unparted, unparted_of, unanswered, unanswered_of, lacking_of, lacking_in, lacking}
 use Rattle.closed_family.proofs.Names.{checksum_eq-same, checksum_eq-itself}
@@ -121,7 +121,7 @@ answered_complete stands what (Some chain) h = on_parts (destination chain) (las
 abbrev HasAll : Histories → List Record → Record → Type 0
 HasAll at h r = lacking_of at h r ≡ []
 
-backed_more : (at : Histories) (h : List Record) (r : Record) → HasAll at h r → IsBacked at h → IsBacked at (r ∷ h)
+backed_more : (at : Histories) (h : List Record) (r : Record) → HasAll at h r → IsCorroborated at h → IsCorroborated at (r ∷ h)
 backed_more at h (Taken bill entry) all backed = (taken_backed at (taken_chain entry h) all, backed)
 backed_more at h (Settled bill entry) all backed =
     (answered_backed (λ (to : PlatformCode). is_taken entry (at to)) lacks.Taken (settled_chain entry h) all, backed)
@@ -132,7 +132,7 @@ backed_more at h (Regained bill entry) all backed = (
 )
 backed_more at h r all backed = backed
 
-backed_first : (at : Histories) (h : List Record) (r : Record) → IsBacked at (r ∷ h) → HasAll at h r
+backed_first : (at : Histories) (h : List Record) (r : Record) → IsCorroborated at (r ∷ h) → HasAll at h r
 backed_first at h (Taken bill entry) backed = taken_complete at (taken_chain entry h) backed.0
 backed_first at h (Settled bill entry) backed =
     answered_complete (λ (to : PlatformCode). is_taken entry (at to)) lacks.Taken (settled_chain entry h) backed.0
@@ -140,7 +140,7 @@ backed_first at h (Regained bill entry) backed =
     answered_complete (λ (to : PlatformCode). is_declined entry (at to)) lacks.Declined (settled_chain entry h) backed.0
 backed_first at h r backed = refl
 
-backed_later : (at : Histories) (h : List Record) (r : Record) → IsBacked at (r ∷ h) → IsBacked at h
+backed_later : (at : Histories) (h : List Record) (r : Record) → IsCorroborated at (r ∷ h) → IsCorroborated at h
 backed_later at h (Taken bill entry) backed = backed.1
 backed_later at h (Settled bill entry) backed = backed.1
 backed_later at h (Regained bill entry) backed = backed.1
@@ -148,7 +148,7 @@ backed_later at h r backed = backed
 
 -- where a diary lacks nothing, each bill's history has what it needs
 history_backed : (family : List Member) (bill : Checksum) (records : List Record)
-    → lacking_in family records ≡ [] → IsBacked (histories_of bill family) (of_bill bill records)
+    → lacking_in family records ≡ [] → IsCorroborated (histories_of bill family) (of_bill bill records)
 history_backed family bill [] h = tt
 history_backed family bill (r ∷ before) h =
     on_test (checksum_eq (bill_of r) bill) refl (history_backed family bill before both.0)
@@ -159,8 +159,8 @@ history_backed family bill (r ∷ before) h =
         (lacking_of (histories_of (bill_of r) family) (of_bill (bill_of r) before) r) h
 
     on_test : (b : Bool) → checksum_eq (bill_of r) bill ≡ b
-        → IsBacked (histories_of bill family) (of_bill bill before)
-        → IsBacked (histories_of bill family) (cond b (r ∷ of_bill bill before) (of_bill bill before))
+        → IsCorroborated (histories_of bill family) (of_bill bill before)
+        → IsCorroborated (histories_of bill family) (cond b (r ∷ of_bill bill before) (of_bill bill before))
     on_test true is backed =
         let same = checksum_eq-same (bill_of r) bill is in
         let all = subst (λ (b : Checksum). lacking_of (histories_of b family) (of_bill b before) r ≡ []) same both.1 in
@@ -169,7 +169,7 @@ history_backed family bill (r ∷ before) h =
 
 -- where the history of each of its records has what it needs, a diary lacks nothing
 diary_complete : (family : List Member) (records : List Record)
-    → ((r : Record) → IsAmong r records → IsBacked (histories_of (bill_of r) family) (of_bill (bill_of r) records))
+    → ((r : Record) → IsAmong r records → IsCorroborated (histories_of (bill_of r) family) (of_bill (bill_of r) records))
     → lacking_in family records ≡ []
 diary_complete family [] backed = refl
 diary_complete family (r ∷ before) backed =
@@ -177,16 +177,16 @@ diary_complete family (r ∷ before) backed =
     (diary_complete family before (λ x among. later x (checksum_eq (bill_of r) (bill_of x)) (backed x (inr among))))
     (backed_first (histories_of (bill_of r) family) (of_bill (bill_of r) before) r first)
   where
-    first : IsBacked (histories_of (bill_of r) family) (r ∷ of_bill (bill_of r) before)
+    first : IsCorroborated (histories_of (bill_of r) family) (r ∷ of_bill (bill_of r) before)
     first =
-        subst (λ (b : Bool). IsBacked (histories_of (bill_of r) family)
+        subst (λ (b : Bool). IsCorroborated (histories_of (bill_of r) family)
         (cond b (r ∷ of_bill (bill_of r) before) (of_bill (bill_of r) before)))
         (checksum_eq-itself (bill_of r)) (backed r (inl refl))
 
     later : (x : Record) (b : Bool)
-        → IsBacked (histories_of (bill_of x) family)
+        → IsCorroborated (histories_of (bill_of x) family)
         (cond b (r ∷ of_bill (bill_of x) before) (of_bill (bill_of x) before))
-        → IsBacked (histories_of (bill_of x) family) (of_bill (bill_of x) before)
+        → IsCorroborated (histories_of (bill_of x) family) (of_bill (bill_of x) before)
     later x true h = backed_later (histories_of (bill_of x) family) (of_bill (bill_of x) before) r h
     later x false h = h
 
@@ -219,7 +219,7 @@ complete_is_closed family none bill m listed = on_got (slice_get m.diaries (shar
         family m none listed
 
     on_got : (o : Option (List Frame)) → slice_get m.diaries (shard_of bill) ≡ o
-        → IsBacked (histories_of bill family) (option_map_or (history bill) o [])
+        → IsCorroborated (histories_of bill family) (option_map_or (history bill) o [])
     on_got None is = tt
     on_got (Some d) is =
         history_backed family bill (newest_first d)
@@ -236,13 +236,13 @@ closed_is_complete family sound closed =
   where
     of_diary : (m : Member) → IsAmong m family → (d : List Frame) → IsAmong d m.diaries
         → (r : Record) → IsAmong r (newest_first d)
-        → IsBacked (histories_of (bill_of r) family) (of_bill (bill_of r) (newest_first d))
+        → IsCorroborated (histories_of (bill_of r) family) (of_bill (bill_of r) (newest_first d))
     of_diary m listed d has r among =
         let (i, is) = place_among m.diaries d has in
         let shard : shard_of (bill_of r) ≡ i = sound.in_shard m listed i d is r among in
         let there : slice_get m.diaries (shard_of (bill_of r)) ≡ Some d
         = ap (λ (k : ℕ). slice_get m.diaries k) shard ∙ is in
-        subst (λ (o : Option (List Frame)). IsBacked (histories_of (bill_of r) family)
+        subst (λ (o : Option (List Frame)). IsCorroborated (histories_of (bill_of r) family)
         (option_map_or (history (bill_of r)) o []))
         there (closed (bill_of r) m listed)
 

@@ -1,4 +1,4 @@
--- The end of a bill's line: the one place where the bill is held or parting.
+-- The end of a bill's line: there it is held or parting by the whole line, and nowhere else is it held.
 use Rattle.std.proofs.Common.{◌≡◌, ◌<◌, Bool, true, false, ◌||◌, ◌&&◌, List, [], ◌∷◌, ◌++◌, length, refl, sym, ap, subst, ◌∙◌, inl, inr, arith}
 use Rattle.std.specs.Prelude.{◌⊎◌, Some, nat_lt}
 use Rattle.std.specs.List.{list_any, starts_with}
@@ -8,7 +8,7 @@ use Rattle.ebl_base.specs.declared.chain.ChainLink.{ChainLink}
 use Rattle.ebl_base.specs.declared.checksum.Checksum.{Checksum}
 use Rattle.ebl_base.specs.declared.platform_code.PlatformCode.{PlatformCode}
 use Rattle.ebl_base.specs.declared.transaction.Transaction.{Transaction}
-use Rattle.title_fold.specs.Chain.{destination, transactions_of, has_entry, names_of, goes_beyond}
+use Rattle.bill_chain.specs.Chain.{destination, transactions_of, has_entry, names_of, goes_beyond}
 use Rattle.bill_diary.specs.declared.bill_place.BillPlace.{BillPlace}
 use Rattle.bill_diary.specs.declared.bill_place.BillPlace.TheVariants.{Absent, Held, Parting, Gone}
 use Rattle.bill_diary.specs.Place.{place_of, may_act_at, parting, since, taken_chains, is_settled, is_regained}
@@ -16,16 +16,16 @@ use Rattle.bill_diary.specs.Receiving.{is_taken, is_declined, continues}
 use Rattle.closed_family.specs.Chains.{IsAmong, IsPrefix}
 use Rattle.closed_family.specs.Histories.{PartedOn, is_signed}
 use Rattle.closed_family.specs.Closed.{Histories}
-use Rattle.closed_family.specs.Safe.{IsAccepted, IsEnd, StandsWith, IsHeld, front_of, transactions_at, FoldsOn, IsSafe}
+use Rattle.closed_family.specs.Safe.{IsAccepted, IsEnd, StandsWith, IsHeld, front_of, transactions_at, TitleIsOn, IsSafe}
 use Rattle.closed_family.proofs.Names.{not_both, or_left, or_right, false_unless, checksum_eq-itself}
 use Rattle.closed_family.proofs.Chains.{not_empty, last_name-push, prefix_itself, prefix_both, prefix_length, push_length, prefix_trans, empty_prefix, push_prefix, GoesOn, prefix_or_more}
 use Rattle.closed_family.proofs.Linked.{linked_same}
 use Rattle.closed_family.proofs.Places.{place_absent, place_held, place_parting, place_gone, IsOpen, parting_is_open}
 use Rattle.closed_family.proofs.Standing.{IsOn, CameBy, Fate, was_regained, went_on, is_parting, Stands, StandsBy, StandsHeld, StandsParting, StandsGone, stands_held, gone_is_left, attempts}
 use Rattle.closed_family.proofs.Parted.{one_front}
-use Rattle.closed_family.proofs.History.{one_regained, taken_by_chain, chain_was_taken, taken_not_declined, taken_once}
+use Rattle.closed_family.proofs.History.{one_regained, taken_by_chain, chain_was_taken}
 use Rattle.closed_family.proofs.Backed.{regained_was_declined}
-use Rattle.closed_family.proofs.Line.{AreClosed, IsGrounded, stands_at, received_at, left_at, came_to_one, Down, grounded_down, front_accepted, known_accepted, accepted_not_regained, next_down, one_line}
+use Rattle.closed_family.proofs.Line.{AreClosed, IsGrounded, stands_at, received_at, left_at, came_to_one, Down, grounded_down, front_accepted, known_accepted, accepted_not_regained, next_down, no_fork}
 
 -- ---- places
 
@@ -53,7 +53,7 @@ front_of-push (u ∷ []) t = refl
 front_of-push (u ∷ v ∷ ts) t = ap (λ (xs : List Transaction). u ∷ xs) (front_of-push (v ∷ ts) t)
 
 -- a chain of which another is a longer prefix goes on beyond it
-starts_so : (a rest : List ChainLink) → starts_with checksum_eq (names_of (a ++ rest)) (names_of a) ≡ true
+pub starts_so : (a rest : List ChainLink) → starts_with checksum_eq (names_of (a ++ rest)) (names_of a) ≡ true
 starts_so [] rest = refl
 starts_so (x ∷ xs) rest =
     ap (λ (b : Bool). b && starts_with checksum_eq (names_of (xs ++ rest)) (names_of xs)) (checksum_eq-itself x.name)
@@ -156,26 +156,26 @@ module _ (links : List ChainLink) (at : Histories) (F : AreClosed links at) wher
   -- ---- the title at the end
 
   title_held : (L : List ChainLink) (p : PlatformCode) → StandsBy links p (at p) L → StandsHeld p (at p) L
-      → FoldsOn p (transactions_at (place_of (at p)))
+      → TitleIsOn p (transactions_at (place_of (at p)))
   title_held L p b held =
-      subst (λ (x : BillPlace). FoldsOn p (transactions_at x))
+      subst (λ (x : BillPlace). TitleIsOn p (transactions_at x))
       (sym (place_held (at p) L b.known_is held.none held.stays))
       (record { title = held.titled.title; folds = held.titled.folds; on = held.titled.on })
 
   title_parting : (L : List ChainLink) (p : PlatformCode) → StandsBy links p (at p) L → StandsParting p (at p) L
-      → FoldsOn p (transactions_at (place_of (at p)))
+      → TitleIsOn p (transactions_at (place_of (at p)))
   title_parting L p b parts =
       let front : since (at p) ≡ front_of parts.entry.entry.transactions
       = sym (front_of-push (since (at p)) parts.last) ∙ ap front_of (sym parts.transactions) in
       let titled = subst (λ (ts : List Transaction). IsOn p (transactions_of L ++ ts)) front parts.titled in
-      subst (λ (x : BillPlace). FoldsOn p (transactions_at x))
+      subst (λ (x : BillPlace). TitleIsOn p (transactions_at x))
       (sym (place_parting (at p) L parts.entry b.known_is parts.one))
       (record { title = titled.title; folds = titled.folds; on = titled.on })
 
-  title_at_end : (L : List ChainLink) (p : PlatformCode) → AtEnd L p → FoldsOn p (transactions_at (place_of (at p)))
+  title_at_end : (L : List ChainLink) (p : PlatformCode) → AtEnd L p → TitleIsOn p (transactions_at (place_of (at p)))
   title_at_end L p end = on_stand end.held_or_parting
     where
-      on_stand : StandsHeld p (at p) L ⊎ StandsParting p (at p) L → FoldsOn p (transactions_at (place_of (at p)))
+      on_stand : StandsHeld p (at p) L ⊎ StandsParting p (at p) L → TitleIsOn p (transactions_at (place_of (at p)))
       on_stand (inl held) = title_held L p end.by_line held
       on_stand (inr parts) = title_parting L p end.by_line parts
 
@@ -210,7 +210,7 @@ module _ (links : List ChainLink) (at : Histories) (F : AreClosed links at) wher
       let there = came_to L top.accepted in
       let end = at_end L there.place top there.came in
       record {
-        one_line = one_line links at F;
+        no_fork = no_fork links at F;
         line = L;
         is_line = record {
           accepted = top.accepted;
@@ -222,9 +222,6 @@ module _ (links : List ChainLink) (at : Histories) (F : AreClosed links at) wher
         held_there_alone = held_at_end L there.place top there.came;
         acts_there_alone = λ p acts. held_at_end L there.place top there.came p (acting_is_held (place_of (at p)) acts);
         title_there = title_at_end L there.place end;
-        taken_on_one = taken_on_one;
-        taken_once = λ n p. taken_once links p (at p) (F.sound p) (F.among p) n;
-        not_both = λ n p t. taken_not_declined links p (at p) (F.sound p) (F.among p) n t;
       }
 
   -- ---- a grounded chain continues the place
@@ -413,7 +410,7 @@ module _ (links : List ChainLink) (at : Histories) (F : AreClosed links at) wher
           (λ c among. absurd (subst (IsAmong c) u.none_taken among))
       on_stand t (inr s) =
           let accepted = known_accepted links at F q s.0 s.1 in
-          by_line t s.0 s.1 accepted (one_line links at F s.0 t.line accepted t.top.accepted)
+          by_line t s.0 s.1 accepted (no_fork links at F s.0 t.line accepted t.top.accepted)
 
   pub record HasTop : Type 0 where
     pub line : List ChainLink

@@ -10,7 +10,7 @@ use Rattle.title_fold.specs.declared.title.Title.{Title}
 use Rattle.title_fold.specs.declared.title.Title.TheVariants.{Ended}
 use Rattle.title_fold.specs.Title.{possessor}
 use Rattle.title_fold.specs.Fold.{Folded}
-use Rattle.title_fold.specs.Chain.{transactions_of}
+use Rattle.bill_chain.specs.Chain.{transactions_of}
 use Rattle.bill_diary.specs.declared.record.Record.{Record}
 use Rattle.bill_diary.specs.declared.bill_place.BillPlace.TheVariants.{Held}
 use Rattle.bill_diary.specs.Place.{place_of, may_act_at, may_act_by, is_ended, since}

@@ -13,7 +13,7 @@ use Rattle.signed_envelope.specs.declared.compact.Parts.{Parts}
 use Rattle.signed_envelope.specs.Compact.{IsCompact}
 use Rattle.signed_envelope.proofs.Readings.{same_parts}
 use Rattle.canonical_json.specs.Reading.{Reads}
-use Rattle.canonical_json.proofs.Refusals.{one_value}
+use Rattle.canonical_json.proofs.Parts.{Reads_once}
 use Rattle.chain_entry.specs.Reading.{entry_of}
 use Rattle.bill_diary.specs.declared.record.Record.{Record}
 use Rattle.bill_diary.specs.declared.record.Record.TheVariants.{Signed}
@@ -24,11 +24,11 @@ use Rattle.bill_diary.specs.Texts.{LinkIsItsText}
 use Rattle.bill_diary.specs.Sound.{IsSoundHistory}
 use Rattle.bill_diary.proofs.HistoryLemmas.{history_of_sound}
 use Rattle.closed_family.specs.declared.family.Member.{Member}
-use Rattle.closed_family.specs.Chains.{IsAmong, AreAmong, AreNamed}
+use Rattle.closed_family.specs.Chains.{IsAmong, AreAmong, NamesDetermineLinks}
 use Rattle.closed_family.specs.Histories.{is_signed, links_of}
-use Rattle.closed_family.specs.Closed.{IsBacked}
+use Rattle.closed_family.specs.Closed.{IsCorroborated}
 use Rattle.closed_family.specs.Safe.{IsSafe}
-use Rattle.closed_family.specs.Family.{shard_of, history_in, histories_of, IsSignedIn, SignsDocument, StandsIn, IsTextIn, HasDistinctNames, IsSoundFamily, IsClosedFamily, IsSafeFamily}
+use Rattle.closed_family.specs.Family.{shard_of, history_in, histories_of, IsSignedIn, SignsDocument, StandsIn, IsTextIn, HasDistinctNames, IsSoundFamily, IsClosedFamily}
 use Rattle.closed_family.proofs.Records.{among_more, among_before, among_either, all_among, of_bill-among, link_stands, signed_by}
 use Rattle.closed_family.proofs.Line.{AreClosed}
 use Rattle.closed_family.proofs.End.{has_top, safe_under}
@@ -147,26 +147,26 @@ link_among bill (n ∷ ms) m (inr listed) link h =
 -- ---- names
 
 -- links of one text have one entry
-one_entry : (a b : ChainLink) → LinkIsItsText a → LinkIsItsText b → a.text.0 ≡ b.text.0 → a.entry ≡ b.entry
+pub one_entry : (a b : ChainLink) → LinkIsItsText a → LinkIsItsText b → a.text.0 ≡ b.text.0 → a.entry ≡ b.entry
 one_entry a b ra rb texts =
     let parts : rb.has_payload.parts ≡ ra.has_payload.parts
     = same_parts 16384 a.text.0 rb.has_payload.parts ra.has_payload.parts
     (subst (λ (t : List ℕ). IsCompact 16384 t rb.has_payload.parts) (sym texts) rb.has_payload.compact)
     ra.has_payload.compact in
     let payloads : ra.payload ≡ rb.payload
-    = one_value ra.has_payload.parts.payload ra.payload rb.payload ra.has_payload.reads
+    = Reads_once ra.has_payload.parts.payload ra.payload rb.payload ra.has_payload.reads
     (subst (λ (p : Parts). Reads p.payload rb.payload) parts rb.has_payload.reads) in
     let both = sym ra.reads_as ∙ ap entry_of payloads ∙ rb.reads_as in
     cc both
 
 -- links of one text and one name are one
-one_link : (a b : ChainLink) → a.text.0 ≡ b.text.0 → a.name ≡ b.name → a.entry ≡ b.entry → a ≡ b
+pub one_link : (a b : ChainLink) → a.text.0 ≡ b.text.0 → a.name ≡ b.name → a.entry ≡ b.entry → a ≡ b
 one_link a b texts names entries =
     let same_text : a.text ≡ b.text = λ i. record { 0 = texts i } in
     λ i. record { text = same_text i; name = names i; entry = entries i }
 
 module _ (family : List Member) (F : IsSoundFamily family) (D : HasDistinctNames family) (bill : Checksum) where
-  sound_in : (m : Member) → IsAmong m family → IsSoundHistory m.platform (history_in bill m)
+  pub sound_in : (m : Member) → IsAmong m family → IsSoundHistory m.platform (history_in bill m)
   sound_in m listed = on_diary (in_diary bill m)
     where
       on_diary : (history_in bill m ≡ []) ⊎ ((d : List Frame) × IsInDiary bill m d)
@@ -177,11 +177,11 @@ module _ (family : List Member) (F : IsSoundFamily family) (D : HasDistinctNames
           (history_of_sound m.platform d bill (F.sound m listed d i.has_diary))
 
   -- a link with what is known of it
-  record IsKnown (link : ChainLink) : Type 0 where
-    text : IsTextIn family link.text.0
-    its_text : LinkIsItsText link
+  pub record IsKnown (link : ChainLink) : Type 0 where
+    pub text : IsTextIn family link.text.0
+    pub its_text : LinkIsItsText link
 
-  known_link : (link : ChainLink) → IsAmong link (links_in bill family) → IsKnown link
+  pub known_link : (link : ChainLink) → IsAmong link (links_in bill family) → IsKnown link
   known_link link among =
       let from = link_from bill family link among in
       let m = from.0 in
@@ -193,7 +193,7 @@ module _ (family : List Member) (F : IsSoundFamily family) (D : HasDistinctNames
       }
 
   -- links that have one name are one, since the names of the texts are distinct
-  pub links_named : AreNamed (links_in bill family)
+  pub links_named : NamesDetermineLinks (links_in bill family)
   links_named = record { same = same }
     where
       same : (a b : ChainLink) → IsAmong a (links_in bill family) → IsAmong b (links_in bill family) → a.name ≡ b.name
@@ -229,14 +229,14 @@ module _ (family : List Member) (F : IsSoundFamily family) (D : HasDistinctNames
           (λ link among. link_among bill family m from.listed link among))
 
   backed_at : IsClosedFamily family → (p : PlatformCode)
-      → IsBacked (histories_of bill family) (histories_of bill family p)
+      → IsCorroborated (histories_of bill family) (histories_of bill family p)
   backed_at closed p = on_found (found bill family p)
     where
       on_found : (histories_of bill family p ≡ []) ⊎ ((m : Member) × IsFrom bill family p m)
-          → IsBacked (histories_of bill family) (histories_of bill family p)
-      on_found (inl none) = subst (IsBacked (histories_of bill family)) (sym none) tt
+          → IsCorroborated (histories_of bill family) (histories_of bill family p)
+      on_found (inl none) = subst (IsCorroborated (histories_of bill family)) (sym none) tt
       on_found (inr (m, from)) =
-          subst (IsBacked (histories_of bill family)) (sym from.history_is) (closed bill m from.listed)
+          subst (IsCorroborated (histories_of bill family)) (sym from.history_is) (closed bill m from.listed)
 
   -- where the bill was signed
   record IsSignedThere (p : PlatformCode) : Type 0 where
@@ -317,9 +317,3 @@ module _ (family : List Member) (F : IsSoundFamily family) (D : HasDistinctNames
       let t = has_top (links_in bill family) (histories_of bill family) c
       (map (λ (m : Member). m.platform) family) taken_listed p signed in
       safe_under (links_in bill family) (histories_of bill family) c t.line t.top
-
--- every sound and closed family with distinct names is safe
-pub closed_is_safe : (family : List Member)
-    → IsSoundFamily family → IsClosedFamily family → HasDistinctNames family
-    → IsSafeFamily family
-closed_is_safe family sound closed distinct bill signed = is_safe family sound distinct bill closed signed

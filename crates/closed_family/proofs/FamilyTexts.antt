@@ -19,8 +19,8 @@ use Rattle.bill_diary.specs.Texts.{IsBodyOf}
 use Rattle.bill_diary.specs.Sound.{MayFollow, AreSound}
 use Rattle.closed_family.specs.declared.family.Member.{Member}
 use Rattle.closed_family.specs.Chains.{IsAmong}
-use Rattle.closed_family.specs.Family.{IsTextOf, StandsIn, IsTextIn, HasDistinctNames, IsSoundFamily}
-use Rattle.closed_family.specs.Texts.{body_in, texts_of_body, texts_of, Named, named, records_in, texts_in, AreDistinct, IsSharedFirst, SharesName}
+use Rattle.closed_family.specs.Family.{records_in, IsTextOf, StandsIn, IsTextIn, HasDistinctNames, IsSoundFamily}
+use Rattle.closed_family.specs.Texts.{body_in, texts_of_body, texts_of, Named, named, texts_in, AreDistinct, IsSharedFirst, SharesName}
 use Rattle.closed_family.proofs.Records.{among_more, among_before, among_either}
 use Rattle.closed_family.proofs.Bodies.{body_in-reads}
 
@@ -53,7 +53,7 @@ among_flat {X} {Y} f (z ∷ items) x y (inl same) k =
     among_before y (f z) (flat_map f items) (subst (λ (w : X). IsAmong y (f w)) (sym same) k)
 among_flat f (z ∷ items) x y (inr h) k = among_more y (f z) (flat_map f items) (among_flat f items x y h k)
 
-flat_among : {X Y : Type 0} (f : X → List Y) (items : List X) (y : Y) → IsAmong y (flat_map f items)
+pub flat_among : {X Y : Type 0} (f : X → List Y) (items : List X) (y : Y) → IsAmong y (flat_map f items)
     → From (λ (x : X). IsAmong y (f x)) items
 flat_among f [] y h = absurd h
 flat_among {X} f (x ∷ items) y h = on_parts (among_either y (f x) (flat_map f items) h) (flat_among f items y)
@@ -64,7 +64,7 @@ flat_among {X} f (x ∷ items) y h = on_parts (among_either y (f x) (flat_map f 
     on_parts (inl here) further = record { item = x; among = inl refl; holds = here }
     on_parts (inr there) further = later (λ (z : X). IsAmong y (f z)) x items (further there)
 
-among_reverse : {X : Type 0} (items : List X) (x : X) → IsAmong x items → IsAmong x (reverse items)
+pub among_reverse : {X : Type 0} (items : List X) (x : X) → IsAmong x items → IsAmong x (reverse items)
 among_reverse [] x h = absurd h
 among_reverse {X} (y ∷ items) x h =
     subst (λ (xs : List X). IsAmong x xs) (sym (reverse-append (y ∷ []) items)) (on_parts h (among_reverse items x))

@@ -5,7 +5,7 @@ use Rattle.ebl_base.specs.Checksum.{checksum_eq}
 use Rattle.ebl_base.specs.declared.chain.ChainLink.{ChainLink}
 use Rattle.ebl_base.specs.declared.checksum.Checksum.{Checksum}
 use Rattle.ebl_base.specs.declared.platform_code.PlatformCode.{PlatformCode}
-use Rattle.title_fold.specs.Chain.{last_of, destination, IsGoodChain}
+use Rattle.bill_chain.specs.Chain.{last_of, destination, IsChainOfBill}
 use Rattle.bill_diary.specs.declared.record.Record.{Record}
 use Rattle.bill_diary.specs.declared.record.Record.TheVariants.{Parted, Begun}
 use Rattle.bill_diary.specs.Place.{place_of}
@@ -13,7 +13,7 @@ use Rattle.bill_diary.specs.Receiving.{is_taken, is_declined, continues}
 use Rattle.closed_family.specs.declared.family.Member.{Member}
 use Rattle.closed_family.specs.Chains.{IsAmong, AreAmong}
 use Rattle.closed_family.specs.Histories.{links_of, is_parted}
-use Rattle.closed_family.specs.Closed.{Histories, AreParted, HasParted, AreGrounded}
+use Rattle.closed_family.specs.Closed.{Histories, AreParted, HasParted, EveryEntryWasParted}
 use Rattle.closed_family.specs.Safe.{IsAccepted}
 use Rattle.closed_family.specs.Family.{histories_of, HasDistinctNames, IsSoundFamily, IsClosedFamily}
 use Rattle.closed_family.proofs.Names.{checksum_eq-of, or_left, or_right}
@@ -25,7 +25,7 @@ use Rattle.closed_family.proofs.End.{HasTop, has_top, grounded_continues}
 use Rattle.closed_family.proofs.Families.{links_in, are_closed, taken_listed}
 
 -- a link that was parted is one of the history's
-parted_is_ours : (link : ChainLink) (h : List Record) → HasParted link h → IsAmong link (links_of h)
+pub parted_is_ours : (link : ChainLink) (h : List Record) → HasParted link h → IsAmong link (links_of h)
 parted_is_ours link [] p = absurd p
 parted_is_ours link (Parted bill parted manifest text ∷ h) (inl same) = inl same
 parted_is_ours link (Parted bill parted manifest text ∷ h) (inr old) = inr (parted_is_ours link h old)
@@ -34,7 +34,7 @@ parted_is_ours link (Begun bill chain manifest body ∷ h) p = among_more link c
 parted_is_ours link (r ∷ h) p = parted_is_ours link h p
 
 -- and its entry was parted there
-parted_by_name : (link : ChainLink) (h : List Record) → HasParted link h → is_parted link.name h ≡ true
+pub parted_by_name : (link : ChainLink) (h : List Record) → HasParted link h → is_parted link.name h ≡ true
 parted_by_name link [] p = absurd p
 parted_by_name link (Parted bill parted manifest text ∷ h) (inl same) =
     or_left (checksum_eq parted.name link.name) (is_parted link.name h)
@@ -44,7 +44,7 @@ parted_by_name link (Parted bill parted manifest text ∷ h) (inr old) =
 parted_by_name link (r ∷ h) p = parted_by_name link h p
 
 ours : (at : Histories) (links : List ChainLink) → ((p : PlatformCode) → AreAmong (links_of (at p)) links)
-    → (chain : List ChainLink) → AreGrounded at chain → AreAmong chain links
+    → (chain : List ChainLink) → EveryEntryWasParted at chain → AreAmong chain links
 ours at links among [] g = tt
 ours at links among (link ∷ chain) g = (
   among_each (links_of (at link.entry.platform)) links link (among link.entry.platform)
@@ -52,14 +52,14 @@ ours at links among (link ∷ chain) g = (
   ours at links among chain g.1,
 )
 
-parted : (at : Histories) (chain : List ChainLink) → AreGrounded at chain → AreParted at chain
+parted : (at : Histories) (chain : List ChainLink) → EveryEntryWasParted at chain → AreParted at chain
 parted at [] g = tt
 parted at (link ∷ chain) g = (parted_by_name link (at link.entry.platform) g.0, parted at chain g.1)
 
 pub chain_continues : (family : List Member)
     → IsSoundFamily family → IsClosedFamily family → HasDistinctNames family
     → (bill : Checksum) (chain : List ChainLink) (last : ChainLink) (to : PlatformCode)
-    → IsGoodChain bill chain → AreGrounded (histories_of bill family) chain
+    → IsChainOfBill bill chain → EveryEntryWasParted (histories_of bill family) chain
     → last_of chain ≡ Some last → destination chain ≡ Some to
     → is_taken last.name (histories_of bill family to) ≡ false
     → is_declined last.name (histories_of bill family to) ≡ false

@@ -11,7 +11,7 @@ use Rattle.title_fold.specs.declared.title.Title.{Title}
 use Rattle.title_fold.specs.declared.title.Title.TheVariants as titles
 use Rattle.title_fold.specs.Fold.{fold}
 use Rattle.title_fold.specs.Step.{step_title}
-use Rattle.title_fold.specs.Chain.{transactions_of}
+use Rattle.bill_chain.specs.Chain.{transactions_of}
 use Rattle.title_fold.proofs.TitleLaws.{ended_refuses}
 use Rattle.bill_diary.specs.declared.record.Record.{Record}
 use Rattle.bill_diary.specs.declared.record.Record.TheVariants.{Signed, Acted, Attached, Parted, Settled, Regained, Begun, Stored, Taken, Declined}
@@ -21,8 +21,8 @@ use Rattle.bill_diary.specs.Known.{known}
 use Rattle.bill_diary.specs.Place.{place_of, title_at, is_ended, is_regained}
 use Rattle.bill_diary.specs.Receiving.{continues}
 use Rattle.bill_diary.specs.Sound.{IsSoundHistory}
-use Rattle.closed_family.specs.Chains.{IsPrefix, AreAmong, AreNamed}
-use Rattle.closed_family.specs.Histories.{PartedOn, WasAccepted, links_of, KnowsBeyond}
+use Rattle.closed_family.specs.Chains.{IsPrefix, AreAmong, NamesDetermineLinks}
+use Rattle.closed_family.specs.Histories.{PartedOn, WasAccepted, links_of, ExtendsKnown}
 use Rattle.closed_family.proofs.Chains.{prefix_itself, prefix_trans, push_prefix}
 use Rattle.closed_family.proofs.Linked.{among_rest}
 use Rattle.closed_family.proofs.Places.{place_held}
@@ -36,8 +36,8 @@ use Rattle.closed_family.proofs.History.{stands_so, earlier_regained}
 
 -- after one record more, a chain is known that begins with the one known before
 grows_by_one : (links : List ChainLink) (me : PlatformCode) (r : Record) (h : List Record)
-    → AreNamed links → IsSoundHistory me (r ∷ h) → AreAmong (links_of (r ∷ h)) links
-    → (K : List ChainLink) → known h ≡ Some K → KnowsBeyond K (r ∷ h)
+    → NamesDetermineLinks links → IsSoundHistory me (r ∷ h) → AreAmong (links_of (r ∷ h)) links
+    → (K : List ChainLink) → known h ≡ Some K → ExtendsKnown K (r ∷ h)
 grows_by_one links me (Signed bill document t) h named sound among K k =
     let u = stands_absent links me h (stands_so links me named h sound.1 among) sound.0.absent in
     absurd (not_known (sym u.known_is ∙ k))
@@ -71,7 +71,7 @@ grows_by_one links me (Taken bill entry) h named sound among K k = on_stand (sta
     not_known : known h ≡ None → ⊥
     not_known none = let two = sym none ∙ k in cc two
 
-    on_stand : Stands links me h → KnowsBeyond K (Taken bill entry ∷ h)
+    on_stand : Stands links me h → ExtendsKnown K (Taken bill entry ∷ h)
     on_stand (inl u) = absurd (not_known u.known_is)
     on_stand (inr s) =
         let two = sym s.1.known_is ∙ k in
@@ -96,8 +96,8 @@ after (Begun bill chain manifest body ∷ more) h links among =
 after (r ∷ more) h links among = after more h links among
 
 grows_on : (links : List ChainLink) (me : PlatformCode) (more h : List Record)
-    → AreNamed links → IsSoundHistory me (more ++ h) → AreAmong (links_of (more ++ h)) links
-    → (K : List ChainLink) → known h ≡ Some K → KnowsBeyond K (more ++ h)
+    → NamesDetermineLinks links → IsSoundHistory me (more ++ h) → AreAmong (links_of (more ++ h)) links
+    → (K : List ChainLink) → known h ≡ Some K → ExtendsKnown K (more ++ h)
 grows_on links me [] h named sound among K k = (K, k, prefix_itself K)
 grows_on links me (r ∷ more) h named sound among K k =
     let then_known = grows_on links me more h named sound.1 (after (r ∷ []) (more ++ h) links among) K k in
@@ -106,8 +106,8 @@ grows_on links me (r ∷ more) h named sound among K k =
 
 -- through a sound history, a known chain only grows
 pub known_grows : (me : PlatformCode) (more h : List Record) (K : List ChainLink)
-    → IsSoundHistory me (more ++ h) → AreNamed (links_of (more ++ h))
-    → known h ≡ Some K → KnowsBeyond K (more ++ h)
+    → IsSoundHistory me (more ++ h) → NamesDetermineLinks (links_of (more ++ h))
+    → known h ≡ Some K → ExtendsKnown K (more ++ h)
 known_grows me more h K sound named k =
     grows_on (links_of (more ++ h)) me more h named sound
     (all_among (links_of (more ++ h)) (links_of (more ++ h)) (λ e among. among)) K k
@@ -117,7 +117,7 @@ pub earlier_was_regained : (me : PlatformCode) (bill : Checksum) (link : ChainLi
     (text : SignedText)
     (h : List Record) (K : List ChainLink) (e : ChainLink)
     → IsSoundHistory me (Parted bill link manifest text ∷ h)
-    → AreNamed (links_of (Parted bill link manifest text ∷ h))
+    → NamesDetermineLinks (links_of (Parted bill link manifest text ∷ h))
     → known h ≡ Some K → PartedOn K e h
     → is_regained e.name h ≡ true
 earlier_was_regained me bill link manifest text h K e sound named k parted =
@@ -134,7 +134,7 @@ pub parted_was_accepted : (me : PlatformCode) (bill : Checksum) (link : ChainLin
     (text : SignedText)
     (h : List Record) (K : List ChainLink)
     → IsSoundHistory me (Parted bill link manifest text ∷ h)
-    → AreNamed (links_of (Parted bill link manifest text ∷ h))
+    → NamesDetermineLinks (links_of (Parted bill link manifest text ∷ h))
     → known h ≡ Some K → WasAccepted K h
 parted_was_accepted me bill link manifest text h K sound named k =
     let links = links_of (Parted bill link manifest text ∷ h) in
@@ -159,7 +159,7 @@ refused_when_ended (Some (titles.Ended kind c)) t after e taken =
 
 -- where a bill is held and ended, it stays so after one record more
 ended_by_one : (links : List ChainLink) (me : PlatformCode) (r : Record) (h : List Record)
-    → AreNamed links → IsSoundHistory me (r ∷ h) → AreAmong (links_of (r ∷ h)) links
+    → NamesDetermineLinks links → IsSoundHistory me (r ∷ h) → AreAmong (links_of (r ∷ h)) links
     → (K : List ChainLink) (made : List Transaction)
     → place_of h ≡ Held K made → is_ended (fold (transactions_of K ++ made)) ≡ true
     → place_of (r ∷ h) ≡ Held K made
@@ -206,7 +206,7 @@ ended_by_one links me (Declined bill entry code reason evidence) h named sound a
     ∙ ap (Held K) there.2
 
 pub ended_on : (links : List ChainLink) (me : PlatformCode) (more h : List Record)
-    → AreNamed links → IsSoundHistory me (more ++ h) → AreAmong (links_of (more ++ h)) links
+    → NamesDetermineLinks links → IsSoundHistory me (more ++ h) → AreAmong (links_of (more ++ h)) links
     → (K : List ChainLink) (made : List Transaction)
     → place_of h ≡ Held K made → is_ended (fold (transactions_of K ++ made)) ≡ true
     → place_of (more ++ h) ≡ Held K made
@@ -217,7 +217,7 @@ ended_on links me (r ∷ more) h named sound among K made place e =
 
 -- a bill that is held and ended stays so, whatever stands after it in a sound history
 pub ended_stays : (me : PlatformCode) (more h : List Record) (K : List ChainLink) (made : List Transaction)
-    → IsSoundHistory me (more ++ h) → AreNamed (links_of (more ++ h))
+    → IsSoundHistory me (more ++ h) → NamesDetermineLinks (links_of (more ++ h))
     → place_of h ≡ Held K made → is_ended (title_at (Held K made)) ≡ true
     → place_of (more ++ h) ≡ Held K made
 ended_stays me more h K made sound named place e =

@@ -9,14 +9,14 @@ use Rattle.ebl_base.specs.declared.checksum.Checksum.{Checksum}
 use Rattle.ebl_base.specs.declared.platform_code.PlatformCode.{PlatformCode}
 use Rattle.ebl_base.specs.declared.signed_text.SignedText.{SignedText}
 use Rattle.envelope_manifest.specs.declared.manifest.Manifest.{Manifest}
-use Rattle.title_fold.specs.Chain.{ends_in}
+use Rattle.bill_chain.specs.Chain.{ends_in}
 use Rattle.bill_diary.specs.declared.record.Record.{Record}
 use Rattle.bill_diary.specs.declared.record.Record.TheVariants.{Signed, Acted, Attached, Parted, Settled, Regained, Begun, Stored, Taken, Declined}
 use Rattle.bill_diary.specs.Known.{known}
 use Rattle.bill_diary.specs.Place.{taken_chains, is_regained, parting}
 use Rattle.bill_diary.specs.Receiving.{takes, is_taken, is_declined}
 use Rattle.bill_diary.specs.Sound.{MayPart, MayTake, IsSoundHistory}
-use Rattle.closed_family.specs.Chains.{IsAmong, AreAmong, AreNamed}
+use Rattle.closed_family.specs.Chains.{IsAmong, AreAmong, NamesDetermineLinks}
 use Rattle.closed_family.specs.Histories.{PartedOn, links_of}
 use Rattle.closed_family.proofs.Names.{checksum_eq-same, checksum_eq-of, or_cases, or_left, or_right, not_both, decided, false_unless}
 use Rattle.closed_family.proofs.Chains.{last_of-push}
@@ -28,7 +28,7 @@ use Rattle.closed_family.proofs.Steps.{step_signed, step_acted, step_parted, ste
 
 -- a sound history of known links
 pub record IsHistory (links : List ChainLink) (me : PlatformCode) (h : List Record) : Type 0 where
-  pub named : AreNamed links
+  pub named : NamesDetermineLinks links
   pub sound : IsSoundHistory me h
   pub among : AreAmong (links_of h) links
 
@@ -36,16 +36,8 @@ pub are_received : (links : List ChainLink) (me : PlatformCode) (h : List Record
     → IsHistory links me h → AreReceived links me (taken_chains h)
 are_received links me h history = record { each = received links me h history.sound history.among }
 
--- the history before the last record
-abbrev before_parted : (links : List ChainLink) (me : PlatformCode) (bill : Checksum) (link : ChainLink)
-    (manifest : Manifest) (text : SignedText)
-    (h : List Record)
-    → IsHistory links me (Parted bill link manifest text ∷ h) → IsHistory links me h
-before_parted links me bill link manifest text h history =
-    record { named = history.named; sound = history.sound.1; among = history.among.1 }
-
 -- where the bill stands. An Attached, a Begun, a Stored and a Declined leave all of it
-pub stands_so : (links : List ChainLink) (me : PlatformCode) → AreNamed links → (h : List Record)
+pub stands_so : (links : List ChainLink) (me : PlatformCode) → NamesDetermineLinks links → (h : List Record)
     → IsSoundHistory me h → AreAmong (links_of h) links
     → Stands links me h
 stands_so links me named [] sound among =
@@ -126,7 +118,7 @@ earlier_regained links me bill f manifest text h history K e k parted =
 
 -- of two entries that parted on one chain, one was regained, unless they are one
 pub one_regained : (links : List ChainLink) (me : PlatformCode) (h : List Record)
-    → AreNamed links → IsSoundHistory me h → AreAmong (links_of h) links
+    → NamesDetermineLinks links → IsSoundHistory me h → AreAmong (links_of h) links
     → (K : List ChainLink) (e f : ChainLink) → PartedOn K e h → PartedOn K f h
     → (e ≡ f) ⊎ (is_regained e.name h ≡ true) ⊎ (is_regained f.name h ≡ true)
 one_regained links me [] named sound among K e f pe pf = absurd pe
@@ -271,8 +263,9 @@ taken_not_declined links me (Parted bill link manifest text ∷ h) sound among n
     taken_not_declined links me h sound.1 among.1 name t
 taken_not_declined links me (r ∷ h) sound among name t = taken_not_declined links me h sound.1 among name t
 
--- each entry is taken at most once
-none_counted : (name : Checksum) (h : List Record) → is_taken name h ≡ false → count_by (takes name) h ≡ 0
+-- ---- counting the records that take an entry
+
+pub none_counted : (name : Checksum) (h : List Record) → is_taken name h ≡ false → count_by (takes name) h ≡ 0
 none_counted name [] t = refl
 none_counted name (r ∷ h) t = on_test (takes name r) refl (none_counted name h)
   where
@@ -288,7 +281,7 @@ none_counted name (r ∷ h) t = on_test (takes name r) refl (none_counted name h
         sum_by-cons (λ (x : Record). cond (takes name x) 1 0) r h
         ∙ sums (ap (λ (b : Bool). cond b 1 0) here) (further rest)
 
-counted_on : (name : Checksum) (r : Record) (h : List Record)
+pub counted_on : (name : Checksum) (r : Record) (h : List Record)
     → count_by (takes name) h ≤ 1
     → (takes name r ≡ true → is_taken name h ≡ false)
     → count_by (takes name) (r ∷ h) ≤ 1
@@ -306,35 +299,3 @@ counted_on name r h most once = on_test (takes name r) refl
     on_test : (b : Bool) → takes name r ≡ b → count_by (takes name) (r ∷ h) ≤ 1
     on_test true here = with_one whole (ap (λ (b : Bool). cond b 1 0) here) (none_counted name h (once here))
     on_test false here = with_none whole (ap (λ (b : Bool). cond b 1 0) here) most
-
-pub taken_once : (links : List ChainLink) (me : PlatformCode) (h : List Record)
-    → IsSoundHistory me h → AreAmong (links_of h) links
-    → (name : Checksum) → count_by (takes name) h ≤ 1
-taken_once links me [] sound among name = omega arith
-taken_once links me (Taken bill entry ∷ h) sound among name =
-    counted_on name (Taken bill entry) h (taken_once links me h sound.1 among name) not_before
-  where
-    not_before : checksum_eq entry name ≡ true → is_taken name h ≡ false
-    not_before here =
-        subst (λ (n : Checksum). is_taken n h ≡ false)
-        (taken_ends links me bill entry h sound among sound.0 ∙ checksum_eq-same entry name here)
-        sound.0.receives.not_taken
-taken_once links me (Begun bill chain manifest body ∷ h) sound among name =
-    counted_on name (Begun bill chain manifest body) h
-    (taken_once links me h sound.1 (among_rest chain (links_of h) links among) name) (λ e. cc e)
-taken_once links me (Parted bill link manifest text ∷ h) sound among name =
-    counted_on name (Parted bill link manifest text) h (taken_once links me h sound.1 among.1 name) (λ e. cc e)
-taken_once links me (Signed bill document t ∷ h) sound among name =
-    counted_on name (Signed bill document t) h (taken_once links me h sound.1 among name) (λ e. cc e)
-taken_once links me (Acted bill t ∷ h) sound among name =
-    counted_on name (Acted bill t) h (taken_once links me h sound.1 among name) (λ e. cc e)
-taken_once links me (Attached bill piece bytes ∷ h) sound among name =
-    counted_on name (Attached bill piece bytes) h (taken_once links me h sound.1 among name) (λ e. cc e)
-taken_once links me (Settled bill entry ∷ h) sound among name =
-    counted_on name (Settled bill entry) h (taken_once links me h sound.1 among name) (λ e. cc e)
-taken_once links me (Regained bill entry ∷ h) sound among name =
-    counted_on name (Regained bill entry) h (taken_once links me h sound.1 among name) (λ e. cc e)
-taken_once links me (Stored bill entry checksum bytes ∷ h) sound among name =
-    counted_on name (Stored bill entry checksum bytes) h (taken_once links me h sound.1 among name) (λ e. cc e)
-taken_once links me (Declined bill entry code reason evidence ∷ h) sound among name =
-    counted_on name (Declined bill entry code reason evidence) h (taken_once links me h sound.1 among name) (λ e. cc e)

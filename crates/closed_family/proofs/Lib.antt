@@ -17,9 +17,11 @@ pub mod Growth
 pub mod Grounded
 pub mod Complete
 pub mod Ended
+pub mod Destinations
 pub mod Searches
 pub mod Lacks
 pub mod Bodies
 pub mod SharedNames
 pub mod FamilyTexts
+pub mod Takings
 pub mod Verdicts

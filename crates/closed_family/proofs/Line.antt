@@ -3,13 +3,13 @@ use Rattle.std.proofs.Common.{◌≡◌, true, List, [], ◌∷◌, ◌++◌, re
 use Rattle.std.specs.Prelude.{◌⊎◌}
 use Rattle.ebl_base.specs.declared.chain.ChainLink.{ChainLink}
 use Rattle.ebl_base.specs.declared.platform_code.PlatformCode.{PlatformCode}
-use Rattle.title_fold.specs.Chain.{destination}
+use Rattle.bill_chain.specs.Chain.{destination}
 use Rattle.bill_diary.specs.Place.{taken_chains, is_regained}
 use Rattle.bill_diary.specs.Receiving.{is_declined}
 use Rattle.bill_diary.specs.Sound.{IsSoundHistory}
-use Rattle.closed_family.specs.Chains.{IsAmong, IsPrefix, AreAmong, AreNamed}
+use Rattle.closed_family.specs.Chains.{IsAmong, IsPrefix, AreAmong, NamesDetermineLinks}
 use Rattle.closed_family.specs.Histories.{PartedOn, links_of, is_signed}
-use Rattle.closed_family.specs.Closed.{Histories, AreParted, IsBacked}
+use Rattle.closed_family.specs.Closed.{Histories, AreParted, IsCorroborated}
 use Rattle.closed_family.specs.Safe.{IsAccepted}
 use Rattle.closed_family.proofs.Names.{not_both}
 use Rattle.closed_family.proofs.Chains.{not_empty, prefix_trans, empty_prefix, push_prefix, GoesOn, prefix_or_more, prefix_of_push}
@@ -21,10 +21,10 @@ use Rattle.closed_family.proofs.Backed.{chain_parted, settled_was_taken, regaine
 
 -- sound histories of one bill, closed, whose links have distinct names, and which was signed on one platform alone
 pub record AreClosed (links : List ChainLink) (at : Histories) : Type 0 where
-  pub named : AreNamed links
+  pub named : NamesDetermineLinks links
   pub sound : (p : PlatformCode) → IsSoundHistory p (at p)
   pub among : (p : PlatformCode) → AreAmong (links_of (at p)) links
-  pub backed : (p : PlatformCode) → IsBacked at (at p)
+  pub backed : (p : PlatformCode) → IsCorroborated at (at p)
   pub signed_on_one : (p q : PlatformCode) → is_signed (at p) ≡ true → is_signed (at q) ≡ true → p ≡ q
 
 -- a chain each of whose entries was parted on its platform
@@ -230,5 +230,5 @@ module _ (links : List ChainLink) (at : Histories) (F : AreClosed links at) wher
       on_front (inr beyond) = inr (prefix_trans d K (K ++ e ∷ []) beyond (push_prefix K e))
 
   -- of two accepted chains one is a prefix of the other
-  pub one_line : (c d : List ChainLink) → IsAccepted at c → IsAccepted at d → IsPrefix c d ⊎ IsPrefix d c
-  one_line c d accepted also = line_on c (accepted_grounded c accepted).ours.linked accepted d also
+  pub no_fork : (c d : List ChainLink) → IsAccepted at c → IsAccepted at d → IsPrefix c d ⊎ IsPrefix d c
+  no_fork c d accepted also = line_on c (accepted_grounded c accepted).ours.linked accepted d also

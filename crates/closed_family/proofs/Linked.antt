@@ -6,8 +6,8 @@ use Rattle.std.proofs.lemmas.List.{append_assoc}
 use Rattle.ebl_base.specs.Checksum.{checksum_eq}
 use Rattle.ebl_base.specs.declared.checksum.Checksum.{Checksum}
 use Rattle.ebl_base.specs.declared.chain.ChainLink.{ChainLink}
-use Rattle.title_fold.specs.Chain.{last_name, names_of, has_entry, ends_in, goes_beyond, FollowEachOther, IsGoodChain}
-use Rattle.closed_family.specs.Chains.{IsAmong, IsPrefix, AreAmong, AreNamed}
+use Rattle.bill_chain.specs.Chain.{last_name, names_of, has_entry, ends_in, goes_beyond, FollowEachOther, IsChainOfBill}
+use Rattle.closed_family.specs.Chains.{IsAmong, IsPrefix, AreAmong, NamesDetermineLinks}
 use borrow.Author.Tests.{ltb-true}
 use Rattle.closed_family.proofs.Names.{checksum_eq-same, checksum_eq-itself, or_cases, or_left, or_right, and_both}
 use Rattle.closed_family.proofs.Chains.{HasLast, from_the_end, last_of-push, last_name-push, not_empty, push_injective, append-none, prefix_of_push, empty_prefix}
@@ -28,7 +28,7 @@ linked_after bill front (e ∷ rest) linked follow =
     (linked_after bill (front ++ e ∷ []) rest (one_more linked e follow.0.previous) follow.1)
 
 -- a good chain is linked
-pub good_is_linked : (bill : Checksum) (chain : List ChainLink) → IsGoodChain bill chain → IsLinked chain
+pub good_is_linked : (bill : Checksum) (chain : List ChainLink) → IsChainOfBill bill chain → IsLinked chain
 good_is_linked bill chain good = linked_after bill [] chain empty good
 
 -- the front of a linked chain is linked, and the last entry names the front's last one
@@ -85,7 +85,7 @@ none_is_not h = cc
 some_name : {a b : Checksum} → Some a ≡ Some b → a ≡ b
 some_name h = cc
 
-pub linked_same : (links : List ChainLink) → AreNamed links → (c d : List ChainLink)
+pub linked_same : (links : List ChainLink) → NamesDetermineLinks links → (c d : List ChainLink)
     → IsLinked c → IsLinked d → AreAmong c links → AreAmong d links
     → last_name c ≡ last_name d → c ≡ d
 linked_same links named c d empty empty p q same = refl
@@ -195,7 +195,7 @@ pub record GoesBeyond (before chain : List ChainLink) : Type 0 where
   pub prefix : IsPrefix before chain
   pub longer : length before < length chain
 
-named_prefix : (links : List ChainLink) → AreNamed links → (before chain : List ChainLink)
+named_prefix : (links : List ChainLink) → NamesDetermineLinks links → (before chain : List ChainLink)
     → AreAmong before links → AreAmong chain links
     → starts_with checksum_eq (names_of chain) (names_of before) ≡ true
     → IsPrefix before chain
@@ -208,7 +208,7 @@ named_prefix links named (x ∷ xs) (y ∷ ys) p q h =
     record { rest = further.rest; parts = cc further.parts }
 
 -- what goes on beyond a chain by the names of the entries, does so
-pub beyond : (links : List ChainLink) → AreNamed links → (before chain : List ChainLink)
+pub beyond : (links : List ChainLink) → NamesDetermineLinks links → (before chain : List ChainLink)
     → AreAmong before links → AreAmong chain links
     → goes_beyond before chain ≡ true
     → GoesBeyond before chain

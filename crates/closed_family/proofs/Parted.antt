@@ -4,10 +4,10 @@ use Rattle.std.specs.Prelude.{◌⊎◌, Some}
 use Rattle.std.specs.List.{list_any}
 use Rattle.ebl_base.specs.declared.chain.ChainLink.{ChainLink}
 use Rattle.ebl_base.specs.declared.platform_code.PlatformCode.{PlatformCode}
-use Rattle.title_fold.specs.Chain.{last_name, has_entry, destination}
+use Rattle.bill_chain.specs.Chain.{last_name, has_entry, destination}
 use Rattle.bill_diary.specs.declared.record.Record.{Record}
 use Rattle.bill_diary.specs.Place.{is_left, is_over, is_settled, is_regained, taken_chains}
-use Rattle.closed_family.specs.Chains.{IsAmong, AreAmong, AreNamed}
+use Rattle.closed_family.specs.Chains.{IsAmong, AreAmong, NamesDetermineLinks}
 use Rattle.closed_family.specs.Histories.{is_signed, PartedOn}
 use Rattle.closed_family.proofs.Names.{false_unless, none_of_three, Passes, passing_item}
 use Rattle.closed_family.proofs.Chains.{HasLast, from_the_end, prefix_length, push_length, prefix_trans}
@@ -38,7 +38,7 @@ came_ours links me signed taken K received (inr k) =
 -- the name of an entry that parted fixes its front
 pub one_front : (links : List ChainLink) (me : PlatformCode) (signed : Bool) (taken : List (List ChainLink)) (count : ℕ)
     → (J : List ChainLink) (f : ChainLink) (K : List ChainLink) (e : ChainLink)
-    → AreNamed links → AreReceived links me taken
+    → NamesDetermineLinks links → AreReceived links me taken
     → HasLeft links me signed taken count J f
     → IsOurs links (K ++ e ∷ [])
     → f.name ≡ e.name
@@ -56,7 +56,7 @@ one_front links me signed taken count J f K e named received left ours names =
 
 -- a chain that ends here isn't left
 pub not_left : (links : List ChainLink) (me : PlatformCode) (h : List Record) (K : List ChainLink)
-    → AreNamed links → AreReceived links me (taken_chains h)
+    → NamesDetermineLinks links → AreReceived links me (taken_chains h)
     → StandsBy links me h K
     → (c : List ChainLink) → IsReceived links me c
     → is_left c h ≡ false
@@ -85,7 +85,7 @@ not_left links me h K named received stands c r = on_end (from_the_end c)
 
 -- an attempt later than all before: no entry of this name parted here
 pub fresh : (links : List ChainLink) (me : PlatformCode) (h : List Record) (K : List ChainLink)
-    → AreNamed links → StandsBy links me h K
+    → NamesDetermineLinks links → StandsBy links me h K
     → (e : ChainLink) → IsAmong e links → e.entry.attempt ≡ attempts h + 1
     → SomeParted e.name (λ (J : List ChainLink) (f : ChainLink). PartedOn J f h) → ⊥
 fresh links me h K named stands e among attempt s =
@@ -97,7 +97,7 @@ fresh links me h K named stands e among attempt s =
 
 -- a new entry is in no chain that was taken
 not_along : (links : List ChainLink) (me : PlatformCode) (h : List Record) (K : List ChainLink)
-    → AreNamed links → AreReceived links me (taken_chains h) → StandsBy links me h K
+    → NamesDetermineLinks links → AreReceived links me (taken_chains h) → StandsBy links me h K
     → CameBy (is_signed h) (taken_chains h) K
     → (e : ChainLink) → IsAmong e links → e.entry.previous ≡ last_name K
     → Passes (has_entry e.name) (taken_chains h) → ⊥
@@ -121,7 +121,7 @@ not_along links me h K named received stands came e among previous p =
 
 -- the parting of a new entry isn't over
 pub not_over : (links : List ChainLink) (me : PlatformCode) (h : List Record) (K : List ChainLink)
-    → AreNamed links → AreReceived links me (taken_chains h) → StandsBy links me h K
+    → NamesDetermineLinks links → AreReceived links me (taken_chains h) → StandsBy links me h K
     → CameBy (is_signed h) (taken_chains h) K
     → (e : ChainLink) → IsAmong e links → e.entry.previous ≡ last_name K → e.entry.attempt ≡ attempts h + 1
     → is_over e.name h ≡ false

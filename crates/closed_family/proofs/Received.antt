@@ -5,10 +5,10 @@ use Rattle.std.specs.Option.{option_to_list}
 use Rattle.ebl_base.specs.declared.checksum.Checksum.{Checksum}
 use Rattle.ebl_base.specs.declared.chain.ChainLink.{ChainLink}
 use Rattle.ebl_base.specs.declared.platform_code.PlatformCode.{PlatformCode}
-use Rattle.title_fold.specs.Chain.{ends_in, destination}
+use Rattle.bill_chain.specs.Chain.{ends_in, destination}
 use Rattle.bill_diary.specs.declared.record.Record.{Record}
 use Rattle.bill_diary.specs.declared.record.Record.TheVariants.{Parted, Begun, Taken}
-use Rattle.bill_diary.specs.Known.{Came, last_begun, told}
+use Rattle.bill_diary.specs.Known.{Received, last_begun, told}
 use Rattle.bill_diary.specs.Place.{taken_chains}
 use Rattle.bill_diary.specs.Sound.{IsSoundHistory, MayTake}
 use Rattle.closed_family.specs.Chains.{IsAmong, AreAmong}
@@ -21,7 +21,7 @@ pub record CameWell (links : List ChainLink) (entry : Checksum) (chain : List Ch
   pub among : AreAmong chain links
   pub ends : ends_in entry chain ≡ true
 
-pub begun_came : (links : List ChainLink) (me : PlatformCode) (entry : Checksum) (h : List Record) (came : Came)
+pub begun_came : (links : List ChainLink) (me : PlatformCode) (entry : Checksum) (h : List Record) (came : Received)
     → IsSoundHistory me h → AreAmong (links_of h) links
     → last_begun entry h ≡ Some came
     → CameWell links entry came.chain
@@ -36,7 +36,7 @@ begun_came links me entry (Begun bill chain manifest body ∷ h) came sound amon
         → CameWell links entry came.chain
     by_end true ends same further =
         let here : record { chain = chain; manifest = manifest } ≡ came = cc in
-        subst (λ (c : Came). CameWell links entry c.chain) here
+        subst (λ (c : Received). CameWell links entry c.chain) here
         (record {
           linked = good_is_linked bill chain sound.0.good;
           among = among_front chain (links_of h) links among;
@@ -54,15 +54,15 @@ pub record IsReceived (links : List ChainLink) (me : PlatformCode) (chain : List
   pub here : destination chain ≡ Some me
 
 -- the chain of a Taken stands first among the chains taken, and among those told
-pub taken_first : (bill entry : Checksum) (h : List Record) (came : Came) → last_begun entry h ≡ Some came
+pub taken_first : (bill entry : Checksum) (h : List Record) (came : Received) → last_begun entry h ≡ Some came
     → taken_chains (Taken bill entry ∷ h) ≡ came.chain ∷ taken_chains h
 taken_first bill entry h came begun =
-    ap (λ (o : Option Came). option_to_list (option_map (λ (c : Came). c.chain) o) ++ taken_chains h) begun
+    ap (λ (o : Option Received). option_to_list (option_map (λ (c : Received). c.chain) o) ++ taken_chains h) begun
 
-pub told_first : (bill entry : Checksum) (h : List Record) (came : Came) → last_begun entry h ≡ Some came
+pub told_first : (bill entry : Checksum) (h : List Record) (came : Received) → last_begun entry h ≡ Some came
     → told (Taken bill entry ∷ h) ≡ came.chain ∷ told h
 told_first bill entry h came begun =
-    ap (λ (o : Option Came). option_to_list (option_map (λ (c : Came). c.chain) o) ++ told h) begun
+    ap (λ (o : Option Received). option_to_list (option_map (λ (c : Received). c.chain) o) ++ told h) begun
 
 -- each chain that was taken
 pub received : (links : List ChainLink) (me : PlatformCode) (h : List Record)

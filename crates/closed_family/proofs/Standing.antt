@@ -8,7 +8,7 @@ use Rattle.ebl_base.specs.declared.transaction.Transaction.{Transaction}
 use Rattle.title_fold.specs.declared.title.Title.{Title}
 use Rattle.title_fold.specs.Title.{possessor}
 use Rattle.title_fold.specs.Fold.{fold}
-use Rattle.title_fold.specs.Chain.{last_name, transactions_of, destination}
+use Rattle.bill_chain.specs.Chain.{last_name, transactions_of, destination}
 use Rattle.bill_diary.specs.declared.record.Record.{Record}
 use Rattle.bill_diary.specs.declared.record.Record.TheVariants.{Parted}
 use Rattle.bill_diary.specs.declared.bill_place.BillPlace.TheVariants.{Absent, Held, Parting}

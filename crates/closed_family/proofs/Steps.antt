@@ -13,7 +13,7 @@ use Rattle.ebl_base.specs.declared.signed_text.SignedText.{SignedText}
 use Rattle.ebl_base.specs.declared.transaction.Transaction.{Transaction}
 use Rattle.envelope_manifest.specs.declared.manifest.Manifest.{Manifest}
 use Rattle.title_fold.specs.Fold.{fold}
-use Rattle.title_fold.specs.Chain.{transactions_of, has_entry, platform_with}
+use Rattle.bill_chain.specs.Chain.{transactions_of, has_entry, platform_with}
 use Rattle.bill_diary.specs.declared.record.Record.{Record}
 use Rattle.bill_diary.specs.declared.record.Record.TheVariants.{Signed, Acted, Parted, Settled, Regained, Taken}
 use Rattle.bill_diary.specs.declared.bill_place.BillPlace.{BillPlace}
@@ -22,7 +22,7 @@ use Rattle.bill_diary.specs.Known.{known, told, longer, longest, settled_chain}
 use Rattle.bill_diary.specs.Place.{place_of, parting, is_left, is_over, last_parted, since, is_settled, is_regained, taken_chains}
 use Rattle.bill_diary.specs.Receiving.{continues}
 use Rattle.bill_diary.specs.Sound.{MaySign, MayAct, MayPart, IsParting, MayTake, is_parted}
-use Rattle.closed_family.specs.Chains.{IsAmong, IsPrefix, AreAmong, AreNamed}
+use Rattle.closed_family.specs.Chains.{IsAmong, IsPrefix, AreAmong, NamesDetermineLinks}
 use Rattle.closed_family.specs.Histories.{is_signed, PartedOn}
 use Rattle.closed_family.proofs.Names.{checksum_eq-same, checksum_eq-itself, checksum_eq-of, or_cases, or_left, or_right, not_both}
 use Rattle.closed_family.proofs.Chains.{HasLast, from_the_end, prefix_of, prefix_trans, push_prefix, prefix_length, push_length}
@@ -132,7 +132,7 @@ still regained J K before now e none (is_parting p) = absurd (no_link (sym none 
 
 pub step_parted : (links : List ChainLink) (me : PlatformCode) (h : List Record) (bill : Checksum) (link : ChainLink)
     (manifest : Manifest) (text : SignedText)
-    → AreNamed links → AreReceived links me (taken_chains h) → IsAmong link links
+    → NamesDetermineLinks links → AreReceived links me (taken_chains h) → IsAmong link links
     → Stands links me h → (may : MayPart me h bill link manifest text)
     → StandsBy links me (Parted bill link manifest text ∷ h) may.known
 step_parted links me h bill link manifest text named received among s may =
@@ -465,7 +465,7 @@ step_taken_unknown links me h bill entry u may r =
 -- a bill that was known, by a chain beyond which the new one goes
 step_taken_known : (links : List ChainLink) (me : PlatformCode) (h : List Record) (bill entry : Checksum)
     (K : List ChainLink)
-    → AreNamed links → AreReceived links me (taken_chains h)
+    → NamesDetermineLinks links → AreReceived links me (taken_chains h)
     → StandsBy links me h K → (may : MayTake me h h entry)
     → IsReceived links me may.begun.chain
     → GoesBeyond K may.begun.chain
@@ -536,7 +536,7 @@ step_taken_known links me h bill entry K named received b may r further over =
 -- a chain that is taken goes beyond what is known
 pub goes_further : (links : List ChainLink) (me : PlatformCode) (h : List Record) (bill entry : Checksum)
     (K : List ChainLink)
-    → AreNamed links → AreReceived links me (taken_chains h)
+    → NamesDetermineLinks links → AreReceived links me (taken_chains h)
     → StandsBy links me h K → (may : MayTake me h h entry)
     → IsReceived links me may.begun.chain
     → GoesBeyond K may.begun.chain
@@ -570,7 +570,7 @@ goes_further links me h bill entry K named received b may r = by_stand b.stands
         (goes (Gone K) (place_gone h K b.known_is gone.none (gone_is_left h K gone)))
 
 pub step_taken : (links : List ChainLink) (me : PlatformCode) (h : List Record) (bill entry : Checksum)
-    → AreNamed links → AreReceived links me (taken_chains h)
+    → NamesDetermineLinks links → AreReceived links me (taken_chains h)
     → Stands links me h → (may : MayTake me h h entry)
     → IsReceived links me may.begun.chain
     → StandsBy links me (Taken bill entry ∷ h) may.begun.chain

@@ -17,7 +17,7 @@ use Rattle.title_fold.specs.Taken.{Takes}
 use Rattle.title_fold.specs.Step.{step_title}
 use Rattle.title_fold.specs.Fold.{Folded, fold}
 use Rattle.title_fold.specs.Movement.{moves}
-use Rattle.title_fold.specs.Chain.{transactions_of, platform_with, destination}
+use Rattle.bill_chain.specs.Chain.{transactions_of, platform_with, destination}
 use Rattle.title_fold.proofs.StepLemmas.{taken-step_title}
 use Rattle.title_fold.proofs.FoldLemmas.{fold-push-taken}
 use Rattle.closed_family.proofs.Standing.{IsOn}

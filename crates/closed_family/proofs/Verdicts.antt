@@ -10,7 +10,7 @@ use Rattle.closed_family.specs.Lacking.{first_of, lacking}
 use Rattle.closed_family.specs.Survey.{IsVerdict}
 use Rattle.closed_family.specs.Texts.{Named, AreDistinct, IsSharedFirst, SharesName}
 use Rattle.closed_family.proofs.Complete.{closed_is_complete, complete_is_closed, none_of_first}
-use Rattle.closed_family.proofs.Families.{closed_is_safe}
+use Rattle.closed_family.proofs.Takings.{closed_is_safe}
 use Rattle.closed_family.proofs.FamilyTexts.{names_of_distinct, shared_of_first}
 
 -- where no name is found that is shared, all texts are distinct
@@ -20,7 +20,7 @@ pub distinct_all : (found : Option Checksum) (texts all : List Named) → found 
 distinct_all None texts all none same distinct = subst AreDistinct same distinct
 distinct_all (Some name) texts all none same shared = cc
 
--- it is Consistent exactly where the family is closed and its texts have distinct names
+-- it is Consistent exactly when the family is closed and its texts have distinct names
 pub consistent_iff : (family : List Member) → IsSoundFamily family → (v : Verdict) → IsVerdict family v
     → (v ≡ Consistent) ↔ (IsClosedFamily family × HasDistinctNames family)
 consistent_iff family sound Consistent is = (

@@ -18,5 +18,5 @@ AreAmong [] links = Unit {0}
 AreAmong (link ∷ chain) links = IsAmong link links × AreAmong chain links
 
 -- links that have one name are one
-pub record AreNamed (links : List ChainLink) : Type 0 where
+pub record NamesDetermineLinks (links : List ChainLink) : Type 0 where
   pub same : (a b : ChainLink) → IsAmong a links → IsAmong b links → a.name ≡ b.name → a ≡ b

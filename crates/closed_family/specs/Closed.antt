@@ -3,7 +3,7 @@ use Rattle.std.specs.Prelude.{◌≡◌, ◌⊎◌, true, List, [], ◌∷◌, O
 use Rattle.ebl_base.specs.declared.checksum.Checksum.{Checksum}
 use Rattle.ebl_base.specs.declared.chain.ChainLink.{ChainLink}
 use Rattle.ebl_base.specs.declared.platform_code.PlatformCode.{PlatformCode}
-use Rattle.title_fold.specs.Chain.{destination}
+use Rattle.bill_chain.specs.Chain.{destination}
 use Rattle.bill_diary.specs.declared.record.Record.{Record}
 use Rattle.bill_diary.specs.declared.record.Record.TheVariants.{Parted, Settled, Regained, Taken}
 use Rattle.bill_diary.specs.Known.{taken_chain, settled_chain}
@@ -25,14 +25,14 @@ destination_of entry before = option_and_then destination (settled_chain entry b
 
 -- each record of a history has what it says of others: each entry of a taken chain was parted on its platform, a
 -- settled entry was taken at its destination, and a regained one was declined there
-abbrev pub IsBacked : Histories → List Record → Type 0
-IsBacked at [] = Unit {0}
-IsBacked at (Taken bill entry ∷ h) = IfSome (taken_chain entry h) (AreParted at) × IsBacked at h
-IsBacked at (Settled bill entry ∷ h) =
-    IfSome (destination_of entry h) (λ to. is_taken entry (at to) ≡ true) × IsBacked at h
-IsBacked at (Regained bill entry ∷ h) =
-    IfSome (destination_of entry h) (λ to. is_declined entry (at to) ≡ true) × IsBacked at h
-IsBacked at (r ∷ h) = IsBacked at h
+abbrev pub IsCorroborated : Histories → List Record → Type 0
+IsCorroborated at [] = Unit {0}
+IsCorroborated at (Taken bill entry ∷ h) = IfSome (taken_chain entry h) (AreParted at) × IsCorroborated at h
+IsCorroborated at (Settled bill entry ∷ h) =
+    IfSome (destination_of entry h) (λ to. is_taken entry (at to) ≡ true) × IsCorroborated at h
+IsCorroborated at (Regained bill entry ∷ h) =
+    IfSome (destination_of entry h) (λ to. is_declined entry (at to) ≡ true) × IsCorroborated at h
+IsCorroborated at (r ∷ h) = IsCorroborated at h
 
 -- a Parted of this very link stands in a history
 abbrev pub HasParted : ChainLink → List Record → Type 0
@@ -41,6 +41,6 @@ HasParted link (Parted bill parted manifest manifest_text ∷ h) = (parted ≡ l
 HasParted link (r ∷ h) = HasParted link h
 
 -- each link of a chain stands in a Parted of its platform
-abbrev pub AreGrounded : Histories → List ChainLink → Type 0
-AreGrounded at [] = Unit {0}
-AreGrounded at (link ∷ links) = HasParted link (at link.entry.platform) × AreGrounded at links
+abbrev pub EveryEntryWasParted : Histories → List ChainLink → Type 0
+EveryEntryWasParted at [] = Unit {0}
+EveryEntryWasParted at (link ∷ links) = HasParted link (at link.entry.platform) × EveryEntryWasParted at links

@@ -1,5 +1,6 @@
 -- Families of diaries: sound ones, closed ones, and those whose texts have distinct names.
-use Rattle.std.specs.Prelude.{◌≡◌, ◌⊎◌, ℕ, ◌%◌, List, [], ◌∷◌, Some, length, true, slice_index, slice_get, if◌then◌else◌}
+use Rattle.std.specs.Prelude.{◌≡◌, ◌⊎◌, ℕ, ◌≤◌, ◌%◌, List, [], ◌∷◌, Some, length, count_by, true, false, slice_index, slice_get, if◌then◌else◌}
+use Rattle.std.specs.List.{flat_map}
 use Rattle.std.specs.Option.{option_map_or}
 use Rattle.ebl_base.specs.PlatformCode.{code_eq}
 use Rattle.ebl_base.specs.declared.checksum.Checksum.{Checksum}
@@ -10,13 +11,14 @@ use Rattle.canonical_json.specs.Canon.{canon}
 use Rattle.bill_diary.specs.declared.record.Record.{Record}
 use Rattle.bill_diary.specs.declared.record.Record.TheVariants.{Signed, Parted, Begun}
 use Rattle.bill_diary.specs.declared.frame.Frame.{Frame}
-use Rattle.bill_diary.specs.History.{bill_of, newest_first, history}
+use Rattle.bill_diary.specs.History.{bill_of, records_of, newest_first, history}
+use Rattle.bill_diary.specs.Receiving.{takes, is_taken, is_declined}
 use Rattle.bill_diary.specs.Texts.{IsBodyOf}
 use Rattle.bill_diary.specs.Sound.{IsSound}
 use Rattle.closed_family.specs.declared.family.Member.{Member}
 use Rattle.closed_family.specs.Chains.{IsAmong}
 use Rattle.closed_family.specs.Histories.{is_signed}
-use Rattle.closed_family.specs.Closed.{Histories, IsBacked}
+use Rattle.closed_family.specs.Closed.{Histories, IsCorroborated}
 use Rattle.closed_family.specs.Safe.{IsSafe}
 
 -- ---- the histories of a bill in a family
@@ -38,6 +40,10 @@ histories_of bill (member ∷ members) platform =
 -- some diary of the family has the bill's Signed
 abbrev pub IsSignedIn : List Member → Checksum → Type 0
 IsSignedIn family bill = (p : PlatformCode) × (is_signed (histories_of bill family p) ≡ true)
+
+-- the records of a family: by platform, shard, frame and record
+abbrev pub records_in : List Member → List Record
+records_in family = flat_map (λ member. flat_map (λ diary. flat_map records_of diary) member.diaries) family
 
 -- ---- texts
 
@@ -99,8 +105,14 @@ pub record IsSoundFamily (family : List Member) : Type 0 where
 -- each record has what it says of other platforms in the histories of its bill
 abbrev pub IsClosedFamily : List Member → Type 0
 IsClosedFamily family =
-    (bill : Checksum) (m : Member) → IsAmong m family → IsBacked (histories_of bill family) (history_in bill m)
+    (bill : Checksum) (m : Member) → IsAmong m family → IsCorroborated (histories_of bill family) (history_in bill m)
 
--- each bill that was signed is safe
-abbrev pub IsSafeFamily : List Member → Type 0
-IsSafeFamily family = (bill : Checksum) → IsSignedIn family bill → IsSafe (histories_of bill family)
+-- a family is safe
+pub record IsSafeFamily (family : List Member) : Type 0 where
+  -- each bill that was signed is safe
+  pub bills : (bill : Checksum) → IsSignedIn family bill → IsSafe (histories_of bill family)
+  -- each entry is taken at most once in all diaries, whatever bills the records name
+  pub taken_once : (entry : Checksum) → count_by (takes entry) (records_in family) ≤ 1
+  -- and no diary has it both taken and declined
+  pub not_both : (entry : Checksum) (m : Member) (d : List Frame) → IsAmong m family → IsAmong d m.diaries
+      → is_taken entry (newest_first d) ≡ true → is_declined entry (newest_first d) ≡ false

@@ -47,5 +47,5 @@ links_of (Begun bill chain manifest body ∷ h) = chain ++ links_of h
 links_of (r ∷ h) = links_of h
 
 -- a chain is known that begins with this one
-abbrev pub KnowsBeyond : List ChainLink → List Record → Type 0
-KnowsBeyond before h = (K : List ChainLink) × (known h ≡ Some K) × IsPrefix before K
+abbrev pub ExtendsKnown : List ChainLink → List Record → Type 0
+ExtendsKnown before h = (K : List ChainLink) × (known h ≡ Some K) × IsPrefix before K

@@ -8,7 +8,7 @@ use Rattle.ebl_base.specs.declared.platform_code.PlatformCode.{PlatformCode}
 use Rattle.ebl_base.specs.declared.transaction.Transaction.{Transaction}
 use Rattle.title_fold.specs.declared.title.Title.TheVariants.{Ended}
 use Rattle.title_fold.specs.Fold.{fold}
-use Rattle.title_fold.specs.Chain.{transactions_of}
+use Rattle.bill_chain.specs.Chain.{transactions_of}
 use Rattle.bill_diary.specs.declared.record.Record.{Record}
 use Rattle.bill_diary.specs.declared.bill_place.BillPlace.{BillPlace}
 use Rattle.bill_diary.specs.declared.bill_place.BillPlace.TheVariants.{Held}

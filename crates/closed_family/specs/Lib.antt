@@ -8,3 +8,4 @@ pub mod Texts
 pub mod Bytes
 pub mod Survey
 pub mod Later
+pub mod Lack

@@ -1,17 +1,15 @@
 -- The accepted chains of a bill, the end of the longest, and what it means that the bill is safe.
-use Rattle.std.specs.Prelude.{◌≡◌, ◌⊎◌, ◌≤◌, true, false, List, [], ◌∷◌, ◌++◌, Some, Ok, length, count_by}
-use Rattle.ebl_base.specs.declared.checksum.Checksum.{Checksum}
+use Rattle.std.specs.Prelude.{◌≡◌, ◌⊎◌, ◌≤◌, true, List, [], ◌∷◌, ◌++◌, Some, Ok, length}
 use Rattle.ebl_base.specs.declared.chain.ChainLink.{ChainLink}
 use Rattle.ebl_base.specs.declared.platform_code.PlatformCode.{PlatformCode}
 use Rattle.ebl_base.specs.declared.transaction.Transaction.{Transaction}
 use Rattle.title_fold.specs.declared.title.Title.{Title}
 use Rattle.title_fold.specs.Title.{possessor}
 use Rattle.title_fold.specs.Fold.{fold}
-use Rattle.title_fold.specs.Chain.{destination, transactions_of}
+use Rattle.bill_chain.specs.Chain.{destination, transactions_of}
 use Rattle.bill_diary.specs.declared.bill_place.BillPlace.{BillPlace}
 use Rattle.bill_diary.specs.declared.bill_place.BillPlace.TheVariants.{Absent, Held, Parting, Gone}
 use Rattle.bill_diary.specs.Place.{place_of, taken_chains, may_act_by}
-use Rattle.bill_diary.specs.Receiving.{takes, is_taken, is_declined}
 use Rattle.closed_family.specs.Chains.{IsAmong, IsPrefix}
 use Rattle.closed_family.specs.Histories.{is_signed}
 use Rattle.closed_family.specs.Closed.{Histories}
@@ -57,7 +55,7 @@ transactions_at (Parting known link) = transactions_of known ++ front_of link.en
 transactions_at (Gone known) = transactions_of known
 
 -- the transactions fold to a title, which names possessor and title holder, and the possessor is on this platform
-pub record FoldsOn (p : PlatformCode) (transactions : List Transaction) : Type 0 where
+pub record TitleIsOn (p : PlatformCode) (transactions : List Transaction) : Type 0 where
   pub title : Title
   pub folds : fold transactions ≡ Ok (Some title)
   pub on : (possessor title).platform ≡ p
@@ -65,7 +63,7 @@ pub record FoldsOn (p : PlatformCode) (transactions : List Transaction) : Type 0
 -- a bill is safe
 pub record IsSafe (at : Histories) : Type 0 where
   -- of two accepted chains one is a prefix of the other
-  pub one_line : (c d : List ChainLink) → IsAccepted at c → IsAccepted at d → IsPrefix c d ⊎ IsPrefix d c
+  pub no_fork : (c d : List ChainLink) → IsAccepted at c → IsAccepted at d → IsPrefix c d ⊎ IsPrefix d c
   pub line : List ChainLink
   pub is_line : IsLine at line
   pub end : PlatformCode
@@ -76,9 +74,4 @@ pub record IsSafe (at : Histories) : Type 0 where
   -- nobody may act elsewhere
   pub acts_there_alone : (p : PlatformCode) → may_act_by (at p) ≡ true → p ≡ end
   -- the title there
-  pub title_there : FoldsOn end (transactions_at (place_of (at end)))
-  -- each entry is taken once, and none is both taken and declined
-  pub taken_on_one : (entry : Checksum) (p q : PlatformCode)
-      → is_taken entry (at p) ≡ true → is_taken entry (at q) ≡ true → p ≡ q
-  pub taken_once : (entry : Checksum) (p : PlatformCode) → count_by (takes entry) (at p) ≤ 1
-  pub not_both : (entry : Checksum) (p : PlatformCode) → is_taken entry (at p) ≡ true → is_declined entry (at p) ≡ false
+  pub title_there : TitleIsOn end (transactions_at (place_of (at end)))

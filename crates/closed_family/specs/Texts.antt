@@ -1,33 +1,30 @@
 -- The texts of a family in its order, each with its name, and the first name that two different ones share.
-use Rattle.std.specs.Prelude.{◌≡◌, ◌≢◌, ℕ, ◌||◌, List, [], ◌∷◌, ◌++◌, Option, Some, None, map, if◌then◌else◌}
+use Rattle.std.specs.Prelude.{◌≡◌, ◌≢◌, ℕ, List, [], ◌∷◌, ◌++◌, Option, Some, None, map, Result, Ok, Err}
 use Rattle.std.specs.List.{flat_map}
-use Rattle.std.specs.Option.{option_and_then}
 use Rattle.std.specs.Result.{result_ok}
-use Rattle.std.specs.Str.{is_utf8}
-use Rattle.serde_json.specs.Data.{Data}
-use Rattle.serde_json.specs.Read as serde
-use Rattle.serde_json.specs.Written.{has_float}
 use Rattle.canonical_json.specs.Canon.{canon}
-use Rattle.canonical_json.specs.Reading.{has_big, value_of}
+use Rattle.canonical_json.specs.Value.{Value}
+use Rattle.canonical_json.specs.Reading.{value_in}
+use Rattle.canonical_json.specs.declared.fault.ReadError.{ReadError}
 use Rattle.document_checksum.specs.Digest.{checksum_of}
 use Rattle.ebl_base.specs.declared.checksum.Checksum.{Checksum}
 use Rattle.envelope_manifest.specs.Body.{BodyRecord, body_of}
 use Rattle.bill_diary.specs.declared.record.Record.{Record}
 use Rattle.bill_diary.specs.declared.record.Record.TheVariants.{Signed, Parted, Begun}
-use Rattle.bill_diary.specs.History.{records_of}
 use Rattle.closed_family.specs.declared.family.Member.{Member}
 use Rattle.closed_family.specs.Chains.{IsAmong}
-use Rattle.closed_family.specs.Family.{IsTextIn}
+use Rattle.closed_family.specs.Family.{records_in, IsTextIn}
 
 -- ---- the texts of a record
 
--- the body that some data is, where its numbers are whole and in range
-abbrev pub body_in_data : Data → Option BodyRecord
-body_in_data d = if has_float d || has_big d then None else result_ok (body_of (value_of d))
+-- the body that was read, where a value was
+abbrev pub body_if_read : Result Value ReadError → Option BodyRecord
+body_if_read (Ok v) = result_ok (body_of v)
+body_if_read (Err e) = None
 
 -- the body that bytes are, where they are one
 abbrev pub body_in : List ℕ → Option BodyRecord
-body_in bytes = if is_utf8 bytes then option_and_then body_in_data (serde.read bytes) else None
+body_in bytes = body_if_read (value_in bytes)
 
 -- the document's text and the manifest's
 abbrev pub texts_of_body : Option BodyRecord → List (List ℕ)
@@ -51,10 +48,6 @@ pub record Named : Type 0 where
 -- a text under the name that it has
 abbrev pub named : List ℕ → Named
 named text = record { name = checksum_of text; text = text }
-
--- the records of a family: by platform, shard, frame and record
-abbrev pub records_in : List Member → List Record
-records_in family = flat_map (λ member. flat_map (λ diary. flat_map records_of diary) member.diaries) family
 
 -- the texts of records, in their order
 abbrev pub named_texts : List Record → List Named

@@ -1,40 +1,18 @@
 //! Where a chain moves possession.
-ghost use Rattle.std.specs.Prelude.{◌≡◌, IfOk};
-ghost use Rattle.title_fold.specs.Chain.{destination, transactions_of, platform_with};
-ghost use Rattle.title_fold.specs.Fold.{fold};
+ghost use Rattle.std.specs.Prelude.{◌≡◌};
+ghost use Rattle.bill_chain.specs.Chain.{destination};
 
-use ebl_base::{ChainLink, NoMemory, PlatformCode, Transaction};
-use std::alloc::Global;
-use title_fold::{fold, possessor};
+use bill_diary::title_after_chain;
+use ebl_base::{ChainLink, PlatformCode};
+use title_fold::possessor;
 
 /// Where a chain moves possession: the possessor's platform after it.
-pub(crate) fn destination(
-    alloc: Global,
-    chain: &[ChainLink],
-) -> Result<Option<PlatformCode>, NoMemory>
-    ensures { IfOk result (λ to. to ≡ destination chain.now) }
+#[tactic(auto, using(crate::proofs::Destinations::destinations))]
+pub(crate) fn destination(chain: &[ChainLink]) -> Option<PlatformCode>
+    ensures { result ≡ destination chain.now }
 {
-    let transactions = transactions_of(alloc, chain)?;
-    Ok(platform_after(&transactions))
-}
-
-// The possessor's platform after these transactions.
-fn platform_after(transactions: &[Transaction]) -> Option<PlatformCode>
-    ensures { result ≡ platform_with (fold transactions.now) }
-{
-    match fold(transactions) {
+    match title_after_chain(chain) {
         Ok(Some(title)) => Some(possessor(title).platform),
         _ => None,
     }
-}
-
-// The transactions of a chain, from its first entry on.
-fn transactions_of(alloc: Global, chain: &[ChainLink]) -> Result<Vec<Transaction>, NoMemory>
-    ensures { IfOk result (λ transactions. transactions.items ≡ transactions_of chain.now) }
-{
-    let mut transactions = Vec::new(alloc);
-    for link in chain {
-        transactions.extend_from_slice(link.entry.transactions.as_slice())?;
-    }
-    Ok(transactions)
 }

@@ -1,6 +1,7 @@
 //! The diaries of all platforms together.
 use bill_diary::Diary;
-use ebl_base::{Items, PlatformCode};
+use ebl_base::{Copied, Items, NoMemory, PlatformCode};
+use std::alloc::Global;
 
 /// A list of diaries.
 pub type DiaryList = Items<Diary>;
@@ -16,3 +17,12 @@ pub struct Member {
 
 /// The diaries of all platforms together. No order in time is between those of two platforms.
 pub type Family = Items<Member>;
+
+impl Copied for Member {
+    fn copy(&self, alloc: Global) -> Result<Self, NoMemory> {
+        Ok(Member {
+            platform: self.platform,
+            diaries: self.diaries.copy(alloc)?,
+        })
+    }
+}

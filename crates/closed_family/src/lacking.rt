@@ -1,16 +1,16 @@
 //! Which record a family lacks: one that another record needs.
 ghost use Rattle.std.specs.Prelude.{◌≡◌, Some, IfOk};
 ghost use Rattle.std.specs.List.{flat_map, list_any};
-ghost use Rattle.bill_diary.specs.History.{bill_of, newest_first};
-ghost use Rattle.bill_diary.specs.Known.{settled_chain};
+ghost use Rattle.bill_diary.specs.History.{bill_of, newest_first, record_at};
+ghost use Rattle.bill_diary.specs.Known.{settled_chain, taken_chain};
 ghost use Rattle.closed_family.specs.Family.{histories_of};
-ghost use Rattle.closed_family.specs.Lacking.{says, first_of, unparted, unanswered_of, lacking_of, lacking_in, lacking};
+ghost use Rattle.closed_family.specs.Lacking.{says, first_of, unparted, unparted_of, unanswered_of, lacking_of, lacking_in, lacking};
 
 use crate::destination::destination;
 use crate::family::Family;
 use crate::lookups::stands;
 use crate::verdict::Lack;
-use bill_diary::{Diary, History, Newest, Record, settled_chain, taken_chain};
+use bill_diary::{Diary, History, Newest, Record, RecordRef, settled_chain, taken_chain};
 use ebl_base::{ChainLink, Checksum, Copied, NoMemory, PlatformCode, SignedText};
 use std::alloc::Global;
 
@@ -70,7 +70,7 @@ fn unanswered(
     ensures { IfOk result (λ found. found ≡ first_of (unanswered_of
         (λ p. list_any (says what entry) (histories_of bill family.now p)) what (Some chain.now))) }
 {
-    let Some(platform) = destination(alloc, chain)? else {
+    let Some(platform) = destination(chain) else {
         return Ok(None);
     };
     let Some(link) = chain.last() else {
@@ -100,8 +100,40 @@ fn first_unanswered(
     }
 }
 
+// The same of the chain of a Taken, with the records of the bill before it.
+fn first_unparted_of(
+    alloc: Global,
+    family: &Family,
+    before: History,
+    bill: Checksum,
+    entry: Checksum,
+) -> Result<Option<Lacking>, NoMemory>
+    ensures { IfOk result (λ found. found ≡ first_of
+        (unparted_of (histories_of bill family.now) (taken_chain entry before.entry))) }
+{
+    match taken_chain(before, entry) {
+        Some(chain) => first_unparted(alloc, family, bill, chain.as_slice()),
+        None => Ok(None),
+    }
+}
+
 // The first that a record lacks, with the records of its bill before it.
 fn first_needed(
+    alloc: Global,
+    family: &Family,
+    before: History,
+    needy: RecordRef,
+) -> Result<Option<Lacking>, NoMemory>
+    ensures { IfOk result (λ found. found ≡ first_of
+        (lacking_of (histories_of (bill_of (record_at needy.entry)) family.now) before.entry (record_at needy.entry))) }
+{
+    match needy {
+        RecordRef::Kept(kept) => first_needed_by(alloc, family, before, kept),
+        RecordRef::Taken { bill, entry } => first_unparted_of(alloc, family, before, bill, entry),
+    }
+}
+
+fn first_needed_by(
     alloc: Global,
     family: &Family,
     before: History,
@@ -111,10 +143,7 @@ fn first_needed(
         (lacking_of (histories_of (bill_of needy.now) family.now) before.entry needy.now)) }
 {
     match needy {
-        Record::Taken { bill, entry } => match taken_chain(before, *entry) {
-            Some(chain) => first_unparted(alloc, family, *bill, chain.as_slice()),
-            None => Ok(None),
-        },
+        Record::Taken { bill, entry } => first_unparted_of(alloc, family, before, *bill, *entry),
         Record::Settled { bill, entry } => first_unanswered(
             alloc,
             family,

@@ -7,11 +7,11 @@ ghost use Rattle.bill_diary.specs.Known.{known};
 ghost use Rattle.bill_diary.specs.Place.{place_of, title_at, is_ended, is_regained, may_act_by};
 ghost use Rattle.bill_diary.specs.Receiving.{is_taken, is_declined, continues};
 ghost use Rattle.bill_diary.specs.declared.bill_place.BillPlace.TheVariants.{Held};
-ghost use Rattle.title_fold.specs.Chain.{last_of, destination, IsGoodChain};
+ghost use Rattle.bill_chain.specs.Chain.{last_of, destination, IsChainOfBill};
 ghost use Rattle.bill_diary.specs.Sound.{IsSoundHistory};
-ghost use Rattle.closed_family.specs.Chains.{AreNamed};
-ghost use Rattle.closed_family.specs.Histories.{PartedOn, WasAccepted, links_of, KnowsBeyond};
-ghost use Rattle.closed_family.specs.Closed.{AreGrounded};
+ghost use Rattle.closed_family.specs.Chains.{NamesDetermineLinks};
+ghost use Rattle.closed_family.specs.Histories.{PartedOn, WasAccepted, links_of, ExtendsKnown};
+ghost use Rattle.closed_family.specs.Closed.{EveryEntryWasParted};
 ghost use Rattle.closed_family.specs.Lacking.{lacking};
 ghost use Rattle.closed_family.specs.Later.{IsLaterThan, IsEndedAt};
 ghost use Rattle.closed_family.specs.Family.{histories_of, IsSignedIn, IsSoundFamily, IsClosedFamily};
@@ -25,8 +25,8 @@ use envelope_manifest::Manifest;
 /// records stand after it, a chain is known that begins with it.
 pub fn known_chain_stays_a_prefix()
     ensures { (me : PlatformCode) (more h : List Record) (K : List ChainLink)
-        → IsSoundHistory me (more ++ h) → AreNamed (links_of (more ++ h))
-        → known h ≡ Some K → KnowsBeyond K (more ++ h) }
+        → IsSoundHistory me (more ++ h) → NamesDetermineLinks (links_of (more ++ h))
+        → known h ≡ Some K → ExtendsKnown K (more ++ h) }
 {}
 
 /// Of two entries that a platform parted on one known chain, the earlier was regained before the later one was parted.
@@ -34,7 +34,7 @@ pub fn earlier_parted_entry_was_regained()
     ensures { (me : PlatformCode) (bill : Checksum) (link : ChainLink) (manifest : Manifest) (text : SignedText)
         → (h : List Record) (K : List ChainLink) (e : ChainLink)
         → IsSoundHistory me (Parted bill link manifest text ∷ h)
-        → AreNamed (links_of (Parted bill link manifest text ∷ h))
+        → NamesDetermineLinks (links_of (Parted bill link manifest text ∷ h))
         → known h ≡ Some K → PartedOn K e h
         → is_regained e.name h ≡ true }
 {}
@@ -45,7 +45,7 @@ pub fn parted_chain_was_accepted_before()
     ensures { (me : PlatformCode) (bill : Checksum) (link : ChainLink) (manifest : Manifest) (text : SignedText)
         → (h : List Record) (K : List ChainLink)
         → IsSoundHistory me (Parted bill link manifest text ∷ h)
-        → AreNamed (links_of (Parted bill link manifest text ∷ h))
+        → NamesDetermineLinks (links_of (Parted bill link manifest text ∷ h))
         → known h ≡ Some K → WasAccepted K h }
 {}
 
@@ -53,16 +53,16 @@ pub fn parted_chain_was_accepted_before()
 /// held there, by the same chain, with the same transactions.
 pub fn ended_bill_stays()
     ensures { (me : PlatformCode) (more h : List Record) (K : List ChainLink) (made : List Transaction)
-        → IsSoundHistory me (more ++ h) → AreNamed (links_of (more ++ h))
+        → IsSoundHistory me (more ++ h) → NamesDetermineLinks (links_of (more ++ h))
         → place_of h ≡ Held K made → is_ended (title_at (Held K made)) ≡ true
         → place_of (more ++ h) ≡ Held K made }
 {}
 
 /// Every sound and closed family whose texts have distinct names is safe, in whatever order things happened on two
-/// platforms. For each bill that was signed: of two accepted chains one is a prefix of the other; the end of the
-/// longest is the one place where the bill is held or parting, and nobody may act elsewhere; folding that chain, with
-/// what its end recorded since, names possessor and title holder; each entry is taken once, and none is both taken and
-/// declined.
+/// platforms. For each bill that was signed: of two accepted chains one is a prefix of the other; at the end of the
+/// longest the bill is held or parting by that whole chain, and it is held nowhere else; nobody may act elsewhere;
+/// folding that chain, with what its end recorded since, names possessor and title holder. Whatever bills the records
+/// name, each entry is taken at most once in all diaries, and no diary has one both taken and declined.
 pub fn closed_family_is_safe()
     ensures { (family : List Member)
         → IsSoundFamily family → IsClosedFamily family → HasDistinctNames family
@@ -101,14 +101,14 @@ pub fn grounded_chain_continues_the_place()
     ensures { (family : List Member)
         → IsSoundFamily family → IsClosedFamily family → HasDistinctNames family
         → (bill : Checksum) (chain : List ChainLink) (last : ChainLink) (to : PlatformCode)
-        → IsGoodChain bill chain → AreGrounded (histories_of bill family) chain
+        → IsChainOfBill bill chain → EveryEntryWasParted (histories_of bill family) chain
         → last_of chain ≡ Some last → destination chain ≡ Some to
         → is_taken last.name (histories_of bill family to) ≡ false
         → is_declined last.name (histories_of bill family to) ≡ false
         → continues (place_of (histories_of bill family to)) chain ≡ true }
 {}
 
-/// A sound family lacks nothing exactly where it is closed.
+/// A sound family lacks nothing if and only if it is closed.
 pub fn closed_family_lacks_nothing()
     ensures closed { (family : List Member) → lacking family ≡ [] → IsClosedFamily family }
     ensures complete { (family : List Member)

@@ -2,12 +2,13 @@
 ghost use Rattle.std.specs.Prelude.{◌≡◌, find, option_copied};
 ghost use Rattle.std.specs.List.{list_any};
 ghost use Rattle.ebl_base.specs.PlatformCode.{code_eq};
+ghost use Rattle.bill_diary.specs.History.{record_at};
 ghost use Rattle.closed_family.specs.Family.{histories_of, history_in, shard_of};
 ghost use Rattle.closed_family.specs.Lacking.{says};
 
 use crate::family::{Family, Member};
 use crate::verdict::Lack;
-use bill_diary::{History, Record};
+use bill_diary::{History, Record, RecordRef};
 use ebl_base::{Checksum, PlatformCode};
 
 /// Whether a platform's diary of the bill has the record that says this of an entry.
@@ -64,7 +65,19 @@ fn is_said(mut h: History, what: Lack, entry: Checksum) -> bool
 }
 
 // Whether a record says this of an entry.
-fn says(candidate: &Record, what: Lack, entry: Checksum) -> bool
+fn says(candidate: RecordRef, what: Lack, entry: Checksum) -> bool
+    ensures { result ≡ says what entry (record_at candidate.entry) }
+{
+    match candidate {
+        RecordRef::Kept(kept) => is_saying(kept, what, entry),
+        RecordRef::Taken { entry: other, .. } => match what {
+            Lack::Taken => other == entry,
+            Lack::Parted | Lack::Declined => false,
+        },
+    }
+}
+
+fn is_saying(candidate: &Record, what: Lack, entry: Checksum) -> bool
     ensures { result ≡ says what entry candidate.now }
 {
     match (what, candidate) {

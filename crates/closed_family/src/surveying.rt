@@ -18,7 +18,7 @@ use std::alloc::Global;
 /// first name that two different texts share, else the first record that is lacking, in the order of the family (by
 /// platform, shard, frame and record, and within a record as `docs/safety.md` says).
 ///
-/// It answers for every family. Where the family is sound, it answers [`Verdict::Consistent`] exactly where the family
+/// It answers for every family. Where the family is sound, it answers [`Verdict::Consistent`] exactly when the family
 /// is closed and its texts have distinct names, and then each bill is safe.
 ///
 /// Shared names are found with about n log n comparisons of names for n texts; each text is hashed once, and each body

@@ -127,10 +127,8 @@ fn push_frame<'a>(
 {
     match frame {
         Frame::One(record) => push_record(alloc, texts, record),
-        Frame::BegunTaken { begun, taken } => {
-            push_record(alloc, texts, begun)?;
-            push_record(alloc, texts, taken)
-        }
+        // The Taken that follows has no text.
+        Frame::BegunTaken(begun) => push_record(alloc, texts, begun),
     }
 }
 

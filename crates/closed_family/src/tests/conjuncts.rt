@@ -2,13 +2,13 @@
 //! lacking, or a diary isn't sound, or a document was signed on two platforms. A line and its end are there for each
 //! bill that was signed: they can't be broken.
 use super::making::{
-    Act, At, Bill, Found, ISSUED, NOTHING, SETTLED, Step, Story, TAKEN, Way, bill_with, code,
-    diary, family, lacks, link, shard, shown, tag, transaction,
+    Act, At, Bill, EntryId, Found, ISSUED, NOTHING, SETTLED, Step, Story, TAKEN, bill_with, code,
+    diary, family, lacks, link, shard, shown, transaction,
 };
 use crate::{Family, Lack, survey};
 use bill_diary::{BillPlace, Diary, Frame, Record, is_taken, last_declined, may_act, place};
 use ebl_base::{
-    ByteList, ChainLink, Checksum, Items, NoMemory, PlaceTag, Transaction, TransactionList,
+    ByteList, ChainLink, Checksum, Copied, Items, NoMemory, PlaceTag, Transaction, TransactionList,
 };
 use std::alloc::Global;
 use std::process::Abort;
@@ -21,13 +21,13 @@ const THREE: [At; 3] = [At::Alph, At::Beta, At::Gamm];
 const REGAINED: [Step; 4] = [
     Step::Signed(Act::Sign),
     Step::Acted(Act::Issue),
-    Step::Parted(Way::First),
-    Step::Regained(Way::First),
+    Step::Parted(EntryId::First),
+    Step::Regained(EntryId::First),
 ];
 
 /// A bill, and a family in which it is the only one.
 #[derive(Drop)]
-struct Scene {
+struct Scenario {
     bill: Bill,
     family: Family,
 }
@@ -37,7 +37,7 @@ fn staged<'a>(
     alph: &'a [Step],
     beta: &'a [Step],
     gamm: &'a [Step],
-) -> Result<Scene, Fail> {
+) -> Result<Scenario, Fail> {
     let bill = bill_with(alloc, b'1')?;
     let story = Story {
         bill: &bill,
@@ -47,21 +47,21 @@ fn staged<'a>(
         gamm,
     };
     let family = family(alloc, &THREE, &[story])?;
-    Ok(Scene { bill, family })
+    Ok(Scenario { bill, family })
 }
 
-impl Scene {
+impl Scenario {
     fn found(&self, alloc: Global) -> Result<Found, Fail> {
-        let verdict = survey(alloc, &self.family)?;
+        let verdict = survey(alloc, &self.family.copy(alloc)?)?;
         Ok(shown(&verdict))
     }
 
     fn lacks(&self, alloc: Global, at: At, what: Lack) -> Result<Found, Fail> {
-        lacks(alloc, at, what, &self.bill, Way::First)
+        lacks(alloc, at, what, &self.bill, EntryId::First)
     }
 
-    fn name(&self, alloc: Global, way: Way) -> Result<Checksum, Fail> {
-        Ok(link(alloc, &self.bill, way)?.name)
+    fn name(&self, alloc: Global, id: EntryId) -> Result<Checksum, Fail> {
+        Ok(link(alloc, &self.bill, id)?.name)
     }
 
     // The diary of the bill on a platform.
@@ -146,7 +146,7 @@ fn place_before_last(alloc: Global, steps: &[Step]) -> Result<BillPlace, Fail> {
 }
 
 fn tag_before_last(alloc: Global, steps: &[Step]) -> Result<PlaceTag, Fail> {
-    Ok(tag(&place_before_last(alloc, steps)?))
+    Ok(place_before_last(alloc, steps)?.tag())
 }
 
 // ---- nobody acts elsewhere, and the bill is held nowhere else
@@ -197,12 +197,12 @@ fn two_may_act_where_two_signed(rt: HostRuntime) -> Result<(), Fail> {
 // ---- of two accepted chains one is a prefix of the other
 
 // BETA and GAMM hold the bill by chains that part at their first entries.
-fn forks<R: Abort>(rt: &R, alloc: Global, scene: &Scene) -> Result<(), Fail> {
+fn forks<R: Abort>(rt: &R, alloc: Global, scene: &Scenario) -> Result<(), Fail> {
     assert_eq!(rt; scene.acts(alloc)?, [false, true, true]);
     let at_beta = scene.only_entry(alloc, At::Beta)?;
     let at_gamm = scene.only_entry(alloc, At::Gamm)?;
-    assert_eq!(rt; at_beta, Some(scene.name(alloc, Way::First)?));
-    assert_eq!(rt; at_gamm, Some(scene.name(alloc, Way::Fork)?));
+    assert_eq!(rt; at_beta, Some(scene.name(alloc, EntryId::First)?));
+    assert_eq!(rt; at_gamm, Some(scene.name(alloc, EntryId::Fork)?));
     assert!(rt; at_beta != at_gamm);
     Ok(())
 }
@@ -214,10 +214,10 @@ fn a_fork_by_a_second_parted(rt: HostRuntime) -> Result<(), Fail> {
     let alph = [
         Step::Signed(Act::Sign),
         Step::Acted(Act::Issue),
-        Step::Parted(Way::First),
-        Step::Parted(Way::Fork),
+        Step::Parted(EntryId::First),
+        Step::Parted(EntryId::Fork),
     ];
-    let gamm = [Step::BegunTaken(Way::Fork)];
+    let gamm = [Step::BegunTaken(EntryId::Fork)];
     let scene = staged(alloc, &alph, &TAKEN, &gamm)?;
     forks(&rt, alloc, &scene)?;
     assert_eq!(rt; scene.found(alloc)?, Found::Consistent);
@@ -232,11 +232,11 @@ fn a_fork_where_nobody_declined(rt: HostRuntime) -> Result<(), Fail> {
     let alph = [
         Step::Signed(Act::Sign),
         Step::Acted(Act::Issue),
-        Step::Parted(Way::First),
-        Step::Regained(Way::First),
-        Step::Parted(Way::Fork),
+        Step::Parted(EntryId::First),
+        Step::Regained(EntryId::First),
+        Step::Parted(EntryId::Fork),
     ];
-    let gamm = [Step::BegunTaken(Way::Fork)];
+    let gamm = [Step::BegunTaken(EntryId::Fork)];
     let scene = staged(alloc, &alph, &TAKEN, &gamm)?;
     forks(&rt, alloc, &scene)?;
     let want = scene.lacks(alloc, At::Beta, Lack::Declined)?;
@@ -257,7 +257,7 @@ fn nobody_holds_where_nobody_took(rt: HostRuntime) -> Result<(), Fail> {
         (At::Beta, PlaceTag::Absent),
         (At::Gamm, PlaceTag::Absent),
     ] {
-        assert_eq!(rt; tag(&scene.place(alloc, at)?), want, "{at:?}");
+        assert_eq!(rt; scene.place(alloc, at)?.tag(), want, "{at:?}");
     }
     let want = scene.lacks(alloc, At::Beta, Lack::Taken)?;
     assert_eq!(rt; scene.found(alloc)?, want);
@@ -280,7 +280,7 @@ fn no_title_at_the_end(rt: HostRuntime) -> Result<(), Fail> {
     for alph in rows {
         let scene = staged(alloc, alph, &NOTHING, &NOTHING)?;
         assert_eq!(rt; scene.found(alloc)?, Found::Consistent);
-        assert_eq!(rt; tag(&scene.place(alloc, At::Alph)?), PlaceTag::Held);
+        assert_eq!(rt; scene.place(alloc, At::Alph)?.tag(), PlaceTag::Held);
         let transactions = scene.transactions(alloc, At::Alph)?;
         assert!(rt; fold(transactions.as_slice()).is_err(), "{alph:?}");
         assert_eq!(rt; tag_before_last(alloc, alph)?, PlaceTag::Held);
@@ -299,7 +299,7 @@ fn the_possessor_is_elsewhere(rt: HostRuntime) -> Result<(), Fail> {
     ];
     let scene = staged(alloc, &alph, &NOTHING, &NOTHING)?;
     assert_eq!(rt; scene.found(alloc)?, Found::Consistent);
-    assert_eq!(rt; tag(&scene.place(alloc, At::Alph)?), PlaceTag::Held);
+    assert_eq!(rt; scene.place(alloc, At::Alph)?.tag(), PlaceTag::Held);
     let after = scene.title(alloc, At::Alph)?;
     assert_eq!(rt; possessor(after).platform, code(At::Beta)?);
     let front = place_before_last(alloc, &alph)?;
@@ -316,7 +316,7 @@ fn a_transaction_that_no_chain_has(rt: HostRuntime) -> Result<(), Fail> {
     let alph = [
         Step::Signed(Act::Sign),
         Step::Acted(Act::Issue),
-        Step::Parted(Way::First),
+        Step::Parted(EntryId::First),
         Step::Acted(Act::ToBank),
     ];
     let scene = staged(alloc, &alph, &TAKEN, &NOTHING)?;
@@ -341,7 +341,7 @@ fn taken_on_two_platforms(rt: HostRuntime) -> Result<(), Fail> {
     let alloc = rt.alloc();
     let scene = staged(alloc, &SETTLED, &TAKEN, &TAKEN)?;
     assert_eq!(rt; scene.found(alloc)?, Found::Consistent);
-    let entry = scene.name(alloc, Way::First)?;
+    let entry = scene.name(alloc, EntryId::First)?;
     assert!(rt; is_taken(scene.diary(At::Beta)?, entry));
     assert!(rt; is_taken(scene.diary(At::Gamm)?, entry));
     let destination = possessor(scene.title(alloc, At::Gamm)?).platform;
@@ -353,21 +353,22 @@ fn taken_on_two_platforms(rt: HostRuntime) -> Result<(), Fail> {
 fn takings(alloc: Global, diary: &Diary, entry: Checksum) -> Result<usize, NoMemory> {
     let mut found = Items::new(alloc);
     for frame in diary.as_slice() {
-        let last = match frame {
-            Frame::One(record) => record,
-            Frame::BegunTaken { taken, .. } => taken,
-        };
-        if takes(last, entry) {
+        if taken_by(frame) == Some(entry) {
             found.push(entry)?;
         }
     }
     Ok(found.len())
 }
 
-fn takes(candidate: &Record, entry: Checksum) -> bool {
-    match candidate {
-        Record::Taken { entry: other, .. } => *other == entry,
-        _ => false,
+// The entry that was taken with a frame.
+fn taken_by(frame: &Frame) -> Option<Checksum> {
+    match frame {
+        Frame::One(Record::Taken { entry, .. }) => Some(*entry),
+        Frame::BegunTaken(Record::Begun { chain, .. }) => {
+            let last = chain.as_slice().last()?;
+            Some(last.name)
+        }
+        _ => None,
     }
 }
 
@@ -375,10 +376,13 @@ fn takes(candidate: &Record, entry: Checksum) -> bool {
 #[test]
 fn taken_twice(rt: HostRuntime) -> Result<(), Fail> {
     let alloc = rt.alloc();
-    let beta = [Step::BegunTaken(Way::First), Step::Taken(Way::First)];
+    let beta = [
+        Step::BegunTaken(EntryId::First),
+        Step::Taken(EntryId::First),
+    ];
     let scene = staged(alloc, &SETTLED, &beta, &NOTHING)?;
     assert_eq!(rt; scene.found(alloc)?, Found::Consistent);
-    let entry = scene.name(alloc, Way::First)?;
+    let entry = scene.name(alloc, EntryId::First)?;
     assert_eq!(rt; takings(alloc, scene.diary(At::Beta)?, entry)?, 2);
     assert!(rt; is_taken(&before_last(alloc, &beta)?, entry));
     Ok(())
@@ -388,12 +392,18 @@ fn taken_twice(rt: HostRuntime) -> Result<(), Fail> {
 #[test]
 fn taken_and_declined(rt: HostRuntime) -> Result<(), Fail> {
     let alloc = rt.alloc();
-    let later_declined = [Step::BegunTaken(Way::First), Step::Declined(Way::First)];
-    let later_taken = [Step::Declined(Way::First), Step::BegunTaken(Way::First)];
+    let later_declined = [
+        Step::BegunTaken(EntryId::First),
+        Step::Declined(EntryId::First),
+    ];
+    let later_taken = [
+        Step::Declined(EntryId::First),
+        Step::BegunTaken(EntryId::First),
+    ];
     for beta in [later_declined, later_taken] {
         let scene = staged(alloc, &SETTLED, &beta, &NOTHING)?;
         assert_eq!(rt; scene.found(alloc)?, Found::Consistent);
-        let entry = scene.name(alloc, Way::First)?;
+        let entry = scene.name(alloc, EntryId::First)?;
         let diary = scene.diary(At::Beta)?;
         assert!(rt; is_taken(diary, entry));
         assert!(rt; last_declined(diary, entry).is_some());

@@ -1,12 +1,12 @@
 //! Families of real texts, signed by the test ring, made from what was written down of one bill after the other.
 use crate::{Family, Lack, Member, Verdict};
-use bill_diary::{BillPlace, Diary, Frame, Record};
+use bill_diary::{Diary, Frame, Record};
 use canonical_json::{Json, is_lawful, read};
 use chain_entry::encode;
 use document_checksum::checksum;
 use ebl_base::{
     ByteList, Chain, ChainLink, Checksum, Code, Copied, Entry, Evidence, Items, Kind, Moment,
-    Party, PlaceTag, PlatformCode, Reason, SignedText, Transaction, TransactionList,
+    Party, PlatformCode, Reason, SignedText, Transaction, TransactionList,
 };
 use envelope_manifest::{Body, Manifest};
 use signed_envelope::compose;
@@ -42,7 +42,7 @@ pub(crate) enum Act {
 
 /// An entry of the tests, which is the last of its chain.
 #[derive(Clone, Copy, Debug, PartialEq, Eq)]
-pub(crate) enum Way {
+pub(crate) enum EntryId {
     /// From ALPH to BETA.
     First,
     /// The same as a second attempt.
@@ -58,12 +58,12 @@ pub(crate) enum Way {
 pub(crate) enum Step {
     Signed(Act),
     Acted(Act),
-    Parted(Way),
-    Settled(Way),
-    Regained(Way),
-    Taken(Way),
-    BegunTaken(Way),
-    Declined(Way),
+    Parted(EntryId),
+    Settled(EntryId),
+    Regained(EntryId),
+    Taken(EntryId),
+    BegunTaken(EntryId),
+    Declined(EntryId),
 }
 
 /// A bill: its name, and the canonical text of its document.
@@ -141,12 +141,12 @@ fn sealed(alloc: Global, who: PlatformCode, payload: &Json) -> Result<SignedText
 }
 
 // The transactions of an entry.
-fn transactions(alloc: Global, way: Way) -> Result<TransactionList, Fail> {
+fn transactions(alloc: Global, id: EntryId) -> Result<TransactionList, Fail> {
     let mut list = TransactionList::new(alloc);
-    let last = match way {
-        Way::First | Way::Again => Act::ToImporter,
-        Way::Fork => Act::ToAgent,
-        Way::Back => Act::Back,
+    let last = match id {
+        EntryId::First | EntryId::Again => Act::ToImporter,
+        EntryId::Fork => Act::ToAgent,
+        EntryId::Back => Act::Back,
     };
     if last != Act::Back {
         list.push(transaction(Act::Sign)?)?;
@@ -161,19 +161,19 @@ fn link_after(
     alloc: Global,
     bill: Checksum,
     previous: Option<Checksum>,
-    way: Way,
+    id: EntryId,
 ) -> Result<ChainLink, Fail> {
-    let (at, attempt) = match way {
-        Way::First => (At::Alph, 1),
-        Way::Again | Way::Fork => (At::Alph, 2),
-        Way::Back => (At::Beta, 1),
+    let (at, attempt) = match id {
+        EntryId::First => (At::Alph, 1),
+        EntryId::Again | EntryId::Fork => (At::Alph, 2),
+        EntryId::Back => (At::Beta, 1),
     };
     let entry = Entry {
         platform: code(at)?,
         bill,
         previous,
         attempt,
-        transactions: transactions(alloc, way)?,
+        transactions: transactions(alloc, id)?,
     };
     let text = sealed(alloc, entry.platform, &encode(alloc, &entry)?)?;
     Ok(ChainLink {
@@ -184,21 +184,21 @@ fn link_after(
 }
 
 /// An entry of the bill.
-pub(crate) fn link(alloc: Global, bill: &Bill, way: Way) -> Result<ChainLink, Fail> {
-    let previous = match way {
-        Way::Back => Some(link_after(alloc, bill.name, None, Way::First)?.name),
+pub(crate) fn link(alloc: Global, bill: &Bill, id: EntryId) -> Result<ChainLink, Fail> {
+    let previous = match id {
+        EntryId::Back => Some(link_after(alloc, bill.name, None, EntryId::First)?.name),
         _ => None,
     };
-    link_after(alloc, bill.name, previous, way)
+    link_after(alloc, bill.name, previous, id)
 }
 
 /// The chain that ends in an entry.
-fn chain(alloc: Global, bill: &Bill, way: Way) -> Result<Chain, Fail> {
+fn chain(alloc: Global, bill: &Bill, id: EntryId) -> Result<Chain, Fail> {
     let mut chain = Chain::new(alloc);
-    if way == Way::Back {
-        chain.push(link(alloc, bill, Way::First)?)?;
+    if id == EntryId::Back {
+        chain.push(link(alloc, bill, EntryId::First)?)?;
     }
-    chain.push(link(alloc, bill, way)?)?;
+    chain.push(link(alloc, bill, id)?)?;
     Ok(chain)
 }
 
@@ -221,8 +221,8 @@ fn manifest_text(
 
 // ---- records
 
-fn parted(alloc: Global, bill: &Bill, way: Way) -> Result<Record, Fail> {
-    let link = link(alloc, bill, way)?;
+fn parted(alloc: Global, bill: &Bill, id: EntryId) -> Result<Record, Fail> {
+    let link = link(alloc, bill, id)?;
     let manifest = manifest(alloc, bill, link.name);
     Ok(Record::Parted {
         bill: bill.name,
@@ -232,9 +232,9 @@ fn parted(alloc: Global, bill: &Bill, way: Way) -> Result<Record, Fail> {
     })
 }
 
-pub(crate) fn begun(alloc: Global, bill: &Bill, way: Way) -> Result<Record, Fail> {
-    let last = link(alloc, bill, way)?;
-    let chain = chain(alloc, bill, way)?;
+pub(crate) fn begun(alloc: Global, bill: &Bill, id: EntryId) -> Result<Record, Fail> {
+    let last = link(alloc, bill, id)?;
+    let chain = chain(alloc, bill, id)?;
     let manifest = manifest(alloc, bill, last.name);
     let mut texts = Items::new(alloc);
     for link in chain.as_slice() {
@@ -264,22 +264,22 @@ fn record(alloc: Global, bill: &Bill, step: Step) -> Result<Record, Fail> {
             bill: bill.name,
             transaction: transaction(act)?,
         }),
-        Step::Parted(way) => parted(alloc, bill, way),
-        Step::Settled(way) => Ok(Record::Settled {
+        Step::Parted(id) => parted(alloc, bill, id),
+        Step::Settled(id) => Ok(Record::Settled {
             bill: bill.name,
-            entry: link(alloc, bill, way)?.name,
+            entry: link(alloc, bill, id)?.name,
         }),
-        Step::Regained(way) => Ok(Record::Regained {
+        Step::Regained(id) => Ok(Record::Regained {
             bill: bill.name,
-            entry: link(alloc, bill, way)?.name,
+            entry: link(alloc, bill, id)?.name,
         }),
-        Step::Taken(way) | Step::BegunTaken(way) => Ok(Record::Taken {
+        Step::Taken(id) | Step::BegunTaken(id) => Ok(Record::Taken {
             bill: bill.name,
-            entry: link(alloc, bill, way)?.name,
+            entry: link(alloc, bill, id)?.name,
         }),
-        Step::Declined(way) => Ok(Record::Declined {
+        Step::Declined(id) => Ok(Record::Declined {
             bill: bill.name,
-            entry: link(alloc, bill, way)?.name,
+            entry: link(alloc, bill, id)?.name,
             code: Code::BadEnvelope,
             reason: Reason::Party,
             evidence: Evidence {
@@ -292,13 +292,9 @@ fn record(alloc: Global, bill: &Bill, step: Step) -> Result<Record, Fail> {
 
 /// What is written down at once.
 pub(crate) fn frame(alloc: Global, bill: &Bill, step: Step) -> Result<Frame, Fail> {
-    let record = record(alloc, bill, step)?;
     match step {
-        Step::BegunTaken(way) => Ok(Frame::BegunTaken {
-            begun: begun(alloc, bill, way)?,
-            taken: record,
-        }),
-        _ => Ok(Frame::One(record)),
+        Step::BegunTaken(id) => Ok(Frame::BegunTaken(begun(alloc, bill, id)?)),
+        _ => Ok(Frame::One(record(alloc, bill, step)?)),
     }
 }
 
@@ -324,19 +320,19 @@ pub(crate) const ISSUED: [Step; 2] = [Step::Signed(Act::Sign), Step::Acted(Act::
 pub(crate) const SENT: [Step; 3] = [
     Step::Signed(Act::Sign),
     Step::Acted(Act::Issue),
-    Step::Parted(Way::First),
+    Step::Parted(EntryId::First),
 ];
 
 /// At ALPH: BETA has answered that it received it.
 pub(crate) const SETTLED: [Step; 4] = [
     Step::Signed(Act::Sign),
     Step::Acted(Act::Issue),
-    Step::Parted(Way::First),
-    Step::Settled(Way::First),
+    Step::Parted(EntryId::First),
+    Step::Settled(EntryId::First),
 ];
 
 /// At BETA: the bill came.
-pub(crate) const TAKEN: [Step; 1] = [Step::BegunTaken(Way::First)];
+pub(crate) const TAKEN: [Step; 1] = [Step::BegunTaken(EntryId::First)];
 
 impl<'a> Story<'a> {
     /// What was written down of a bill on two platforms, in the diaries of its shard.
@@ -404,16 +400,6 @@ pub(crate) fn family(alloc: Global, platforms: &[At], stories: &[Story]) -> Resu
     Ok(family)
 }
 
-/// Which of the four places it is.
-pub(crate) fn tag(place: &BillPlace) -> PlaceTag {
-    match place {
-        BillPlace::Absent => PlaceTag::Absent,
-        BillPlace::Held { .. } => PlaceTag::Held,
-        BillPlace::Parting { .. } => PlaceTag::Parting,
-        BillPlace::Gone { .. } => PlaceTag::Gone,
-    }
-}
-
 // ---- verdicts
 
 /// A verdict with the name of the entry instead of its text.
@@ -442,7 +428,7 @@ pub(crate) fn lacks(
     at: At,
     what: Lack,
     bill: &Bill,
-    way: Way,
+    id: EntryId,
 ) -> Result<Found, Fail> {
-    Ok(Found::Lacks(code(at)?, what, link(alloc, bill, way)?.name))
+    Ok(Found::Lacks(code(at)?, what, link(alloc, bill, id)?.name))
 }

@@ -1,5 +1,6 @@
 //! Names that two different texts share. The names are made up, since real ones are SHA-256, of which no two such texts
 //! are known.
+use crate::Lack;
 use crate::shared::first_shared;
 use crate::texts::{NamedText, Text};
 use ebl_base::{Checksum, NoMemory};
@@ -43,4 +44,11 @@ fn first_of_two_shared_names(rt: HostRuntime) -> Result<(), Fail> {
     )?;
     assert_eq!(rt; shared, Some(Checksum([2; 32])));
     Ok(())
+}
+
+#[test]
+fn names_of_lacking_records(rt: HostRuntime) {
+    assert!(rt; Lack::Parted.as_str() == "PARTED");
+    assert!(rt; Lack::Taken.as_str() == "TAKEN");
+    assert!(rt; Lack::Declined.as_str() == "DECLINED");
 }

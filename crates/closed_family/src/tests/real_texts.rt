@@ -1,5 +1,5 @@
 //! The texts in these families are those that the values beside them say, and a survey can read them.
-use super::making::{At, Way, begun, bill_with, code};
+use super::making::{At, EntryId, begun, bill_with, code};
 use bill_diary::Record;
 use canonical_json::write;
 use document_checksum::checksum;
@@ -36,7 +36,7 @@ fn texts_of_a_begun(rt: HostRuntime) -> Result<(), Fail> {
         manifest,
         body,
         ..
-    } = begun(alloc, &bill, Way::Back)?
+    } = begun(alloc, &bill, EntryId::Back)?
     else {
         return Err("a Begun".into());
     };

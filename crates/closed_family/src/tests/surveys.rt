@@ -1,12 +1,12 @@
 //! What a survey finds: nothing, a record that is lacking, or the first of two. Where a row doesn't say otherwise, each
 //! step may follow where the bill stands, as the first test shows.
 use super::making::{
-    Act, At, Bill, Found, ISSUED, NOTHING, SENT, SETTLED, Step, Story, TAKEN, Way, bill_with,
-    family, frame, lacks, shard, shown, tag,
+    Act, At, Bill, EntryId, Found, ISSUED, NOTHING, SENT, SETTLED, Step, Story, TAKEN, bill_with,
+    family, frame, lacks, shard, shown,
 };
 use crate::{Lack, survey};
 use bill_diary::place;
-use ebl_base::{Items, PlaceTag};
+use ebl_base::{Copied, Items, PlaceTag};
 use std::alloc::Global;
 use std::process::Abort;
 use std::test::Fail;
@@ -17,31 +17,34 @@ const TWO: [At; 2] = [At::Alph, At::Beta];
 const RETURNED: [Step; 5] = [
     Step::Signed(Act::Sign),
     Step::Acted(Act::Issue),
-    Step::Parted(Way::First),
-    Step::Settled(Way::First),
-    Step::BegunTaken(Way::Back),
+    Step::Parted(EntryId::First),
+    Step::Settled(EntryId::First),
+    Step::BegunTaken(EntryId::Back),
 ];
 
 // BETA declined the first entry; ALPH regained it and sent the bill again.
 const SENT_AGAIN: [Step; 6] = [
     Step::Signed(Act::Sign),
     Step::Acted(Act::Issue),
-    Step::Parted(Way::First),
-    Step::Regained(Way::First),
-    Step::Parted(Way::Again),
-    Step::Settled(Way::Again),
+    Step::Parted(EntryId::First),
+    Step::Regained(EntryId::First),
+    Step::Parted(EntryId::Again),
+    Step::Settled(EntryId::Again),
 ];
 
 // At BETA: the bill came, and was sent back.
 const SENT_BACK: [Step; 3] = [
-    Step::BegunTaken(Way::First),
-    Step::Parted(Way::Back),
-    Step::Settled(Way::Back),
+    Step::BegunTaken(EntryId::First),
+    Step::Parted(EntryId::Back),
+    Step::Settled(EntryId::Back),
 ];
 
-const TAKEN_AGAIN: [Step; 1] = [Step::BegunTaken(Way::Again)];
+const TAKEN_AGAIN: [Step; 1] = [Step::BegunTaken(EntryId::Again)];
 
-const DECLINED_FIRST: [Step; 2] = [Step::Declined(Way::First), Step::BegunTaken(Way::Again)];
+const DECLINED_FIRST: [Step; 2] = [
+    Step::Declined(EntryId::First),
+    Step::BegunTaken(EntryId::Again),
+];
 
 // Whether a step may follow where the bill stands so.
 fn fits(step: Step, before: PlaceTag) -> bool {
@@ -67,7 +70,7 @@ fn each_step_may_follow(rt: HostRuntime) -> Result<(), Fail> {
     for steps in rows {
         let mut diary = Items::new(alloc);
         for step in steps {
-            let before = tag(&place(alloc, &diary, bill.name)?);
+            let before = place(alloc, &diary, bill.name)?.tag();
             assert!(rt; fits(*step, before), "{step:?} in {steps:?}");
             diary.push(frame(alloc, &bill, *step)?)?;
         }
@@ -77,7 +80,7 @@ fn each_step_may_follow(rt: HostRuntime) -> Result<(), Fail> {
 
 fn found(alloc: Global, platforms: &[At], stories: &[Story]) -> Result<Found, Fail> {
     let family = family(alloc, platforms, stories)?;
-    let verdict = survey(alloc, &family)?;
+    let verdict = survey(alloc, &family)?.copy(alloc)?;
     Ok(shown(&verdict))
 }
 
@@ -88,8 +91,8 @@ fn of_one(alloc: Global, alph: &[Step], beta: &[Step]) -> Result<Found, Fail> {
 }
 
 // The same, where a platform lacks a record of an entry.
-fn lacking(alloc: Global, at: At, what: Lack, way: Way) -> Result<Found, Fail> {
-    lacks(alloc, at, what, &bill_with(alloc, b'1')?, way)
+fn lacking(alloc: Global, at: At, what: Lack, id: EntryId) -> Result<Found, Fail> {
+    lacks(alloc, at, what, &bill_with(alloc, b'1')?, id)
 }
 
 #[test]
@@ -128,7 +131,7 @@ fn nothing_is_lacking(rt: HostRuntime) -> Result<(), Fail> {
 #[test]
 fn a_taken_is_lacking(rt: HostRuntime) -> Result<(), Fail> {
     let alloc = rt.alloc();
-    let want = lacking(alloc, At::Beta, Lack::Taken, Way::First)?;
+    let want = lacking(alloc, At::Beta, Lack::Taken, EntryId::First)?;
     assert_eq!(rt; of_one(alloc, &SETTLED, &NOTHING)?, want);
     Ok(())
 }
@@ -136,7 +139,7 @@ fn a_taken_is_lacking(rt: HostRuntime) -> Result<(), Fail> {
 #[test]
 fn a_parted_is_lacking(rt: HostRuntime) -> Result<(), Fail> {
     let alloc = rt.alloc();
-    let want = lacking(alloc, At::Alph, Lack::Parted, Way::First)?;
+    let want = lacking(alloc, At::Alph, Lack::Parted, EntryId::First)?;
     assert_eq!(rt; of_one(alloc, &NOTHING, &TAKEN)?, want);
     assert_eq!(rt; of_one(alloc, &ISSUED, &TAKEN)?, want);
     Ok(())
@@ -145,7 +148,7 @@ fn a_parted_is_lacking(rt: HostRuntime) -> Result<(), Fail> {
 #[test]
 fn a_declined_is_lacking(rt: HostRuntime) -> Result<(), Fail> {
     let alloc = rt.alloc();
-    let want = lacking(alloc, At::Beta, Lack::Declined, Way::First)?;
+    let want = lacking(alloc, At::Beta, Lack::Declined, EntryId::First)?;
     assert_eq!(rt; of_one(alloc, &SENT_AGAIN, &TAKEN_AGAIN)?, want);
     Ok(())
 }
@@ -158,12 +161,12 @@ fn a_taken_is_lacking_for_a_late_settled(rt: HostRuntime) -> Result<(), Fail> {
     let alph = [
         Step::Signed(Act::Sign),
         Step::Acted(Act::Issue),
-        Step::Parted(Way::First),
-        Step::BegunTaken(Way::Back),
-        Step::Settled(Way::First),
+        Step::Parted(EntryId::First),
+        Step::BegunTaken(EntryId::Back),
+        Step::Settled(EntryId::First),
     ];
-    let beta = [Step::Parted(Way::Back)];
-    let want = lacking(alloc, At::Beta, Lack::Taken, Way::First)?;
+    let beta = [Step::Parted(EntryId::Back)];
+    let want = lacking(alloc, At::Beta, Lack::Taken, EntryId::First)?;
     assert_eq!(rt; of_one(alloc, &alph, &beta)?, want);
     Ok(())
 }
@@ -182,8 +185,8 @@ fn the_earlier_platform_first(rt: HostRuntime) -> Result<(), Fail> {
         Story::of(&early, &NOTHING, &TAKEN),
         Story::of(&late, &SETTLED, &NOTHING),
     ];
-    let at_alph = lacks(alloc, At::Beta, Lack::Taken, &late, Way::First)?;
-    let at_beta = lacks(alloc, At::Alph, Lack::Parted, &early, Way::First)?;
+    let at_alph = lacks(alloc, At::Beta, Lack::Taken, &late, EntryId::First)?;
+    let at_beta = lacks(alloc, At::Alph, Lack::Parted, &early, EntryId::First)?;
     assert_eq!(rt; found(alloc, &TWO, &stories)?, at_alph);
     assert_eq!(rt; found(alloc, &[At::Beta, At::Alph], &stories)?, at_beta);
     Ok(())
@@ -203,7 +206,7 @@ fn the_earlier_shard_first(rt: HostRuntime) -> Result<(), Fail> {
     let alloc = rt.alloc();
     let early = bill_with(alloc, b'5')?;
     let late = bill_with(alloc, b'1')?;
-    let want = lacks(alloc, At::Beta, Lack::Taken, &early, Way::First)?;
+    let want = lacks(alloc, At::Beta, Lack::Taken, &early, EntryId::First)?;
     assert_eq!(rt; of_two(alloc, &early, &late)?, want);
     assert_eq!(rt; of_two(alloc, &late, &early)?, want);
     Ok(())
@@ -216,11 +219,11 @@ fn the_earlier_frame_first(rt: HostRuntime) -> Result<(), Fail> {
     let one = bill_with(alloc, b'5')?;
     let other = bill_with(alloc, b'8')?;
     assert_eq!(rt; shard(&one), shard(&other));
-    let of_one_bill = lacks(alloc, At::Beta, Lack::Taken, &one, Way::First)?;
-    let of_other = lacks(alloc, At::Beta, Lack::Taken, &other, Way::First)?;
+    let of_one_bill = lacks(alloc, At::Beta, Lack::Taken, &one, EntryId::First)?;
+    let of_other = lacks(alloc, At::Beta, Lack::Taken, &other, EntryId::First)?;
     assert_eq!(rt; of_two(alloc, &one, &other)?, of_one_bill);
     assert_eq!(rt; of_two(alloc, &other, &one)?, of_other);
-    let want = lacking(alloc, At::Beta, Lack::Declined, Way::First)?;
+    let want = lacking(alloc, At::Beta, Lack::Declined, EntryId::First)?;
     assert_eq!(rt; of_one(alloc, &SENT_AGAIN, &NOTHING)?, want);
     Ok(())
 }
@@ -229,10 +232,10 @@ fn the_earlier_frame_first(rt: HostRuntime) -> Result<(), Fail> {
 #[test]
 fn the_earlier_entry_first(rt: HostRuntime) -> Result<(), Fail> {
     let alloc = rt.alloc();
-    let back = [Step::BegunTaken(Way::Back)];
-    let want = lacking(alloc, At::Alph, Lack::Parted, Way::First)?;
+    let back = [Step::BegunTaken(EntryId::Back)];
+    let want = lacking(alloc, At::Alph, Lack::Parted, EntryId::First)?;
     assert_eq!(rt; of_one(alloc, &back, &NOTHING)?, want);
-    let want = lacking(alloc, At::Beta, Lack::Parted, Way::Back)?;
+    let want = lacking(alloc, At::Beta, Lack::Parted, EntryId::Back)?;
     assert_eq!(rt; of_one(alloc, &RETURNED, &TAKEN)?, want);
     Ok(())
 }
@@ -249,7 +252,7 @@ fn each_shard_is_looked_at(rt: HostRuntime) -> Result<(), Fail> {
         let whole = found(alloc, &TWO, &[Story::of(&bill, &SETTLED, &TAKEN)])?;
         assert_eq!(rt; whole, Found::Consistent, "{number}");
         let cut = found(alloc, &TWO, &[Story::of(&bill, &SETTLED, &NOTHING)])?;
-        let want = lacks(alloc, At::Beta, Lack::Taken, &bill, Way::First)?;
+        let want = lacks(alloc, At::Beta, Lack::Taken, &bill, EntryId::First)?;
         assert_eq!(rt; cut, want, "{number}");
     }
     Ok(())
@@ -268,7 +271,7 @@ fn a_record_in_the_diary_of_another_shard(rt: HostRuntime) -> Result<(), Fail> {
         gamm: &NOTHING,
     };
     let stories = [Story::of(&bill, &SETTLED, &NOTHING), strayed];
-    let want = lacks(alloc, At::Beta, Lack::Taken, &bill, Way::First)?;
+    let want = lacks(alloc, At::Beta, Lack::Taken, &bill, EntryId::First)?;
     assert_eq!(rt; found(alloc, &TWO, &stories)?, want);
     Ok(())
 }

@@ -1,6 +1,7 @@
 -- What is out, followed by what is left, is the whole.
 use Rattle.std.proofs.Common.{◌≡◌, ◌++◌, drop}
-use Rattle.closed_family.specs.Texts.{records_in, named_texts, texts_in}
+use Rattle.closed_family.specs.Family.{records_in}
+use Rattle.closed_family.specs.Texts.{named_texts, texts_in}
 use Rattle.closed_family.proofs.texts.texts_in.Given as goal
 
 abbrev pub invariant-loop-member : goal.invariant-loop-member

@@ -1,4 +1,4 @@
-use Rattle.closed_family.proofs.lacking.first_needed.Goals as goal
+use Rattle.closed_family.proofs.lacking.first_needed_by.Goals as goal
 
 pub returns-in-Settled : goal.returns-in-Settled
 returns-in-Settled c = rw c.in-Settled.is c.first_unanswered.ensures
