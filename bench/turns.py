@@ -1,0 +1,60 @@
+#!/usr/bin/env python3
+"""How many turns a second 1, 2 and 4 threads take at one value and at 16, beside std's Mutex in stock Rust.
+
+Builds turns_bench (the product's turns) and turns_peer.rs (a Mutex for each value), runs both in turn with the same
+words, and prints turns a second and the ratio of the two in one round (median, least and greatest). A run with few
+turns is taken off one with more, so that starts don't count.
+"""
+import os
+import shutil
+import statistics
+import subprocess
+import sys
+import tempfile
+import time
+
+HERE = os.path.dirname(os.path.abspath(__file__))
+CRATE = os.path.join(HERE, "..", "crates", "turns_bench")
+PROGRAM = os.path.join(CRATE, "out", "turns_bench")
+ROUNDS = 5
+TURNS = int(sys.argv[1]) if len(sys.argv) > 1 else 1_000_000
+
+
+def seconds(program, levels, values, turns):
+    words = [program, str(levels), str(values), str(turns)]
+    begun = time.perf_counter()
+    said = subprocess.run(words, check=True, stdout=subprocess.PIPE).stdout.split()
+    taken = time.perf_counter() - begun
+    if said != [str(turns << levels).encode()]:
+        sys.exit("%s counted %s" % (program, said))
+    return taken
+
+
+def rate(program, levels, values):
+    few = seconds(program, levels, values, TURNS // 10)
+    many = seconds(program, levels, values, TURNS)
+    return ((TURNS - TURNS // 10) << levels) / max(many - few, 1e-9)
+
+
+def main():
+    subprocess.run(["rt", "run"], cwd=CRATE, stdout=subprocess.DEVNULL, stderr=subprocess.DEVNULL)
+    if not os.path.exists(PROGRAM):
+        sys.exit("turns_bench is not built")
+    folder = tempfile.mkdtemp()
+    try:
+        peer = os.path.join(folder, "turns_peer")
+        subprocess.run(["rustc", "-O", "-o", peer, os.path.join(HERE, "turns_peer", "turns_peer.rs")], check=True)
+        print("| threads | values | turns, a second | Mutex, a second | ratio |")
+        print("|---|---|---|---|---|")
+        for values in (1, 16):
+            for levels in (0, 1, 2):
+                pairs = [(rate(PROGRAM, levels, values), rate(peer, levels, values)) for _ in range(ROUNDS)]
+                ratios = [ours / theirs for ours, theirs in pairs]
+                print("| %d | %d | %.0f | %.0f | %.2f (%.2f to %.2f) |" % (
+                    1 << levels, values, statistics.median(ours for ours, _ in pairs),
+                    statistics.median(theirs for _, theirs in pairs), statistics.median(ratios), min(ratios), max(ratios)))
+    finally:
+        shutil.rmtree(folder)
+
+
+main()

@@ -1,0 +1,12 @@
+pub mod Prefixes
+pub mod Totals
+pub mod Marks
+pub mod Columns
+pub mod Ends
+pub mod PassLemmas
+pub mod RuleLemmas
+pub mod TurnSteps
+pub mod PassSteps
+pub mod CloseLemmas
+pub mod IdleLemmas
+pub mod Numbered
