@@ -1,17 +1,19 @@
 #!/usr/bin/env python3
-"""How the time of `drive` grows with the script.
+"""How the cost of `drive` grows with the script, beside a stock program.
 
-Makes scripts of 1,000 to 100,000 lines, runs the built program on each, and prints lines, bytes,
-seconds (the best of three runs) and nanoseconds a byte. Run `make run` first: it builds the program.
+Makes scripts of 1,000, 10,000 and 100,000 lines, runs the proved program and drive_peer on each, compares what they
+write, and prints for each line of the script: instructions (callgrind's), nanoseconds (the best of five runs) and
+bytes of memory (the greatest size). A script of three lines is taken off, so that the programs' starts don't count;
+below 10,000 lines they outweigh time and memory, which are left out there.
+Words: the most lines (100,000 otherwise).
 """
 import json
-import os
-import subprocess
 import sys
-import time
+import tempfile
 
-HERE = os.path.dirname(os.path.abspath(__file__))
-PROGRAM = os.path.join(HERE, "..", "crates", "ebl_cli", "out", "ebl_cli")
+from measure import best, compare, difference, instructions, peak, peer, product
+
+SIZES = (1_000, 10_000, 100_000)
 ROSTER = {"roster": {"platforms": ["ALPH"], "parties": ["ALPH/BANK", "ALPH/CARRIER", "ALPH/EXPORT"],
                      "carriers": [{"provider": "NMFTA", "code": "OCNL", "party": "ALPH/CARRIER"}]}}
 
@@ -22,6 +24,10 @@ def sign(number):
     return {"at": "ALPH", "do": "SIGN", "document": document, "now": number, "party": "ALPH/CARRIER"}
 
 
+def act(deed, party, recipient):
+    return {"at": "ALPH", "bill": 1, "do": deed, "party": party, "recipient": recipient}
+
+
 def signs(lines):
     """Each event signs another document."""
     return [ROSTER] + [sign(k) for k in range(1, lines)]
@@ -29,34 +35,42 @@ def signs(lines):
 
 def transfers(lines):
     """One bill goes to and fro."""
-    events = [sign(1), {"at": "ALPH", "bill": 1, "do": "ISSUE", "party": "ALPH/CARRIER", "recipient": "ALPH/EXPORT"}]
     holders = ["ALPH/EXPORT", "ALPH/BANK"]
-    for k in range(lines - 3):
-        events.append({"at": "ALPH", "bill": 1, "do": "TRANSFER", "party": holders[k % 2], "recipient": holders[(k + 1) % 2]})
-    return [ROSTER] + events
+    moves = [act("TRANSFER", holders[k % 2], holders[(k + 1) % 2]) for k in range(lines - 3)]
+    return [ROSTER, sign(1), act("ISSUE", "ALPH/CARRIER", "ALPH/EXPORT")] + moves
 
 
-def seconds(script):
-    best = None
-    for _ in range(3):
-        begun = time.perf_counter()
-        ended = subprocess.run([PROGRAM, "drive"], input=script, stdout=subprocess.DEVNULL, stderr=subprocess.PIPE)
-        took = time.perf_counter() - begun
-        if ended.returncode != 0:
-            sys.exit("the program ended with %d: %s" % (ended.returncode, ended.stderr.decode()))
-        best = took if best is None else min(best, took)
-    return best
+def text(lines):
+    return "".join(json.dumps(line, separators=(",", ":")) + "\n" for line in lines).encode()
+
+
+def nanoseconds(words, given):
+    return best(words, given) * 1e9
+
+
+def a_line(measure, words, script, start, lines, what):
+    return difference(measure(words, script), measure(words, start), what) / (lines - 3)
 
 
 def main():
-    if not os.path.exists(PROGRAM):
-        sys.exit("no program at %s: run make run first" % os.path.relpath(PROGRAM))
-    print("%-10s %8s %12s %9s %9s" % ("script", "lines", "bytes", "seconds", "ns/byte"))
-    for make in (signs, transfers):
-        for lines in (1000, 3000, 10000, 30000, 100000):
-            script = "".join(json.dumps(line, separators=(",", ":")) + "\n" for line in make(lines)).encode()
-            took = seconds(script)
-            print("%-10s %8d %12d %9.3f %9.1f" % (make.__name__, lines, len(script), took, took * 1e9 / len(script)))
+    most = int(sys.argv[1]) if len(sys.argv) > 1 else SIZES[-1]
+    with tempfile.TemporaryDirectory() as folder:
+        ours, theirs = [product(), "drive"], [peer("drive_peer", folder)]
+        print("| script | lines | instructions a line | the peer's | ratio | ns a line | the peer's "
+              "| bytes a line | the peer's |")
+        print("|---|---|---|---|---|---|---|---|---|")
+        for make in (signs, transfers):
+            start = text(make(3))
+            for lines in (it for it in SIZES if it <= most):
+                script = text(make(lines))
+                compare((ours, theirs), script, "%s of %d lines" % (make.__name__, lines))
+                row = []
+                for measure in (instructions, nanoseconds, peak) if lines >= 10_000 else (instructions,):
+                    row += [a_line(measure, words, script, start, lines, make.__name__) for words in (ours, theirs)]
+                row.insert(2, row[0] / row[1])
+                cells = ["%.2f" % it if at == 2 else "%.0f" % it for at, it in enumerate(row)]
+                cells += [""] * (7 - len(cells))
+                print("| %s | %d | %s |" % (make.__name__, lines, " | ".join(cells)), flush=True)
 
 
 if __name__ == "__main__":

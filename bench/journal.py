@@ -1,10 +1,12 @@
 #!/usr/bin/env python3
 """How many appends a second a journal on a file makes, beside two bare syncs; and how long a full one takes to open.
 
-Builds journal_bench (the product's journal on a file) and sync_floor.c (the same two writes and two syncs, in C),
-runs both in turn on files in one folder, and prints appends a second, the ratio of the two in one round (median, least
-and greatest), and device flushes for each append where the system counts them. Then it fills a journal to 14 MB and times opening it beside reading and hashing the
-same file. Words: the folder in which the files are made (the system's temporary folder otherwise).
+Builds journal_bench (the product's journal on a file) and sync_floor.c (the same two writes and two syncs, in C), and
+runs both in turn, many times and shortly, on files in one folder. Prints appends a second by the difference of runs of
+few and of twice as many appends (medians), the ratio of these, the ratio of the longer runs as they are, starts
+included (median, least and greatest of the rounds), and device flushes for each append where the system counts them.
+Then it fills a journal to 14 MB and times opening it beside reading and hashing the same file.
+Words: the folder in which the files are made (the system's temporary folder otherwise).
 """
 import hashlib
 import os
@@ -15,16 +17,10 @@ import sys
 import tempfile
 import time
 
-HERE = os.path.dirname(os.path.abspath(__file__))
-TOP = os.path.join(HERE, "..")
-PROGRAM = os.path.join(TOP, "crates", "journal_bench", "out", "journal_bench")
-ROUNDS = 7
+from measure import c_program, difference, proved, seconds
 
-
-def seconds(words):
-    begun = time.perf_counter()
-    subprocess.run(words, check=True, stdout=subprocess.DEVNULL)
-    return time.perf_counter() - begun
+ROUNDS = 21
+APPENDS = 500
 
 
 def flushes(folder):
@@ -38,68 +34,62 @@ def flushes(folder):
         return None
 
 
-def appends(folder, floor, size, count):
-    file = os.path.join(folder, "journal")
-    bare = os.path.join(folder, "bare")
+def appends(program, folder, floor, size):
+    """Rounds of four short runs in turn, ours and the floor's, of few appends and of twice as many."""
+    file, bare = os.path.join(folder, "journal"), os.path.join(folder, "bare")
 
-    def ours(n):
+    def ours(count):
         if os.path.exists(file):
             os.remove(file)
-        return [PROGRAM, "append", folder, file, str(size), str(n)]
+        return seconds([program, "append", folder, file, str(size), str(count)])
 
-    def theirs(n):
-        return [floor, bare, str(size + 5), str(n)]
+    def theirs(count):
+        return seconds([floor, bare, str(size + 5), str(count)])
 
-    made, bared, counted = [], [], []
+    rounds, counted = [], []
     for _ in range(ROUNDS):
+        few, bare_few = ours(APPENDS), theirs(APPENDS)
         before = flushes(folder)
-        made.append(count / timed_pair(ours, count))
+        many = ours(2 * APPENDS)
         after = flushes(folder)
-        counted.append(None if before is None or after is None else (after - before) / (3 * count))
-        bared.append(count / timed_pair(theirs, count))
-    ratios = [ours_rate / bare_rate for ours_rate, bare_rate in zip(made, bared)]
+        rounds.append((few, many, bare_few, theirs(2 * APPENDS)))
+        counted.append(None if before is None or after is None else (after - before) / (2 * APPENDS))
+    few, many, bare_few, bare_many = (statistics.median(column) for column in zip(*rounds))
+    what = "append of %d bytes" % size
+    made, bared = APPENDS / difference(many, few, what), APPENDS / difference(bare_many, bare_few, "two bare syncs")
+    ratios = sorted(row[3] / row[1] for row in rounds)
     each = "" if None in counted else "%.2f" % statistics.median(counted)
-    print("| append of %d bytes | %.0f | %.0f | %.2f (%.2f to %.2f) | %s |" % (
-        size, statistics.median(made), statistics.median(bared), statistics.median(ratios), min(ratios), max(ratios),
-        each))
+    print("| %s | %.0f | %.0f | %.2f | %.2f (%.2f to %.2f) | %s |" % (
+        what, made, bared, made / bared, statistics.median(ratios), ratios[0], ratios[-1], each), flush=True)
 
 
-def timed_pair(make, count):
-    few = seconds(make(count))
-    many = seconds(make(2 * count))
-    return max(many - few, 1e-9)
-
-
-def opening(folder):
+def opening(program, folder):
     file = os.path.join(folder, "full")
-    subprocess.run([PROGRAM, "append", folder, file, "2000", "7300"], check=True)
-    open_words = [PROGRAM, "open", folder, file]
-    best = min(seconds(open_words) for _ in range(ROUNDS))
+    subprocess.run([program, "append", folder, file, "2000", "7300"], check=True)
+    took = min(seconds([program, "open", folder, file]) for _ in range(7))
     read = []
-    for _ in range(ROUNDS):
+    for _ in range(7):
         begun = time.perf_counter()
         with open(file, "rb") as full:
             hashlib.sha256(full.read()).digest()
         read.append(time.perf_counter() - begun)
-    print("\nopening %d bytes: %.3f s; reading and hashing them: %.3f s" % (os.path.getsize(file), best, min(read)))
+    print("\nopening %d bytes: %.3f s; reading and hashing them: %.3f s" % (os.path.getsize(file), took, min(read)))
 
 
 def main():
-    subprocess.run(["rt", "run"], cwd=os.path.join(TOP, "crates", "journal_bench"), stdout=subprocess.DEVNULL,
-                   stderr=subprocess.DEVNULL)
-    if not os.path.exists(PROGRAM):
-        sys.exit("journal_bench is not built")
     folder = tempfile.mkdtemp(dir=sys.argv[1] if len(sys.argv) > 1 else None)
     try:
-        floor = os.path.join(folder, "sync_floor")
-        subprocess.run(["gcc", "-O2", "-o", floor, os.path.join(HERE, "sync_floor", "sync_floor.c")], check=True)
-        print("| what | journal, a second | two bare syncs, a second | ratio | device flushes an append |")
-        print("|---|---|---|---|---|")
-        appends(folder, floor, 80, 1500)
-        appends(folder, floor, 2000, 1500)
-        opening(folder)
+        program = proved("journal_bench", ["append", folder, os.path.join(folder, "first"), "80", "1"])
+        floor = c_program("sync_floor", folder)
+        print("| what | journal, a second | two bare syncs, a second | ratio of these | ratio of whole runs "
+              "| device flushes an append |")
+        print("|---|---|---|---|---|---|")
+        appends(program, folder, floor, 80)
+        appends(program, folder, floor, 2000)
+        opening(program, folder)
     finally:
         shutil.rmtree(folder)
 
 
-main()
+if __name__ == "__main__":
+    main()

@@ -1,4 +1,5 @@
-//! What `ebl canon` does, by the usual Rust crates: reads JSON, and writes it with its members in order and its SHA-256 checksum.
+//! What `ebl canon` does, by the usual Rust crates: reads JSON, and writes it with its members in order and its SHA-256
+//! checksum.
 //!
 //! `serde_json` orders members by bytes, which for ASCII names is RFC 8785's order.
 use serde_json::Value;
