@@ -1,17 +1,36 @@
-# The two commands of the README.
+# `make help` lists what there is.
 SCRIPT ?= examples/first_run.jsonl
+PREFIX ?= /usr/local
 
-.PHONY: run test program
+.PHONY: help run program install test lint
 
-# Proves and builds the program, and runs a script.
-run: program
-	@crates/ebl_cli/out/ebl_cli drive < $(SCRIPT)
+help:
+	@echo 'make run [SCRIPT=FILE]     runs a script; without a proved program it builds one unproved, in about a minute'
+	@echo 'make program               proves and builds the program to deploy, crates/ebl_cli/out/ebl_cli'
+	@echo 'make install [PREFIX=DIR]  proves and builds it, and puts it at DIR/bin/ebl (DIR is $(PREFIX) otherwise)'
+	@echo 'make test                  the gate: every proof, every edit that must fail, every test, the program'\''s runs'
+	@echo 'make lint                  what the gate does not see: names in pages, heads of files, widths'
+	@echo
+	@echo 'tools/ebl WORD             runs the program with a word of its own (drive, canon, --help, --version), and'
+	@echo '                           ends with its exit; make ends with 2 whenever that is not 0'
+
+run:
+	@tools/ebl drive < "$(SCRIPT)"
 
 program:
-	@cd crates/ebl_cli && rt run -- --version > /dev/null
+	@tools/make_program.py
 
-# The gate (every proof, every edit that must fail, every test, the program's stored run), and then the program's examples and exits.
+install: program
+	@mkdir -p "$(DESTDIR)$(PREFIX)/bin"
+	@install -m 755 crates/ebl_cli/out/ebl_cli "$(DESTDIR)$(PREFIX)/bin/ebl"
+	@echo "installed: $(DESTDIR)$(PREFIX)/bin/ebl"
+
+# The gate, and then the program's examples and exits, which the gate doesn't run.
 test:
+	@PYTHONPATH=tools python3 -c 'import program; program.need_toolchain()'
 	rt ci
-	$(MAKE) --no-print-directory program
+	@test -x crates/ebl_cli/out/ebl_cli || (cd crates/ebl_cli && rt run -- --version > /dev/null)
 	python3 tools/check_program.py
+
+lint:
+	@tools/lint.py

@@ -7,9 +7,11 @@ import os
 import subprocess
 import sys
 
-TOP = os.path.dirname(os.path.dirname(os.path.abspath(__file__)))
-PROGRAM = os.path.join(TOP, "crates", "ebl_cli", "out", "ebl_cli")
+from program import PROGRAM, TOP, is_built
+
 EXAMPLES = os.path.join(TOP, "examples")
+
+USAGE = "ebl: usage\nebl: the words are in ebl --help\n"
 
 # An exit for each script of examples/ that doesn't end by 0, and its line on standard error.
 ENDS = {"bad_line": (3, "ebl: line 3 is not a script line\n")}
@@ -36,17 +38,17 @@ def examples():
 
 def exits():
     """(what, the run is as it should be) of each exit."""
-    yield "no words", run([]) == (2, b"", "ebl: usage\n")
-    yield "an unknown word", run(["driven"]) == (2, b"", "ebl: usage\n")
-    yield "a word too many", run(["drive", "drive"]) == (2, b"", "ebl: usage\n")
-    yield "a word that is no text", run([b"\xff"]) == (2, b"", "ebl: usage\n")
+    yield "no words", run([]) == (2, b"", USAGE)
+    yield "an unknown word", run(["driven"]) == (2, b"", USAGE)
+    yield "a word too many", run(["drive", "drive"]) == (2, b"", USAGE)
+    yield "a word that is no text", run([b"\xff"]) == (2, b"", USAGE)
     yield "an empty script", run(["drive"]) == (3, b"", "ebl: line 1 is not a script line\n")
     yield "a roster alone", run(["drive"], read("first_run.jsonl").split(b"\n")[0]) == (0, b"", "")
     yield "100,001 lines", lines_too_many()
     yield "67,108,865 bytes", run(["drive"], b" " * 67_108_865) == (4, b"", "ebl: the input is too long\n")
     empty = b"{}\n44136fa355b3678a1146ad16f7e8649e94fb4fc21fe77e8310c060f61caaff8a\n"
     yield "canon", run(["canon"], b"{}") == (0, empty, "")
-    for text, why in ((b"{", "NOT_JSON"), (b"24000.5", "FRACTION"), (b"9007199254740992", "RANGE")):
+    for text, why in ((b"{", "NOT_JSON"), (b"{\"a\":1e3,\"\\u0061\":2}", "REPEATED"), (b"24000.5e0", "FRACTION"), (b"9007199254740992", "RANGE")):
         yield "canon of " + text.decode(), run(["canon"], text) == (5, b"", "ebl: JSON is refused: %s\n" % why)
     yield "a source that fails", source_fails()
     yield "a sink that fails", sink_fails()
@@ -77,6 +79,8 @@ def sink_fails():
 
 
 def main():
+    if not is_built():
+        sys.exit("no proved program of these sources: run make program first")
     passed = failed = 0
     for what, holds in [*examples(), *exits()]:
         passed, failed = passed + bool(holds), failed + (not holds)

@@ -1,0 +1,174 @@
+#!/usr/bin/env python3
+"""What the gate doesn't see. Prints a line for each finding, and ends with 1 where there is one.
+
+- a file, a definition or a lemma that a page names and that isn't there
+- a source file, a module of definitions or one of lemmas without its head sentence
+- a line of more than 120 columns, imports and Markdown left out
+- a crate of crates.txt without a row in the map or in the README's table, a folder of crates/ that it doesn't name
+- a lemma that nothing cites
+"""
+import os
+import re
+import subprocess
+import sys
+
+TOP = os.path.dirname(os.path.dirname(os.path.abspath(__file__)))
+WIDTH = 120
+CODE = (".rt", ".antt")
+SCRIPTS = (".py", ".sh", ".c", ".rs", "Makefile", "tools/ebl")
+# Files that the prover wants by these names: they need no head, and their items are cited by it.
+ANSWERS = ("Answers.antt", "Invariants.antt", "Lib.antt")
+
+
+def listed():
+    """The paths of the checkout's files, those that git doesn't know yet too."""
+    ended = subprocess.run(["git", "ls-files", "-co", "--exclude-standard"], cwd=TOP, stdout=subprocess.PIPE, text=True,
+                           check=True)
+    return [name for name in sorted(set(ended.stdout.splitlines())) if os.path.isfile(os.path.join(TOP, name))]
+
+
+def files():
+    """The texts of code, scripts and pages, by path."""
+    found = {}
+    for name in listed():
+        if name.endswith(CODE + SCRIPTS + (".md", ".txt", ".edit")):
+            with open(os.path.join(TOP, name), encoding="utf-8") as file:
+                found[name] = file.read()
+    return found
+
+
+def heads(texts):
+    for name, text in texts.items():
+        needs = "//! " if name.endswith(".rt") else "-- " if name.endswith(".antt") else ""
+        if needs and os.path.basename(name) not in ANSWERS and not text.startswith(needs):
+            yield name, "has no head sentence"
+
+
+def widths(texts):
+    for name, text in texts.items():
+        if name.endswith(CODE + SCRIPTS):
+            for number, line in enumerate(text.split("\n"), 1):
+                if len(line) > WIDTH and not re.match(r"\s*(pub |ghost )?use ", line):
+                    yield "%s:%d" % (name, number), "is %d columns wide" % len(line)
+
+
+def crates_named(texts):
+    listed = {line.split(":")[0].split()[0] for line in texts["crates.txt"].split("\n") if ":" in line.split("#")[0]}
+    for page in ("docs/ARCHITECTURE.md", "README.md"):
+        rows = "\n".join(line for line in texts[page].split("\n") if line.startswith("| "))
+        named = {crate for crate in listed if "`%s`" % crate in rows}
+        for crate in sorted(listed - named):
+            yield page, "has no row for the crate " + crate
+    for crate in sorted({name.split("/")[1] for name in texts if name.startswith("crates/")} - listed):
+        yield "crates.txt", "doesn't name crates/" + crate
+
+
+# ---- lemmas
+
+DEFINED = re.compile(r"^( *)(?:(?:pub|abbrev|unfoldable|opaque)\s+)*(?:(?:record|data)\s+)?([^\s(){},.;:|]+)\s*"
+                     r"(?:[({].*)?:(?:\s|$)")
+WORD = re.compile(r"[^\s(){},.;:|\"`]+")
+
+
+def blocks(text):
+    """(name of the definition, its lines) of a module, in order; the name is empty before the first one."""
+    name, lines, depth = "", [], 0
+    for line in text.split("\n"):
+        if line.startswith("module "):
+            depth = 2
+        elif line and not line.startswith((" ", "--")):
+            depth = 0
+        found = DEFINED.match(line)
+        if found and len(found.group(1)) in (0, depth) and found.group(2) not in ("use", "mod", "--"):
+            yield name, lines
+            name, lines = found.group(2), []
+        lines.append(line)
+    yield name, lines
+
+
+def uncited(texts):
+    counts, own, lemmas = {}, {}, {}
+    for path, text in texts.items():
+        if not path.endswith(CODE):
+            continue
+        is_lemmas = re.match(r"crates/\w+/proofs/", path) and os.path.basename(path) not in ANSWERS
+        for name, lines in blocks(text) if is_lemmas else [("", [text])]:
+            words = WORD.findall("\n".join(line for line in lines if not line.lstrip().startswith("--")))
+            for word in words:
+                counts[word] = counts.get(word, 0) + 1
+            if name:
+                own[name] = own.get(name, 0) + words.count(name)
+                lemmas.setdefault(name, []).append(path)
+    for name, paths in sorted(lemmas.items(), key=lambda it: it[1]):
+        if counts[name] == own[name]:
+            yield paths[0], "%s is cited by nothing" % name
+
+
+# ---- names in pages
+
+PLACEHOLDER = re.compile(r"[*<>=$]|\.\.|\bNAME\b|\bFILE\b|\bFOLDER\b|\bDIR\b")
+PARTY = re.compile(r"[A-Z0-9]{4}/[A-Z0-9_-]+")
+PATH = re.compile(r"[\w.-]+(?:/[\w.-]+)+/?|[\w-]+\.(?:rt|antt|md|py|sh|c|edit|jsonl|out|txt)")
+DOTTED = re.compile(r"Rattle\.(\w+)\.(specs|proofs)\.(\w+)")
+IDENTIFIER = re.compile(r"[a-z][a-z0-9]*(?:_[a-z0-9]+)+|[A-Z][a-z0-9]+(?:[A-Z][a-z0-9]+)+")
+
+
+def is_there(page, word, paths):
+    """Whether a path that a page names is there: from the page's folder, its crate, the top or crates/.
+
+    A page of no crate may name a file of any of them by its end, as `specs/Run`.
+    """
+    crate = re.match(r"crates/\w+", page)
+    bases = [os.path.dirname(page), "", "crates", crate.group(0) if crate else ""]
+    wanted = {os.path.normpath(os.path.join(base, word)) for base in bases}
+    wanted |= {path + ending for path in wanted for ending in CODE}
+    ends = () if crate and "/" in word else ("/" + word, "/" + word + ".antt")
+    return bool(wanted & paths) or any(path.endswith(ends) for path in paths if ends)
+
+
+def names_in_pages(texts):
+    paths = set(listed())
+    paths |= {path[:at] for path in paths for at in range(len(path)) if path[at] == "/"}
+    known = {word for name, text in texts.items() if not name.endswith(".md") for word in re.findall(r"\w+", text)}
+    known |= {word for name in paths for word in re.findall(r"\w+", name)}
+    for page, text in texts.items():
+        if page.endswith(".md"):
+            for number, line in enumerate(text.split("\n"), 1):
+                for quoted in re.findall(r"`([^`]+)`", line):
+                    for missing in missing_in(page, quoted, paths, known):
+                        yield "%s:%d" % (page, number), "names %s, which isn't there" % missing
+
+
+def missing_in(page, quoted, paths, known):
+    """What a text in backquotes names that isn't there."""
+    dotted = DOTTED.search(quoted)
+    if PLACEHOLDER.search(quoted):
+        return
+    if dotted:
+        crate, part, module = dotted.groups()
+        path = "crates/%s/%s/%s" % (crate, part, module)
+        if "crates/" + crate in paths and module != "declared" and not {path, path + ".antt"} & paths:
+            yield dotted.group(0)
+    elif IDENTIFIER.fullmatch(quoted):
+        if quoted not in known:
+            yield quoted
+    else:
+        for word in (it.strip("(),;").rstrip("/") for it in quoted.split()):
+            is_path = PATH.fullmatch(word) and not PARTY.fullmatch(word) and "out" not in word.split("/")
+            if is_path and not is_there(page, word, paths):
+                yield word
+
+
+def main():
+    texts, found = files(), 0
+    for check in (names_in_pages, heads, widths, crates_named, uncited):
+        for where, what in check(texts):
+            print("%s %s" % (where, what))
+            found += 1
+    if found:
+        print("%d findings" % found)
+    return 1 if found else 0
+
+
+if __name__ == "__main__":
+    sys.exit(main())
