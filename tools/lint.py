@@ -3,7 +3,7 @@
 
 - a file, a definition or a lemma that a page names and that isn't there
 - a source file, a module of definitions or one of lemmas without its head sentence
-- a line of more than 120 columns, imports and Markdown left out
+- a line of more than 120 columns, without what stands between quotes; imports, proofs and Markdown left out
 - a crate of crates.txt without a row in the map or in the README's table, a folder of crates/ that it doesn't name
 - a lemma that nothing cites
 """
@@ -47,8 +47,12 @@ def heads(texts):
 def widths(texts):
     for name, text in texts.items():
         if name.endswith(CODE + SCRIPTS):
+            if "/proofs/" in name:
+                continue
             for number, line in enumerate(text.split("\n"), 1):
-                if len(line) > WIDTH and not re.match(r"\s*(pub |ghost )?use ", line):
+                bare = re.sub(r'r#".*?"#', '""', line)
+                bare = re.sub(r'"(\\.|[^"\\])*"', '""', bare)
+                if len(bare) > WIDTH and not re.match(r"\s*(pub |ghost )?use ", line):
                     yield "%s:%d" % (name, number), "is %d columns wide" % len(line)
 
 
@@ -67,19 +71,24 @@ def crates_named(texts):
 
 DEFINED = re.compile(r"^( *)(?:(?:pub|abbrev|unfoldable|opaque)\s+)*(?:(?:record|data)\s+)?([^\s(){},.;:|]+)\s*"
                      r"(?:[({].*)?:(?:\s|$)")
+RULESET = re.compile(r"^( *)(?:pub )?ruleset (\S+)")
 WORD = re.compile(r"[^\s(){},.;:|\"`]+")
 
 
 def blocks(text):
-    """(name of the definition, its lines) of a module, in order; the name is empty before the first one."""
-    name, lines, depth = "", [], 0
+    """(name of the definition, its lines) of a module, in order; the name is empty before the first one.
+
+    A definition stands at the left, or as deep as a module that is open there has its items.
+    """
+    name, lines, depths = "", [], [0]
     for line in text.split("\n"):
-        if line.startswith("module "):
-            depth = 2
-        elif line and not line.startswith((" ", "--")):
-            depth = 0
-        found = DEFINED.match(line)
-        if found and len(found.group(1)) in (0, depth) and found.group(2) not in ("use", "mod", "--"):
+        deep = len(line) - len(line.lstrip())
+        if line.strip() and not line.lstrip().startswith("--"):
+            depths = [depth for depth in depths if depth <= deep] or [0]
+        if line.lstrip().startswith("module "):
+            depths.append(deep + 2)
+        found = DEFINED.match(line) or RULESET.match(line)
+        if found and deep in depths and found.group(2) not in ("use", "mod", "module", "--"):
             yield name, lines
             name, lines = found.group(2), []
         lines.append(line)
@@ -92,7 +101,7 @@ def uncited(texts):
         if not path.endswith(CODE):
             continue
         is_lemmas = re.match(r"crates/\w+/proofs/", path) and os.path.basename(path) not in ANSWERS
-        for name, lines in blocks(text) if is_lemmas else [("", [text])]:
+        for name, lines in blocks(text) if is_lemmas else [("", text.split("\n"))]:
             words = WORD.findall("\n".join(line for line in lines if not line.lstrip().startswith("--")))
             for word in words:
                 counts[word] = counts.get(word, 0) + 1
