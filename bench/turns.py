@@ -51,8 +51,9 @@ def main():
                 pairs = [(rate(PROGRAM, levels, values), rate(peer, levels, values)) for _ in range(ROUNDS)]
                 ratios = [ours / theirs for ours, theirs in pairs]
                 print("| %d | %d | %.0f | %.0f | %.2f (%.2f to %.2f) |" % (
-                    1 << levels, values, statistics.median(ours for ours, _ in pairs),
-                    statistics.median(theirs for _, theirs in pairs), statistics.median(ratios), min(ratios), max(ratios)))
+                    1 << levels, values,
+                    statistics.median(ours for ours, _ in pairs), statistics.median(theirs for _, theirs in pairs),
+                    statistics.median(ratios), min(ratios), max(ratios)))
     finally:
         shutil.rmtree(folder)
 
