@@ -62,12 +62,6 @@ BeginInside-synced file (write p b ∷ events) in_order =
     (in_order.0, BeginInside-synced (written file p b) events in_order.1)
 BeginInside-synced file (synced ∷ events) in_order = BeginInside-synced file events in_order
 
-pub bytes_written-write : (events : List Event) (place : ℕ) (bytes : List ℕ)
-    → bytes_written (events ++ write place bytes ∷ []) ≡ bytes_written events + length bytes
-bytes_written-write [] place bytes = omega arith
-bytes_written-write (write p b ∷ events) place bytes = omega (arith, bytes_written-write events place bytes)
-bytes_written-write (synced ∷ events) place bytes = bytes_written-write events place bytes
-
 -- no more bytes are there than at the start and from writes
 pub length-seen_after : (file : List ℕ) (events : List Event) → BeginInside file events
     → length (seen_after file events) ≤ length file + bytes_written events
