@@ -29,15 +29,6 @@ module _ {F : Type 0} where
     not_alone = h.not_alone;
   }
 
-  pub idle_known : (v : View F) → IsIdle v → IsIdle (knows_of_another v)
-  idle_known v h = record { no_turn = h.no_turn; is_out = h.is_out; not_alone = h.not_alone }
-
-  pub idle_counted : (v : View F) → IsIdle v → IsIdle (counted v)
-  idle_counted v h = record { no_turn = h.no_turn; is_out = (let a = h.is_out in omega arith); not_alone = h.not_alone }
-
-  pub idle_left : (v : View F) → 1 < v.stands → IsIdle v → IsIdle (left_of v)
-  idle_left v two h = record { no_turn = h.no_turn; is_out = omega arith; not_alone = h.not_alone }
-
   pub idle_right : (v : View F) → IsIdle (right_of v)
   idle_right v = record {
     no_turn = λ k. ap (λ (m : Mark F). m.held) (look_map fresh refl k v.marks);

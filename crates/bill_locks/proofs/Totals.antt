@@ -68,10 +68,6 @@ module _ {A : Type 0} where
       → total f (set l i y) ≡ total f l
   total_same f l i x y e same = let r = total_set f l i x y e in omega arith
 
-pub total-append : {A : Type 0} (f : A → ℕ) (xs ys : List A) → total f (xs ++ ys) ≡ total f xs + total f ys
-total-append f [] ys = omega arith
-total-append f (x ∷ xs) ys = let r = total-append f xs ys in omega arith
-
 -- ---- numbers
 
 pub times-append : (p : ℕ) (xs ys : List ℕ) → times p (xs ++ ys) ≡ times p xs + times p ys
