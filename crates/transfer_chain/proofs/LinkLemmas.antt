@@ -91,14 +91,6 @@ links_have_transactions keys (text ∷ texts) (link ∷ chain) are =
     All-cons (λ (l : ChainLink). 1 ≤ length l.entry.transactions) link chain
     (link_form keys text link are.0).some (links_have_transactions keys texts chain are.1)
 
-pub texts-links : (keys : Keys) (texts : List SignedText) (chain : List ChainLink)
-    → AreLinks keys texts chain → texts_of chain ≡ texts
-texts-links keys [] [] are = refl
-texts-links keys [] (link ∷ chain) are = absurd are
-texts-links keys (text ∷ texts) [] are = absurd are
-texts-links keys (text ∷ texts) (link ∷ chain) are =
-    ap (λ t. t ∷ texts_of chain) are.0.text ∙ ap (λ ts. text ∷ ts) (texts-links keys texts chain are.1)
-
 -- ---- one link
 
 -- what was verified, read and named is a link

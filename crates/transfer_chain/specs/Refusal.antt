@@ -33,7 +33,8 @@ IsBadlySigned keys why text = (why ≢ bad.NoMemory) × envelope.IsRefused keys 
 -- it is signed, and its payload is no entry: this is the first wrong member
 abbrev pub HasNoEntry : Keys → EntryField → SignedText → Type 0
 HasNoEntry keys field text =
-    (who : PlatformCode) × (value : Value) × IsSigned keys MAX_SIGNED_TEXT text.0 who value × (entry_of value ≡ Err field)
+    (who : PlatformCode) × (value : Value) × IsSigned keys MAX_SIGNED_TEXT text.0 who value
+    × (entry_of value ≡ Err field)
 
 -- it is signed by another platform than the one whose entry it is
 abbrev pub IsOfAnother : Keys → SignedText → Type 0
