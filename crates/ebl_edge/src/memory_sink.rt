@@ -30,7 +30,11 @@ impl Model for MemorySink {
 impl MemorySink {
     /// An empty sink whose calls of these numbers fail and write nothing.
     pub fn new(alloc: Global, fails: CallList) -> Self
-        ensures { result ≡ record { written = []; tears = false; calls = record { fails = fails; number = 0; faults = 0 } } }
+        ensures { result ≡ record {
+            written = [];
+            tears = false;
+            calls = record { fails = fails; number = 0; faults = 0 }
+        } }
     {
         MemorySink {
             bytes: ByteList::new(alloc),
@@ -41,7 +45,11 @@ impl MemorySink {
 
     /// An empty sink whose calls of these numbers fail and write the first half of the piece, rounded down.
     pub fn tearing(alloc: Global, fails: CallList) -> Self
-        ensures { result ≡ record { written = []; tears = true; calls = record { fails = fails; number = 0; faults = 0 } } }
+        ensures { result ≡ record {
+            written = [];
+            tears = true;
+            calls = record { fails = fails; number = 0; faults = 0 }
+        } }
     {
         MemorySink {
             bytes: ByteList::new(alloc),
@@ -82,7 +90,8 @@ impl Sink for MemorySink {
         ensures failed { OnErr result (AppendsFirst (Some self.old.written) (Some self.new.written) piece.now) }
         ensures cause { HasCause self.old.calls.faults self.new.calls.faults result }
         ensures listed { Contains self.old.calls.fails self.old.calls.number → IsErr result }
-        ensures unlisted { OnErr result (¬ Contains self.old.calls.fails self.old.calls.number → self.new.written ≡ self.old.written) }
+        ensures unlisted { OnErr result (¬ Contains self.old.calls.fails self.old.calls.number
+            → self.new.written ≡ self.old.written) }
         ensures whole { OnErr result (self.old.tears ≡ false → self.new.written ≡ self.old.written) }
         ensures tears { self.new.tears ≡ self.old.tears }
         ensures counted { self.new.calls ≡ after_call (is_err result) self.old.calls }

@@ -16,7 +16,8 @@ pub trait Source {
 
     /// Hands out the next bytes, at the front of `into`, and answers how many: at most as many as `into` has room for.
     ///
-    /// For an `into` that isn't empty, `Ok(0)` comes if and only if nothing is left. `Failed` hands out nothing, and comes
+    /// For an `into` that isn't empty, `Ok(0)` comes if and only if nothing is left. `Failed` hands out nothing, and
+    /// comes
     /// only if the count of faults rose.
     fn read(&mut self, into: &mut [u8]) -> Result<usize, Failed>
         ensures within { ReadsAtMost result into.new }
