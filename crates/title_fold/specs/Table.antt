@@ -1,4 +1,5 @@
--- The kinds of transactions: where the title has to stand, who acts, whether there is a recipient, and what becomes of the title.
+-- The kinds of transactions: where the title has to stand, who acts, whether there is a recipient, and what becomes of
+-- the title.
 use Rattle.std.specs.Prelude.{Bool, true, false, Option, Some, None}
 use Rattle.ebl_base.specs.declared.kind.Kind.{Kind}
 use Rattle.ebl_base.specs.declared.kind.Kind.TheVariants.{Sign, Issue, Endorse, Transfer, SurrenderForDelivery, SurrenderForAmendment, SurrenderAccepted, SurrenderRefused}

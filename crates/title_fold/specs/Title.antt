@@ -17,7 +17,8 @@ possessor (Live c p h) = p
 possessor (Asked kind c by) = c
 possessor (Ended kind c) = c
 
--- the party that holds the title: the carrier before the issue and after the end, the asker while a surrender is asked for
+-- the party that holds the title: the carrier before the issue and after the end, the asker while a surrender is asked
+-- for
 abbrev pub title_holder : Title → Party
 title_holder (Signed c) = c
 title_holder (Live c p h) = h

@@ -15,7 +15,8 @@ pub fn fold_of_front_and_rest()
         → fold (front ++ rest) ≡ fold_on (fold front) rest (length front) }
 {}
 
-/// The fold of one transaction more is its step on the title so far. So a title that is kept beside a list needs one step for each transaction.
+/// The fold of one transaction more is its step on the title so far. So a title that is kept beside a list needs one
+/// step for each transaction.
 pub fn fold_of_one_more()
     ensures taken { (list : List Transaction) (t : Transaction)
         → (before : Option Title) (after : Title)
@@ -27,13 +28,15 @@ pub fn fold_of_one_more()
         → fold (list ++ t ∷ []) ≡ Err (record { place = length list; rule = rule }) }
 {}
 
-/// No transaction, no title. Else the title begins with the first transaction: a SIGN, whose actor is the carrier of every title after it.
+/// No transaction, no title. Else the title begins with the first transaction: a SIGN, whose actor is the carrier of
+/// every title after it.
 pub fn fold_begins_with_its_first_transaction()
     ensures { (list : List Transaction) (title : Option Title)
         → fold list ≡ Ok title → IsBegunBy list title }
 {}
 
-/// A fold stops at the first transaction that is refused: all before it are taken, and its rule is the one that refuses there.
+/// A fold stops at the first transaction that is refused: all before it are taken, and its rule is the one that refuses
+/// there.
 pub fn fold_stops_at_the_first_refusal()
     ensures stops { (list : List Transaction) (at : FoldAt) → fold list ≡ Err at → StopsAt list at }
     ensures there { (list : List Transaction) (at : FoldAt) → StopsAt list at → fold list ≡ Err at }

@@ -1,4 +1,5 @@
-//! The title to a bill: the kinds of transactions that change it, the nine rules that refuse one, and the fold of a list.
+//! The title to a bill: the kinds of transactions that change it, the nine rules that refuse one, and the fold of a
+//! list.
 #![tactic(auto)]
 
 mod fold_laws;

@@ -6,7 +6,8 @@ ghost use Rattle.title_fold.specs.Title.{possessor};
 
 use crate::title::{Title, possessor};
 
-/// Whether the step from one title to the next moves the bill: the possessor's platform after it is another than before it. The first step, a SIGN, doesn't move.
+/// Whether the step from one title to the next moves the bill: the possessor's platform after it is another than before
+/// it. The first step, a SIGN, doesn't move.
 pub fn moves(before: Option<Title>, after: Title) -> bool
     ensures value { result ≡ moves before after }
     ensures moved { OnTrue result

@@ -51,7 +51,8 @@ fn number(answer: Result<Title, FoldRefusal>) -> u8 {
     }
 }
 
-/// A kind, and the answers to the carrier, the possessor, the title holder and a stranger: without a recipient, and for another party.
+/// A kind, and the answers to the carrier, the possessor, the title holder and a stranger: without a recipient, and for
+/// another party.
 type Row = (Kind, [u8; 4], [u8; 4]);
 
 fn expect_rows(rt: &impl Abort, cast: Cast, before: Option<Title>, rows: [Row; 8]) -> Option<()> {

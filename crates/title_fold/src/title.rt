@@ -52,7 +52,8 @@ pub fn possessor(t: Title) -> Party
     }
 }
 
-/// The party that holds the title: the carrier before the bill is issued and after its end, and the asker while a surrender is asked for.
+/// The party that holds the title: the carrier before the bill is issued and after its end, and the asker while a
+/// surrender is asked for.
 pub fn title_holder(t: Title) -> Party
     ensures { result ≡ title_holder t }
 {

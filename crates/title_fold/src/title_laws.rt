@@ -37,19 +37,22 @@ pub fn carrier_stays()
         → step_title (Some before) t ≡ Ok after → carrier after ≡ carrier before }
 {}
 
-/// On a title that stands, the possessor alone acts. Before the issue and while a surrender is asked for, that is the carrier.
+/// On a title that stands, the possessor alone acts. Before the issue and while a surrender is asked for, that is the
+/// carrier.
 pub fn possessor_alone_acts()
     ensures { (before : Title) (t : Transaction) (after : Title)
         → step_title (Some before) t ≡ Ok after → t.actor ≡ possessor before }
 {}
 
-/// An ISSUE and a TRANSFER give possession to the recipient, a surrender to the carrier, its refusal to the asker again. An ENDORSE and the acceptance of a surrender leave it.
+/// An ISSUE and a TRANSFER give possession to the recipient, a surrender to the carrier, its refusal to the asker
+/// again. An ENDORSE and the acceptance of a surrender leave it.
 pub fn possession_goes_by_the_kind()
     ensures { (before : Title) (t : Transaction) (after : Title)
         → step_title (Some before) t ≡ Ok after → GivesPossession t.kind t.recipient before after }
 {}
 
-/// An ISSUE and an ENDORSE give the title to the recipient, the acceptance of a surrender to the carrier. All other kinds leave it.
+/// An ISSUE and an ENDORSE give the title to the recipient, the acceptance of a surrender to the carrier. All other
+/// kinds leave it.
 pub fn title_goes_by_the_kind()
     ensures { (before : Title) (t : Transaction) (after : Title)
         → step_title (Some before) t ≡ Ok after → GivesTitle t.kind t.recipient before after }
