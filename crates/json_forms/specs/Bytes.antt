@@ -1,4 +1,5 @@
--- Bytes as a text in base64 (RFC 4648, section 4): the standard alphabet with padding, each list of bytes in its one strict spelling.
+-- Bytes as a text in base64 (RFC 4648, section 4): the standard alphabet with padding, each list of bytes in its one
+-- strict spelling.
 use Rattle.std.specs.Prelude.{ℕ, List, Option, option_and_then}
 use Rattle.std.specs.Result.{result_ok}
 use Rattle.base64.specs.Engines.{standard}
