@@ -32,7 +32,10 @@ is_tag (Some tag) bytes = bytes_eq tag bytes
 
 -- the HS256 signatures of these keys (RFC 7518, section 3.2)
 abbrev pub hs256_keys : KeyRule → Keys
-hs256_keys rule = record { alg = Hs256; signs = λ who input signature. is_tag (tag_of (rule who) input) (signature_bytes signature) }
+hs256_keys rule = record {
+  alg = Hs256;
+  signs = λ who input signature. is_tag (tag_of (rule who) input) (signature_bytes signature);
+}
 
 -- those of the derived keys
 abbrev pub derived_keys : Keys

@@ -26,7 +26,8 @@ struct OneKey {
 }
 
 impl KeyedRing {
-    /// Each platform's key is the SHA-256 digest of the ASCII text `EBL-TEST-KEY-` followed by its code. It never fails.
+    /// Each platform's key is the SHA-256 digest of the ASCII text `EBL-TEST-KEY-` followed by its code. It never
+    /// fails.
     pub fn derived() -> KeyedRing
         ensures keys { ring_rule result ≡ derived_key }
         ensures faults { ring_faults result ≡ 0 }
