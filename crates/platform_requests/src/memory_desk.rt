@@ -70,8 +70,8 @@ impl MemoryDesk {
     }
 
     fn keep(&mut self, alloc: Global, now: Moment, request: Request, outcome: &Outcome)
-        ensures kept { Keeps (kept_calls self.old) (record { now = now; request = request_view request; outcome = outcome.now } ∷ [])
-            (kept_calls self.new) }
+        ensures kept { Keeps (kept_calls self.old)
+            (record { now = now; request = request_view request; outcome = outcome.now } ∷ []) (kept_calls self.new) }
         ensures parties { known_parties self.new ≡ known_parties self.old }
     {
         let Ok(outcome) = outcome.copy(alloc) else {
