@@ -1,12 +1,12 @@
 //! What came with a Begun.
 ghost use Rattle.std.specs.Prelude.{◌≡◌, MatchOption, None, Some, option_copied};
-ghost use Rattle.bill_chain.specs.Chain.{ends_in, last_of};
 ghost use Rattle.bill_diary.specs.Known.{last_begun, taken_chain};
 
 use crate::record::Record;
 use crate::record_ref::RecordRef;
 use crate::walk::History;
-use ebl_base::{Chain, ChainLink, Checksum};
+use bill_chain::ends_in;
+use ebl_base::{Chain, Checksum};
 use envelope_manifest::Manifest;
 
 /// A chain that came, with its manifest.
@@ -30,7 +30,7 @@ pub(crate) fn last_begun<'a>(mut h: History<'a>, entry: Checksum) -> Option<Rece
             },
         ) = record
         {
-            if ends_in(chain, entry) {
+            if ends_in(chain.as_slice(), entry) {
                 return Some(Received { chain, manifest });
             }
         }
@@ -46,21 +46,4 @@ pub fn taken_chain(before: History<'_>, entry: Checksum) -> Option<&Chain>
         Some(came) => Some(came.chain),
         None => None,
     }
-}
-
-// Whether this is the name of a chain's last entry.
-pub(crate) fn ends_in(chain: &Chain, name: Checksum) -> bool
-    ensures { result ≡ ends_in name chain.now }
-{
-    match last_of(chain) {
-        Some(link) => link.name == name,
-        None => false,
-    }
-}
-
-/// The last link of a chain.
-pub(crate) fn last_of(chain: &Chain) -> Option<&ChainLink>
-    ensures { option_copied result ≡ last_of chain.now }
-{
-    chain.as_slice().last()
 }

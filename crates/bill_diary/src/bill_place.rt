@@ -4,12 +4,12 @@ ghost use Rattle.bill_diary.specs.History.{history};
 ghost use Rattle.bill_diary.specs.Known.{known};
 ghost use Rattle.bill_diary.specs.Place.{is_left, known_at, place_of, tag_of};
 
-use crate::begun::last_of;
 use crate::frame::{Diary, Frame};
 use crate::known::known_chain;
 use crate::parting::{is_settled, parting};
 use crate::since::since;
 use crate::walk::History;
+use bill_chain::last_link;
 use ebl_base::{Chain, ChainLink, Checksum, Copied, NoMemory, PlaceTag, TransactionList};
 use std::alloc::Global;
 
@@ -105,7 +105,7 @@ fn place_with(
 fn is_left(chain: &Chain, h: History) -> bool
     ensures { result ≡ is_left chain.now h.entry }
 {
-    match last_of(chain) {
+    match last_link(chain.as_slice()) {
         Some(link) => is_settled(h, link.name),
         None => false,
     }

@@ -10,10 +10,10 @@ ghost use Rattle.bill_chain.specs.Chain.{ends_in};
 ghost use Rattle.bill_diary.specs.Known.{longer};
 ghost use Rattle.bill_diary.specs.KnownChains.{IsToldBy, known_with, settled_among};
 
-use crate::begun::ends_in;
 use crate::links::Links;
 use crate::record::Record;
 use crate::record_ref::RecordRef;
+use bill_chain::ends_in;
 use ebl_base::{Chain, ChainLink, Checksum, NoMemory};
 use std::alloc::Global;
 
@@ -76,7 +76,7 @@ impl<'a> KnownChains<'a> {
         self.begun
             .iter()
             .rev()
-            .find(|chain| ends_in(chain, entry))
+            .find(|chain| ends_in(chain.as_slice(), entry))
             .copied()
     }
 

@@ -10,7 +10,8 @@ use crate::begun::taken_chain;
 use crate::record::Record;
 use crate::record_ref::RecordRef;
 use crate::walk::History;
-use ebl_base::{Chain, ChainLink, Checksum};
+use bill_chain::has_entry;
+use ebl_base::{ChainLink, Checksum};
 
 /// The entry of the last Parted, where its parting isn't over.
 pub(crate) fn parting<'a>(h: History<'a>) -> Option<&'a ChainLink>
@@ -90,14 +91,7 @@ fn comes_along(before: History, last: Checksum, entry: Checksum) -> bool
     ensures { result ≡ list_any (has_entry entry) (option_to_list (taken_chain last before.entry)) }
 {
     match taken_chain(before, last) {
-        Some(chain) => has_entry(chain, entry),
+        Some(chain) => has_entry(chain.as_slice(), entry),
         None => false,
     }
-}
-
-// Whether a chain has an entry of this name.
-fn has_entry(chain: &Chain, name: Checksum) -> bool
-    ensures { result ≡ has_entry name chain.now }
-{
-    chain.as_slice().iter().any(|link| link.name == name)
 }

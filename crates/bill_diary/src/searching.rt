@@ -7,11 +7,11 @@ ghost use Rattle.bill_diary.specs.History.{history, newest_first, record_at};
 ghost use Rattle.bill_diary.specs.Searches.{bytes_in, first_bytes, last_body, last_parted_record, signed_text};
 ghost use Rattle.bill_diary.specs.Sound.{last_with_reference, refers};
 
-use crate::begun::last_of;
 use crate::frame::Diary;
 use crate::record::Record;
 use crate::record_ref::RecordRef;
 use crate::walk::{History, Newest};
+use bill_chain::last_link;
 use ebl_base::{ByteList, Chain, ChainLink, Checksum, Reference, SignedText};
 use envelope_manifest::Manifest;
 use upload_state::reference_of;
@@ -59,7 +59,7 @@ pub fn last_with_reference(d: &Diary, reference: Reference) -> Option<BegunRef<'
 fn refers(bill: Checksum, chain: &Chain, reference: Reference) -> bool
     ensures { result ≡ refers bill chain.now reference }
 {
-    match last_of(chain) {
+    match last_link(chain.as_slice()) {
         Some(link) => reference_of(bill, link.name) == reference,
         None => false,
     }

@@ -1,14 +1,13 @@
 //! The title at the place of a bill.
-#![tactic(auto, using(crate::proofs::TitleLemmas::titles))]
-
-ghost use Rattle.std.specs.Prelude.{◌≡◌, None};
-ghost use Rattle.bill_chain.specs.Chain.{title_after_chain, transactions_of};
+ghost use Rattle.std.specs.Prelude.{◌≡◌};
+ghost use Rattle.bill_chain.specs.Chain.{title_after_chain};
 ghost use Rattle.bill_diary.specs.Place.{title_at};
-ghost use Rattle.bill_diary.specs.Titles.{titled, unplaced};
+ghost use Rattle.bill_diary.specs.Titles.{unplaced};
 
 use crate::bill_place::BillPlace;
-use ebl_base::{ChainLink, Transaction};
-use title_fold::{FoldRefusal, Title, apply};
+use bill_chain::fold_after_chain;
+use ebl_base::ChainLink;
+use title_fold::{FoldRefusal, Title};
 
 /// The title at a place: after the known chain's transactions, followed by those of the entry that is parting, or by
 /// those made since. `None` where the bill is absent or nothing was made. Else the rule that refuses the first
@@ -18,15 +17,12 @@ pub fn title_at(place: &BillPlace) -> Result<Option<Title>, FoldRefusal>
 {
     match place {
         BillPlace::Absent => Ok(None),
-        BillPlace::Held { known, since } => title_on(
-            after_chain(known.as_slice())?,
-            since.as_slice(),
-        ),
-        BillPlace::Parting { known, entry } => title_on(
-            after_chain(known.as_slice())?,
+        BillPlace::Held { known, since } => fold_after_chain(known.as_slice(), since.as_slice()),
+        BillPlace::Parting { known, entry } => fold_after_chain(
+            known.as_slice(),
             entry.entry.transactions.as_slice(),
         ),
-        BillPlace::Gone { known } => after_chain(known.as_slice()),
+        BillPlace::Gone { known } => title_after_chain(known.as_slice()),
     }
 }
 
@@ -35,30 +31,5 @@ pub fn title_at(place: &BillPlace) -> Result<Option<Title>, FoldRefusal>
 pub fn title_after_chain(links: &[ChainLink]) -> Result<Option<Title>, FoldRefusal>
     ensures { result ≡ unplaced (title_after_chain links.now) }
 {
-    after_chain(links)
-}
-
-// The title after the transactions of some links.
-fn after_chain(links: &[ChainLink]) -> Result<Option<Title>, FoldRefusal>
-    ensures { result ≡ titled (transactions_of links.now) None }
-{
-    let mut title = None;
-    for link in links {
-        title = title_on(title, link.entry.transactions.as_slice())?;
-    }
-    Ok(title)
-}
-
-// The title after some transactions on a title.
-fn title_on(
-    before: Option<Title>,
-    transactions: &[Transaction],
-) -> Result<Option<Title>, FoldRefusal>
-    ensures { result ≡ titled transactions.now before }
-{
-    let mut title = before;
-    for t in transactions {
-        title = Some(apply(title, t)?);
-    }
-    Ok(title)
+    fold_after_chain(links, &[])
 }

@@ -2,10 +2,10 @@
 ghost use Rattle.std.specs.Prelude.{◌≡◌, [], ◌∷◌, MatchOption, option_map};
 ghost use Rattle.bill_diary.specs.History.{newest_first, of_bill, history, record_at, taken_after};
 
-use crate::begun::last_of;
 use crate::frame::Frame;
 use crate::record::Record;
 use crate::record_ref::RecordRef;
+use bill_chain::last_link;
 use ebl_base::Checksum;
 use std::marker::Model;
 
@@ -129,7 +129,7 @@ fn taken_after<'a>(begun: &Record) -> Option<RecordRef<'a>>
     ensures { option_map record_at result ≡ taken_after begun.now }
 {
     match begun {
-        Record::Begun { bill, chain, .. } => match last_of(chain) {
+        Record::Begun { bill, chain, .. } => match last_link(chain.as_slice()) {
             Some(link) => Some(RecordRef::Taken {
                 bill: *bill,
                 entry: link.name,
