@@ -1,20 +1,16 @@
 -- The additional documents of a bill: those listed for it, and those whose bytes are there.
-use Rattle.std.specs.Prelude.{◌≡◌, Bool, false, not, ℕ, List, [], ◌∷◌, ◌++◌, length, map, filter, bytes_eq}
+use Rattle.std.specs.Prelude.{Bool, false, not, ℕ, List, [], ◌∷◌, ◌++◌, filter, bytes_eq}
 use Rattle.std.specs.List.{list_any}
 use Rattle.std.specs.Option.{option_map_or}
 use Rattle.ebl_base.specs.Checksum.{checksum_eq}
 use Rattle.ebl_base.specs.declared.checksum.Checksum.{Checksum}
-use Rattle.document_checksum.specs.Digest.{checksum_of}
 use Rattle.envelope_manifest.specs.declared.piece.Piece.{Piece}
 use Rattle.envelope_manifest.specs.declared.manifest.Manifest.{Manifest}
+use Rattle.envelope_manifest.specs.Manifest.{checksums_of}
+pub use Rattle.upload_state.specs.Piece.{Fits}
 use Rattle.bill_diary.specs.declared.record.Record.{Record}
 use Rattle.bill_diary.specs.declared.record.Record.TheVariants.{Attached, Stored, Taken}
 use Rattle.bill_diary.specs.Known.{last_begun}
-
--- the bytes are those of a listed document: size and checksum agree
-pub record Fits (piece : Piece) (bytes : List ℕ) : Type 0 where
-  pub size : piece.size ≡ length bytes
-  pub checksum : piece.checksum ≡ checksum_of bytes
 
 -- the documents of a bill: those of the manifest of its last Taken, followed by those attached since
 abbrev pub pieces_of : List Record → List Piece
@@ -50,4 +46,4 @@ are_there h bytes = list_any (brings_bytes bytes) h
 -- the checksums of a manifest's documents that aren't there, in its order
 abbrev pub missing_of : Manifest → List Record → List Checksum
 missing_of manifest h =
-    filter (λ checksum. not (is_there h checksum)) (map (λ piece. piece.checksum) manifest.documents)
+    filter (λ checksum. not (is_there h checksum)) (checksums_of manifest.documents)

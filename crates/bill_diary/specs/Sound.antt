@@ -1,6 +1,6 @@
 -- Sound diaries of a platform: each record may follow the records before it, and its names and values are those of its
 -- texts.
-use Rattle.std.specs.Prelude.{◌≡◌, ◌≢◌, ◌⊎◌, ℕ, ◌+◌, ◌≤◌, ◌<◌, Bool, true, false, List, [], ◌∷◌, ◌++◌, Option, Some, None, Ok, length, count_by, sum_by, find, bytes_eq, Contains}
+use Rattle.std.specs.Prelude.{◌≡◌, ◌≢◌, ◌⊎◌, ℕ, ◌+◌, ◌-◌, ◌≤◌, ◌<◌, Bool, true, false, List, [], ◌∷◌, ◌++◌, Option, Some, None, Ok, length, count_by, find, bytes_eq, Contains}
 use Rattle.std.specs.Option.{option_map_or}
 use Rattle.ebl_base.specs.Reference.{reference_of}
 use Rattle.ebl_base.specs.declared.checksum.Checksum.{Checksum}
@@ -10,6 +10,7 @@ use Rattle.ebl_base.specs.declared.code.Code.TheVariants.{BadEnvelope, DisputedE
 use Rattle.ebl_base.specs.declared.evidence.Evidence.{Evidence}
 use Rattle.ebl_base.specs.declared.kind.Kind.{Kind}
 use Rattle.ebl_base.specs.declared.kind.Kind.TheVariants.{Sign, SurrenderForDelivery, SurrenderForAmendment, SurrenderAccepted}
+use Rattle.ebl_base.specs.declared.limits.TheConstants.{MAX_CHAIN_ENTRIES, MAX_DOCUMENT_SIZE, MAX_DOCUMENTS, MAX_DOCUMENTS_SIZE, MAX_ENTRY_TRANSACTIONS}
 use Rattle.ebl_base.specs.declared.platform_code.PlatformCode.{PlatformCode}
 use Rattle.ebl_base.specs.declared.reason.Reason.{Reason}
 use Rattle.ebl_base.specs.declared.reference.Reference.{Reference}
@@ -18,9 +19,10 @@ use Rattle.ebl_base.specs.declared.signed_text.SignedText.{SignedText}
 use Rattle.ebl_base.specs.declared.transaction.Transaction.{Transaction}
 use Rattle.envelope_manifest.specs.declared.manifest.Manifest.{Manifest}
 use Rattle.envelope_manifest.specs.declared.piece.Piece.{Piece}
-use Rattle.envelope_manifest.specs.Manifest.{IsManifest}
+use Rattle.envelope_manifest.specs.Manifest.{IsManifest, total_size}
 use Rattle.envelope_manifest.specs.Piece.{IsPiece}
 use Rattle.chain_entry.specs.Form.{IsTransaction}
+use Rattle.upload_state.specs.Piece.{Fits}
 use Rattle.title_fold.specs.declared.title.Title.{Title}
 use Rattle.title_fold.specs.Fold.{fold}
 use Rattle.title_fold.specs.Step.{step_title}
@@ -35,7 +37,7 @@ use Rattle.bill_diary.specs.declared.bill_place.BillPlace.TheVariants.{Absent, H
 use Rattle.bill_diary.specs.History.{bill_of, records_of, newest_first, of_bill}
 use Rattle.bill_diary.specs.Known.{Received, last_begun}
 use Rattle.bill_diary.specs.Place.{place_of, title_at, is_ended}
-use Rattle.bill_diary.specs.Pieces.{Fits, pieces_of, lists, are_there, missing_of}
+use Rattle.bill_diary.specs.Pieces.{pieces_of, lists, are_there, missing_of}
 use Rattle.bill_diary.specs.Receiving.{is_taken, is_declined, continues}
 use Rattle.bill_diary.specs.Texts.{LinkIsItsText, LinksAreTheirTexts, ManifestIsItsText, AreCompact, IsDocumentOf, IsBodyOf}
 
@@ -54,10 +56,10 @@ pub record MaySign (me : PlatformCode) (h : List Record) (bill : Checksum) (docu
 -- how many transactions may be made since the known chain, this one included, where it doesn't move: a place stays
 -- free for what has to follow
 abbrev pub most_with : Kind → ℕ
-most_with SurrenderAccepted = 32
-most_with SurrenderForDelivery = 30
-most_with SurrenderForAmendment = 30
-most_with kind = 31
+most_with SurrenderAccepted = MAX_ENTRY_TRANSACTIONS
+most_with SurrenderForDelivery = MAX_ENTRY_TRANSACTIONS - 2
+most_with SurrenderForAmendment = MAX_ENTRY_TRANSACTIONS - 2
+most_with kind = MAX_ENTRY_TRANSACTIONS - 1
 
 -- the bill is held; the transaction is well-formed, is taken, doesn't move, and stays within the limit
 pub record MayAct (h : List Record) (t : Transaction) : Type 0 where
@@ -82,9 +84,9 @@ pub record MayAttach (h : List Record) (piece : Piece) (bytes : List ℕ) : Type
   pub form : IsPiece piece
   pub fits : Fits piece bytes
   pub new : lists (pieces_of h) piece.checksum ≡ false
-  pub size : length bytes ≤ 2097152
-  pub count : length (pieces_of h) + 1 ≤ 16
-  pub together : sum_by (λ p. p.size) (pieces_of h) + length bytes ≤ 4194304
+  pub size : length bytes ≤ MAX_DOCUMENT_SIZE
+  pub count : length (pieces_of h) + 1 ≤ MAX_DOCUMENTS
+  pub together : total_size (pieces_of h) + length bytes ≤ MAX_DOCUMENTS_SIZE
 
 -- ---- parting with a bill
 
@@ -100,14 +102,14 @@ pub record MayPart (me : PlatformCode) (h : List Record) (bill : Checksum) (link
   pub known : List ChainLink
   pub since : List Transaction
   pub held : place_of h ≡ Held known since
-  pub room : length known < 64
+  pub room : length known < MAX_CHAIN_ENTRIES
   pub platform : link.entry.platform ≡ me
   pub bill_is : link.entry.bill ≡ bill
   pub previous : link.entry.previous ≡ last_name known
   pub attempt : link.entry.attempt ≡ count_by is_parted h + 1
   pub last : Transaction
   pub transactions : link.entry.transactions ≡ since ++ last ∷ []
-  pub count : length link.entry.transactions ≤ 32
+  pub count : length link.entry.transactions ≤ MAX_ENTRY_TRANSACTIONS
   pub before : Option Title
   pub title : fold (transactions_of known ++ since) ≡ Ok before
   pub after : Title
@@ -157,7 +159,7 @@ last_with_reference reference records = find (has_reference reference) records
 pub record MayBegin (me : PlatformCode) (records h : List Record) (bill : Checksum) (chain : List ChainLink)
     (manifest : Manifest) (body : List ℕ) : Type 0 where
   pub body_is : IsBodyOf bill chain manifest body
-  pub room : length chain ≤ 64
+  pub room : length chain ≤ MAX_CHAIN_ENTRIES
   pub good : IsChainOfBill bill chain
   pub links_are : LinksAreTheirTexts chain
   pub receives : MayReceive me records h chain

@@ -3,12 +3,14 @@ use Rattle.std.specs.Prelude.{◌≡◌, ℕ, ◌≤◌, List, [], ◌∷◌, Ok
 use Rattle.ebl_base.specs.declared.checksum.Checksum.{Checksum}
 use Rattle.ebl_base.specs.declared.chain.ChainLink.{ChainLink}
 use Rattle.ebl_base.specs.declared.evidence.Evidence.{Evidence}
+use Rattle.ebl_base.specs.declared.limits.TheConstants.{MAX_SIGNED_TEXT}
 use Rattle.ebl_base.specs.declared.signed_text.SignedText.{SignedText}
 use Rattle.canonical_json.specs.Value.{Value, depth}
 use Rattle.canonical_json.specs.Canon.{canon}
 use Rattle.canonical_json.specs.Lawful.{IsLawful, HasTexts}
 use Rattle.canonical_json.specs.Reading.{Reads}
 use Rattle.document_checksum.specs.Digest.{checksum_of}
+use Rattle.signed_envelope.specs.Compact as envelopes
 use Rattle.signed_envelope.specs.Compact.{IsCompact}
 use Rattle.signed_envelope.specs.declared.compact.Parts.{Parts}
 use Rattle.transport_document.specs.DocumentRecord.{DocumentRecord, bill_of}
@@ -21,7 +23,7 @@ use Rattle.envelope_manifest.specs.declared.manifest.Manifest.{Manifest}
 -- the text is in the compact layout within 16,384 bytes, and its payload reads as the value
 pub record HasPayload (text : SignedText) (payload : Value) : Type 0 where
   pub parts : Parts
-  pub compact : IsCompact 16384 text.0 parts
+  pub compact : IsCompact MAX_SIGNED_TEXT text.0 parts
   pub reads : Reads parts.payload payload
 
 -- a link's name is its text's, and its entry is the one that the text's payload reads as
@@ -43,9 +45,8 @@ pub record ManifestIsItsText (text : SignedText) (manifest : Manifest) : Type 0 
   pub reads_as : manifest_of payload ≡ Ok manifest
 
 -- the text is in the compact layout within 16,384 bytes
-pub record IsCompactText (text : SignedText) : Type 0 where
-  pub parts : Parts
-  pub compact : IsCompact 16384 text.0 parts
+abbrev pub IsCompactText : SignedText → Type 0
+IsCompactText text = envelopes.IsCompactText MAX_SIGNED_TEXT text.0
 
 -- each text of the evidence is
 pub record AreCompact (evidence : Evidence) : Type 0 where

@@ -9,6 +9,7 @@ ghost use Rattle.ebl_base.specs.declared.chain.ChainLink.{ChainLink};
 ghost use Rattle.ebl_base.specs.declared.platform_code.PlatformCode.{PlatformCode};
 ghost use Rattle.ebl_base.specs.declared.transaction.Transaction.{Transaction};
 ghost use Rattle.envelope_manifest.specs.declared.manifest.Manifest.{Manifest};
+ghost use Rattle.upload_state.specs.Piece.{Fits};
 ghost use Rattle.bill_chain.specs.Chain.{last_of};
 ghost use Rattle.bill_diary.specs.declared.record.Record.{Record};
 ghost use Rattle.bill_diary.specs.declared.record.Record.TheVariants.{Begun};
@@ -22,7 +23,7 @@ ghost use Rattle.bill_diary.specs.Standing.{Stands};
 ghost use Rattle.bill_diary.specs.Growth.{GoesOnIn};
 ghost use Rattle.bill_diary.specs.Sound.{IsSound, IsSoundHistory, MayBegin, MayStore, CameWith, MayFollowDiary, last_with_reference};
 ghost use Rattle.bill_diary.specs.Receiving.{Declination, last_declined};
-ghost use Rattle.bill_diary.specs.Pieces.{Fits, are_there};
+ghost use Rattle.bill_diary.specs.Pieces.{are_there};
 ghost use Rattle.bill_diary.specs.Texts.{LinksAreTheirTexts, IsBodyOf, AreCompact};
 
 /// In a sound diary the known chain of a bill only grows by further frames: the names of its entries stay in front.
