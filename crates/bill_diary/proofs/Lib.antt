@@ -7,6 +7,7 @@ pub mod ReferenceLemmas
 pub mod BegunLemmas
 pub mod TextLemmas
 pub mod TitleLemmas
+pub mod LinkLemmas
 pub mod CountLemmas
 pub mod PieceLemmas
 pub mod DiaryLaws

@@ -68,7 +68,8 @@ since (Acted bill transaction ∷ h) = since h ++ transaction ∷ []
 since (Taken bill entry ∷ h) = []
 since (r ∷ h) = since h
 
--- the first that applies: no chain is known; an entry is parting; the last entry of the known chain is settled; else held
+-- the first that applies: no chain is known; an entry is parting; the last entry of the known chain is settled; else
+-- the bill is held
 abbrev pub place_with : Option (List ChainLink) → Option ChainLink → List Record → BillPlace
 place_with None parting h = Absent
 place_with (Some known) (Some entry) h = Parting known entry

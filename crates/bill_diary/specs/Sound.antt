@@ -43,7 +43,8 @@ use Rattle.bill_diary.specs.Texts.{LinkIsItsText, LinksAreTheirTexts, ManifestIs
 
 -- ---- holding a bill
 
--- a well-formed SIGN without recipient by a party of this platform, of an absent bill whose name is that of the document
+-- a well-formed SIGN without recipient by a party of this platform, of an absent bill whose name is that of the
+-- document
 pub record MaySign (me : PlatformCode) (h : List Record) (bill : Checksum) (document : List ℕ) (t : Transaction)
     : Type 0 where
   pub absent : place_of h ≡ Absent

@@ -3,32 +3,44 @@
 
 ghost use Rattle.std.specs.Prelude.{◌≡◌, IfOk};
 ghost use Rattle.bill_diary.specs.History.{history};
-ghost use Rattle.bill_diary.specs.Place.{may_act_by, title_at};
-ghost use Rattle.bill_diary.specs.Titles.{is_ended_by, unplaced};
+ghost use Rattle.bill_diary.specs.Place.{may_act_by};
+ghost use Rattle.bill_diary.specs.Titles.{FoldedBy, is_ended_by};
 
-use crate::bill_place::{BillPlace, place};
+use crate::bill_place::is_left;
 use crate::frame::Diary;
-use crate::titles::title_at;
+use crate::known::known_links;
+use crate::parting::parting;
+use crate::since::since;
+use crate::walk::History;
 use ebl_base::{Checksum, NoMemory};
 use std::alloc::Global;
-use title_fold::Title;
+use title_fold::{FoldRefusal, Title};
 
 /// Whether the possessor of a bill may act: the bill is held, and its title isn't ended.
+///
+/// It goes over the diary several times, and folds the known chain where it is: no link is copied.
 pub fn may_act(alloc: Global, d: &Diary, bill: Checksum) -> Result<bool, NoMemory>
     ensures { IfOk result (λ may. may ≡ may_act_by (history bill d.now)) }
 {
-    let place = place(alloc, d, bill)?;
-    match place {
-        BillPlace::Held { .. } => Ok(!is_ended(&place)),
-        _ => Ok(false),
+    let frames = d.as_slice();
+    let Some(known) = known_links(alloc, History::of(frames, bill))? else {
+        return Ok(false);
+    };
+    if parting(History::of(frames, bill)).is_some() {
+        return Ok(false);
     }
+    if is_left(known.last(), History::of(frames, bill)) {
+        return Ok(false);
+    }
+    let made = since(alloc, History::of(frames, bill))?;
+    Ok(!is_ended(known.title_with(made.as_slice())))
 }
 
-// Whether the title at a place is ended.
-fn is_ended(place: &BillPlace) -> bool
-    ensures { result ≡ is_ended_by (unplaced (title_at place.now)) }
+// Whether a title is ended.
+fn is_ended(folded: Result<Option<Title>, FoldRefusal>) -> bool
+    ensures { result ≡ is_ended_by folded }
 {
-    match title_at(place) {
+    match folded {
         Ok(Some(Title::Ended { .. })) => true,
         _ => false,
     }

@@ -1,8 +1,9 @@
 //! Where a bill stands on a platform.
-ghost use Rattle.std.specs.Prelude.{◌≡◌, IfOk, Some, option_copied};
+ghost use Rattle.std.specs.Prelude.{◌≡◌, IfOk, Some, false, option_copied};
+ghost use Rattle.std.specs.Option.{option_map_or};
 ghost use Rattle.bill_diary.specs.History.{history};
 ghost use Rattle.bill_diary.specs.Known.{known};
-ghost use Rattle.bill_diary.specs.Place.{is_left, known_at, place_of, tag_of};
+ghost use Rattle.bill_diary.specs.Place.{is_settled, known_at, place_of, tag_of};
 
 use crate::frame::{Diary, Frame};
 use crate::known::known_chain;
@@ -92,7 +93,7 @@ fn place_with(
             entry: link.copy(alloc)?,
         });
     }
-    if is_left(&chain, History::of(frames, bill)) {
+    if is_left(last_link(chain.as_slice()), History::of(frames, bill)) {
         return Ok(BillPlace::Gone { known: chain });
     }
     Ok(BillPlace::Held {
@@ -101,11 +102,11 @@ fn place_with(
     })
 }
 
-// Whether a Settled names the last entry of a chain.
-fn is_left(chain: &Chain, h: History) -> bool
-    ensures { result ≡ is_left chain.now h.entry }
+/// Whether a Settled names the last link of a chain, if there is one.
+pub(crate) fn is_left(last: Option<&ChainLink>, h: History) -> bool
+    ensures { result ≡ option_map_or (λ link. is_settled link.name h.entry) (option_copied last.entry) false }
 {
-    match last_link(chain.as_slice()) {
+    match last {
         Some(link) => is_settled(h, link.name),
         None => false,
     }

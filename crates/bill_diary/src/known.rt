@@ -4,6 +4,7 @@ ghost use Rattle.bill_diary.specs.History.{record_at};
 ghost use Rattle.bill_diary.specs.Known.{known, settled_chain};
 
 use crate::known_chains::KnownChains;
+use crate::links::Links;
 use crate::record::Record;
 use crate::record_ref::RecordRef;
 use crate::walk::History;
@@ -18,12 +19,22 @@ use std::alloc::Global;
 pub fn known_chain(alloc: Global, h: History) -> Result<Option<Chain>, NoMemory>
     ensures { IfOk result (λ chain. chain ≡ known h.entry) }
 {
+    match known_links(alloc, h)? {
+        Some(links) => Ok(Some(links.chain(alloc)?)),
+        None => Ok(None),
+    }
+}
+
+/// The same chain by references to its links: none is copied.
+pub(crate) fn known_links<'a>(alloc: Global, h: History<'a>) -> Result<Option<Links<'a>>, NoMemory>
+    ensures { IfOk result (λ links. links ≡ known h.entry) }
+{
     let mut left = records(alloc, h)?;
     let mut told = KnownChains::nothing(alloc);
     while let Some(record) = left.pop() {
         told.add(alloc, record)?;
     }
-    told.known(alloc)
+    Ok(told.known())
 }
 
 // The records that are left, newest first.

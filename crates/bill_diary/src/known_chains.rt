@@ -45,14 +45,11 @@ impl<'a> KnownChains<'a> {
         }
     }
 
-    /// The known chain, with copies of its links.
-    pub(crate) fn known(&self, alloc: Global) -> Result<Option<Chain>, NoMemory>
-        ensures { IfOk result (λ chain. chain ≡ self.now.known) }
+    /// The known chain.
+    pub(crate) fn known(self) -> Option<Links<'a>>
+        ensures { result ≡ self.entry.known }
     {
-        match &self.known {
-            Some(links) => Ok(Some(links.chain(alloc)?)),
-            None => Ok(None),
-        }
+        self.known
     }
 
     // One chain more is told, if any is: the known one stays where it is longer.

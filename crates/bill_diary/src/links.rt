@@ -1,9 +1,12 @@
 //! Chains by references to their links.
-ghost use Rattle.std.specs.Prelude.{◌≡◌, ◌∷◌, [], ◌++◌, IfOk, OnOk, length};
+ghost use Rattle.std.specs.Prelude.{◌≡◌, ◌∷◌, [], ◌++◌, IfOk, OnOk, length, map, option_copied};
+ghost use Rattle.title_fold.specs.Fold.{fold};
+ghost use Rattle.bill_chain.specs.Chain.{last_of, title_after_chain, transactions_of, without_place};
 
-use ebl_base::{Chain, ChainLink, Copied, Items, NoMemory};
+use ebl_base::{Chain, ChainLink, Copied, Items, NoMemory, Transaction};
 use std::alloc::Global;
 use std::marker::Model;
+use title_fold::{FoldRefusal, Title, fold_from};
 
 /// A chain by references to its links.
 #[derive(Drop)]
@@ -34,6 +37,21 @@ impl<'a> Links<'a> {
         ensures { result ≡ length self.now }
     {
         self.links.len()
+    }
+
+    /// The last link.
+    pub(crate) fn last(&self) -> Option<&'a ChainLink>
+        ensures { option_copied result ≡ last_of self.now }
+    {
+        last_of(&self.links)
+    }
+
+    /// The title after the links and further transactions, or the rule that refuses the first that is refused. It goes
+    /// over the links, and copies none.
+    pub(crate) fn title_with(&self, more: &[Transaction]) -> Result<Option<Title>, FoldRefusal>
+        ensures { result ≡ without_place (fold (transactions_of self.now ++ more.now)) }
+    {
+        title_with(&self.links, more)
     }
 
     /// Puts a link at the end.
@@ -73,4 +91,39 @@ impl<'a> Links<'a> {
         }
         Ok(chain)
     }
+}
+
+fn last_of<'a>(links: &[&'a ChainLink]) -> Option<&'a ChainLink>
+    ensures { option_copied result ≡ last_of (map (λ l. l.now) links.now) }
+{
+    match links.last() {
+        Some(link) => Some(*link),
+        None => None,
+    }
+}
+
+fn title_with(links: &[&ChainLink], more: &[Transaction]) -> Result<Option<Title>, FoldRefusal>
+    ensures { result ≡ without_place (fold (transactions_of (map (λ l. l.now) links.now) ++ more.now)) }
+{
+    match title_after(links) {
+        Ok(title) => match fold_from(more, title, 0) {
+            Ok(after) => Ok(after),
+            Err(at) => Err(at.rule),
+        },
+        Err(rule) => Err(rule),
+    }
+}
+
+// The title after the links.
+fn title_after(links: &[&ChainLink]) -> Result<Option<Title>, FoldRefusal>
+    ensures { result ≡ without_place (title_after_chain (map (λ l. l.now) links.now)) }
+{
+    let mut title = None;
+    for link in links {
+        match fold_from(link.entry.transactions.as_slice(), title, 0) {
+            Ok(after) => title = after,
+            Err(at) => return Err(at.rule),
+        }
+    }
+    Ok(title)
 }

@@ -3,7 +3,7 @@ use Rattle.std.proofs.Common.{◌≡◌, List, ◌++◌, map, vec_len}
 use Rattle.bill_diary.specs.declared.record.Record.{Record}
 use Rattle.bill_diary.specs.KnownChains.{IsToldBy}
 use Rattle.bill_diary.specs.History.{record_at}
-use Rattle.bill_diary.proofs.known.known_chain.Given as goal
+use Rattle.bill_diary.proofs.known.known_links.Given as goal
 
 abbrev pub invariant-loop-record : goal.invariant-loop-record
 invariant-loop-record l =
