@@ -1,6 +1,6 @@
 -- The body that bytes are is the one that they read as.
 use Rattle.std.proofs.Common.{◌≡◌, ℕ, List, Ok, Err, Result, refl, ap, ◌∙◌, inl, inr}
-use Rattle.std.specs.Prelude.{Option, Some, None}
+use Rattle.std.specs.Prelude.{Some, None}
 use Rattle.std.specs.Result.{result_ok}
 use Rattle.canonical_json.specs.Value.{Value}
 use Rattle.canonical_json.specs.Reading.{Reads, value_in}

@@ -35,7 +35,7 @@ pub record From {X : Type 0} (P : X → Type 0) (items : List X) : Type 0 where
 later : {X : Type 0} (P : X → Type 0) (x : X) (items : List X) → From P items → From P (x ∷ items)
 later P x items f = record { item = f.item; among = inr f.among; holds = f.holds }
 
-among_map : {X Y : Type 0} (f : X → Y) (items : List X) (x : X) → IsAmong x items → IsAmong (f x) (map f items)
+pub among_map : {X Y : Type 0} (f : X → Y) (items : List X) (x : X) → IsAmong x items → IsAmong (f x) (map f items)
 among_map f [] x h = absurd h
 among_map f (y ∷ items) x (inl same) = inl (ap f same)
 among_map f (y ∷ items) x (inr h) = inr (among_map f items x h)
@@ -46,7 +46,7 @@ map_among f [] y h = absurd h
 map_among f (x ∷ items) y (inl same) = record { item = x; among = inl refl; holds = same }
 map_among {X} f (x ∷ items) y (inr h) = later (λ (z : X). f z ≡ y) x items (map_among f items y h)
 
-among_flat : {X Y : Type 0} (f : X → List Y) (items : List X) (x : X) (y : Y) → IsAmong x items → IsAmong y (f x)
+pub among_flat : {X Y : Type 0} (f : X → List Y) (items : List X) (x : X) (y : Y) → IsAmong x items → IsAmong y (f x)
     → IsAmong y (flat_map f items)
 among_flat f [] x y h k = absurd h
 among_flat {X} {Y} f (z ∷ items) x y (inl same) k =
@@ -74,7 +74,7 @@ among_reverse {X} (y ∷ items) x h =
     on_parts (inl same) further = among_more x (reverse items) (y ∷ []) (inl same)
     on_parts (inr there) further = among_before x (reverse items) (y ∷ []) (further there)
 
-reverse_among : {X : Type 0} (items : List X) (x : X) → IsAmong x (reverse items) → IsAmong x items
+pub reverse_among : {X : Type 0} (items : List X) (x : X) → IsAmong x (reverse items) → IsAmong x items
 reverse_among [] x h = h
 reverse_among {X} (y ∷ items) x h =
     on_parts

@@ -17,7 +17,6 @@ pub mod Growth
 pub mod Grounded
 pub mod Complete
 pub mod Ended
-pub mod Destinations
 pub mod Searches
 pub mod Lacks
 pub mod Bodies
@@ -25,3 +24,4 @@ pub mod SharedNames
 pub mod FamilyTexts
 pub mod Takings
 pub mod Verdicts
+pub mod Longest

@@ -9,3 +9,4 @@ pub mod Bytes
 pub mod Survey
 pub mod Later
 pub mod Lack
+pub mod Longest

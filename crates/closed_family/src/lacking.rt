@@ -6,10 +6,10 @@ ghost use Rattle.bill_diary.specs.Known.{settled_chain, taken_chain};
 ghost use Rattle.closed_family.specs.Family.{histories_of};
 ghost use Rattle.closed_family.specs.Lacking.{says, first_of, unparted, unparted_of, unanswered_of, lacking_of, lacking_in, lacking};
 
-use crate::destination::destination;
 use crate::family::Family;
 use crate::lookups::stands;
 use crate::verdict::Lack;
+use bill_chain::{destination, last_link};
 use bill_diary::{Diary, History, Newest, Record, RecordRef, settled_chain, taken_chain};
 use ebl_base::{ChainLink, Checksum, Copied, NoMemory, PlatformCode, SignedText};
 use std::alloc::Global;
@@ -73,7 +73,7 @@ fn unanswered(
     let Some(platform) = destination(chain) else {
         return Ok(None);
     };
-    let Some(link) = chain.last() else {
+    let Some(link) = last_link(chain) else {
         return Ok(None);
     };
     if stands(family, platform, bill, what, entry) {

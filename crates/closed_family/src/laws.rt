@@ -10,8 +10,10 @@ ghost use Rattle.bill_diary.specs.declared.bill_place.BillPlace.TheVariants.{Hel
 ghost use Rattle.bill_chain.specs.Chain.{last_of, destination, IsChainOfBill};
 ghost use Rattle.bill_diary.specs.Sound.{IsSoundHistory};
 ghost use Rattle.closed_family.specs.Chains.{NamesDetermineLinks};
-ghost use Rattle.closed_family.specs.Histories.{PartedOn, WasAccepted, links_of, ExtendsKnown};
-ghost use Rattle.closed_family.specs.Closed.{EveryEntryWasParted};
+ghost use Rattle.closed_family.specs.Histories.{PartedOn, WasAccepted, is_signed, links_of, ExtendsKnown};
+ghost use Rattle.closed_family.specs.Closed.{EveryEntryWasParted, Histories};
+ghost use Rattle.closed_family.specs.Longest.{HaveAllRecords, longest_accepted, longest_in};
+ghost use Rattle.closed_family.specs.Safe.{IsLine};
 ghost use Rattle.closed_family.specs.Lacking.{lacking};
 ghost use Rattle.closed_family.specs.Later.{IsLaterThan, IsEndedAt};
 ghost use Rattle.closed_family.specs.Family.{histories_of, IsSignedIn, IsSoundFamily, IsClosedFamily};
@@ -113,4 +115,20 @@ pub fn closed_family_lacks_nothing()
     ensures closed { (family : List Member) → lacking family ≡ [] → IsClosedFamily family }
     ensures complete { (family : List Member)
         → IsSoundFamily family → IsClosedFamily family → lacking family ≡ [] }
+{}
+
+/// The longest accepted chain of a bill that was signed, of equally long ones the first by the platforms and on each by
+/// its records, is its line: no accepted chain is longer. The platforms are all that have a record of the bill.
+pub fn longest_accepted_chain_is_the_line()
+    ensures { (at : Histories) (platforms : List PlatformCode) (p : PlatformCode)
+        → HaveAllRecords at platforms → is_signed (at p) ≡ true → IsLine at (longest_accepted at platforms) }
+{}
+
+/// In a safe family the longest accepted chain of a bill is the one line, and the known chain where it ends.
+pub fn line_of_a_safe_bill_is_known_at_its_end()
+    ensures line { (family : List Member) (bill : Checksum) (safe : IsSafeFamily family)
+        (signed : IsSignedIn family bill) → (safe.bills bill signed).line ≡ longest_in family bill }
+    ensures known { (family : List Member) (bill : Checksum) (safe : IsSafeFamily family)
+        (signed : IsSignedIn family bill)
+        → known (histories_of bill family (safe.bills bill signed).end) ≡ Some (longest_in family bill) }
 {}
