@@ -1,10 +1,12 @@
 pub mod Views
 pub mod Units
+pub mod Bytes
 pub mod Order
 pub mod Sorting
 pub mod Numbers
 pub mod Trees
 pub mod Growing
+pub mod Descents
 pub mod Decimals
 pub mod Texts
 pub mod Readings

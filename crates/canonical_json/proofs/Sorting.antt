@@ -112,12 +112,10 @@ names_rise-sorted (x ∷ y ∷ ys) are sorted =
         let one : suc k + 1 ≡ suc (k + 1) = omega arith in
         subst (λ n. is_lt (name_cmp (member_view (get_or (x ∷ y ∷ ys) n d)).0 (member_view (get_or (y ∷ ys) k d)).0) ≡ false) one (sorted (suc k) d (omega arith))
 
-pub sorted_in_order : (xs ys : List Member) → AreApart (members_view xs) → IsPermutation xs ys
-    → ((k : ℕ) (d : Member) → k + 1 < length ys → is_lt (name_cmp (member_view (get_or ys (k + 1) d)).0 (member_view (get_or ys k d)).0) ≡ false)
-    → members_view ys ≡ in_order (members_view xs)
-sorted_in_order xs ys are moved sorted =
+pub risen_in_order : (xs ys : List Member) → AreApart (members_view xs) → IsPermutation xs ys → names_rise (members_view ys) ≡ true → members_view ys ≡ in_order (members_view xs)
+risen_in_order xs ys are moved rise =
     let keeps = IsPermutation-keeps xs (Keeps (in_order (members_view xs))) (record { apart = are; ordered = refl }) (λ l i j. Keeps-swap (in_order (members_view xs)) l i j) ys moved in
-    sym (put_all-names_rise (members_view ys) (names_rise-sorted ys keeps.apart sorted)) ∙ keeps.ordered
+    sym (put_all-names_rise (members_view ys) rise) ∙ keeps.ordered
 
 -- ---- names that come once
 
@@ -176,21 +174,28 @@ AreApart-permutation xs ys moved are = IsPermutation-keeps xs (λ l. AreApart (m
 
 -- ---- what a sort says of the names
 
--- ys is xs sorted
-module _ (xs ys : List Member) (texts : MembersHaveTexts (members_view xs)) (moved : IsPermutation xs ys)
-    (sorted : (k : ℕ) (d : Member) → k + 1 < length ys → is_lt (name_cmp (member_view (get_or ys (k + 1) d)).0 (member_view (get_or ys k d)).0) ≡ false) where
-  pub rise_if_apart : (b : Bool) → names_rise (members_view ys) ≡ b → b ≡ not (repeats (names_of (members_view xs)))
-  rise_if_apart true e = ap not (sym (repeats-apart (members_view xs) (AreApart-permutation ys xs (IsPermutation-sym xs ys moved) (AreApart-rise (members_view ys) e))))
-  rise_if_apart false e = by (repeats (names_of (members_view xs))) refl
-    where
-      by : (r : Bool) → repeats (names_of (members_view xs)) ≡ r → false ≡ not (repeats (names_of (members_view xs)))
-      by true f = ap not (sym f)
-      by false f =
-          absurd (true≢false (sym (names_rise-sorted ys (AreApart-permutation xs ys moved (AreApart-repeats (members_view xs) texts f)) sorted) ∙ e))
+-- ys has the members of xs, and its names rise
+module _ (xs ys : List Member) (moved : IsPermutation xs ys) (rise : names_rise (members_view ys) ≡ true) where
+  apart_if_risen : AreApart (members_view xs)
+  apart_if_risen = AreApart-permutation ys xs (IsPermutation-sym xs ys moved) (AreApart-rise (members_view ys) rise)
 
-  pub in_order_if_rise : names_rise (members_view ys) ≡ true → members_view ys ≡ in_order (members_view xs)
-  in_order_if_rise e =
-      sorted_in_order xs ys (AreApart-permutation ys xs (IsPermutation-sym xs ys moved) (AreApart-rise (members_view ys) e)) moved sorted
+  pub none_repeats : true ≡ not (repeats (names_of (members_view xs)))
+  none_repeats = ap not (sym (repeats-apart (members_view xs) apart_if_risen))
+
+  pub in_order_if_risen : members_view ys ≡ in_order (members_view xs)
+  in_order_if_risen = risen_in_order xs ys apart_if_risen moved rise
+
+-- ys is xs sorted
+pub rise_if_apart : (xs ys : List Member) → MembersHaveTexts (members_view xs) → IsPermutation xs ys
+    → ((k : ℕ) (d : Member) → k + 1 < length ys → is_lt (name_cmp (member_view (get_or ys (k + 1) d)).0 (member_view (get_or ys k d)).0) ≡ false)
+    → (b : Bool) → names_rise (members_view ys) ≡ b → b ≡ not (repeats (names_of (members_view xs)))
+rise_if_apart xs ys texts moved sorted true e = none_repeats xs ys moved e
+rise_if_apart xs ys texts moved sorted false e = by (repeats (names_of (members_view xs))) refl
+  where
+    by : (r : Bool) → repeats (names_of (members_view xs)) ≡ r → false ≡ not (repeats (names_of (members_view xs)))
+    by true f = ap not (sym f)
+    by false f =
+        absurd (true≢false (sym (names_rise-sorted ys (AreApart-permutation xs ys moved (AreApart-repeats (members_view xs) texts f)) sorted) ∙ e))
 
 -- ---- texts of members in another order
 

@@ -1,13 +1,14 @@
 -- A text's tree, from what the kit reads.
-use Rattle.std.proofs.Common.{◌≡◌, ℕ, List, Bool, true, false, ◌||◌, Option, Some, None, Ok, Err, option_and_then, unwrap_or, cond, IsUtf8, refl, sym, ap, ◌∙◌, subst}
+use Rattle.std.proofs.Common.{◌≡◌, ℕ, List, [], ◌∷◌, Bool, true, false, true≢false, ◌||◌, Option, Some, None, Ok, Err, option_and_then, unwrap_or, cond, is_some, IsUtf8, refl, sym, ap, ◌∙◌, subst}
 use Rattle.std.proofs.lemmas.Str.{is_utf8-from_IsUtf8, IsUtf8-from_is_utf8}
+use Rattle.std.specs.Prelude.{MatchOption}
 use Rattle.std.specs.Str.{is_utf8}
 use Rattle.json.specs.Token.{Token}
 use Rattle.json.specs.Lex.{tokens}
 use Rattle.json.specs.Json as json
 use Rattle.canonical_json.specs.Value.{Value}
 use Rattle.canonical_json.specs.Number.{is_fraction, is_big}
-use Rattle.canonical_json.specs.Faults.{no_faults, first_fault, Notes}
+use Rattle.canonical_json.specs.Faults.{no_faults, first_fault, Notes, IsStop}
 use Rattle.canonical_json.specs.Reading.{tree_of, if_tree, value_in, value_of, has_repeated, has_number, IsFault}
 use Rattle.canonical_json.specs.declared.faults.Faults.{Faults}
 use Rattle.canonical_json.specs.declared.fault.ReadError.{ReadError}
@@ -26,6 +27,24 @@ tree_of-value bytes ts o u e f = tree_of-tokens bytes ts u e ∙ ap (option_and_
 pub value_in-tree : (bytes : List ℕ) (o : Option json.Json) → tree_of bytes ≡ o → value_in bytes ≡ if_tree o
 unfolding value_in
 value_in-tree bytes o e = ap if_tree e
+
+-- a token behind the value, and none
+module _ {A : Type 0} (of : A → Token) (j : json.Json) where
+  pub if_last-more : (r : Option A) (left new : List Token) → MatchOption r ((left ≡ []) × (new ≡ [])) (λ t. left ≡ of t ∷ new) → is_some r ≡ true → json.if_last j left ≡ None
+  if_last-more None left new next some = absurd (true≢false (sym some))
+  if_last-more (Some t) left new next some = ap (json.if_last j) next
+
+  pub if_last-none : (r : Option A) (left new : List Token) → MatchOption r ((left ≡ []) × (new ≡ [])) (λ t. left ≡ of t ∷ new) → is_some r ≡ false → json.if_last j left ≡ Some j
+  if_last-none None left new next none = ap (json.if_last j) next.0
+  if_last-none (Some t) left new next none = absurd (true≢false none)
+
+-- where the grammar has no value the text has none
+pub fault_of_stop : (bytes : List ℕ) (ts : List Token) (e : ReadError) → IsUtf8 bytes → ts ≡ tokens bytes → IsStop (json.value 127 ts) e → IsFault bytes e
+fault_of_stop bytes ts ReadError.NotJson u e stop = value_in-tree bytes None (tree_of-value bytes ts None u e stop)
+fault_of_stop bytes ts ReadError.Repeated u e stop = absurd stop
+fault_of_stop bytes ts ReadError.Fraction u e stop = absurd stop
+fault_of_stop bytes ts ReadError.Range u e stop = absurd stop
+fault_of_stop bytes ts ReadError.NoMemory u e stop = tt
 
 -- bytes that are no UTF-8 are no text
 pub value_in-no_utf8 : (bytes : List ℕ) → ¬ IsUtf8 bytes → value_in bytes ≡ Err NotJson

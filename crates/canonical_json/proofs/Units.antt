@@ -11,24 +11,24 @@ use Rattle.canonical_json.specs.Name.{units, units_rank, name_cmp}
 
 -- ---- numbers
 
-nat_cmp_less : (x y : ℕ) → x < y → nat_cmp x y ≡ Less
+pub nat_cmp_less : (x y : ℕ) → x < y → nat_cmp x y ≡ Less
 nat_cmp_less x y h = rw (lt-ltb x y h)
 
-nat_cmp_greater : (x y : ℕ) → y < x → nat_cmp x y ≡ Greater
+pub nat_cmp_greater : (x y : ℕ) → y < x → nat_cmp x y ≡ Greater
 nat_cmp_greater x y h = let ge : y ≤ x = omega arith in rw (le-ltb x y ge, ne_eqb x y (λ e. omega arith))
 
-nat_cmp_equal : (x : ℕ) → nat_cmp x x ≡ Equal
+pub nat_cmp_equal : (x : ℕ) → nat_cmp x x ≡ Equal
 nat_cmp_equal x = let ge : x ≤ x = omega arith in grind arith
 
 -- ---- where a character stands
 
-rank_low : (c : ℕ) → c < 57344 → units_rank c ≡ c
+pub rank_low : (c : ℕ) → c < 57344 → units_rank c ≡ c
 rank_low c h = grind arith
 
-rank_middle : (c : ℕ) → 57344 ≤ c → c < 65536 → units_rank c ≡ c + 1114112
+pub rank_middle : (c : ℕ) → 57344 ≤ c → c < 65536 → units_rank c ≡ c + 1114112
 rank_middle c h k = grind arith
 
-rank_high : (c : ℕ) → 65536 ≤ c → units_rank c ≡ c
+pub rank_high : (c : ℕ) → 65536 ≤ c → units_rank c ≡ c
 rank_high c h = grind arith
 
 -- ---- one character more
@@ -187,11 +187,7 @@ name_cmp_past a b r s x y u v p q =
     ap₂ (λ (l m : List ℕ). slice_cmp nat_cmp l m) (units_past a r x u p) (units_past b s y v q)
     ∙ first_units x y (units r) (units s) (scalar_first a r x u p) (scalar_first b s y v q)
 
-pub name_cmp_same : (a b r s : List ℕ) (x y : ℕ) → IsUtf8 a → IsUtf8 b → a ≡ encode x ++ r → b ≡ encode y ++ s → x ≡ y → name_cmp a b ≡ name_cmp r s
-name_cmp_same a b r s x y u v p q e =
-    name_cmp_past a b r s x y u v p q ∙ ap (λ o. ordering_then o (name_cmp r s)) (ap (λ n. nat_cmp (units_rank n) (units_rank y)) e ∙ nat_cmp_equal (units_rank y))
-
-rank_apart : (x y : ℕ) → scalar x ≡ true → scalar y ≡ true → units_rank x ≡ units_rank y → x ≡ y
+pub rank_apart : (x y : ℕ) → scalar x ≡ true → scalar y ≡ true → units_rank x ≡ units_rank y → x ≡ y
 rank_apart x y p q e = by (cases_lt x 57344) (cases_lt x 65536) (cases_lt y 57344) (cases_lt y 65536)
   where
     within : (c : ℕ) → scalar c ≡ true → c < 1114112
@@ -213,17 +209,6 @@ rank_apart x y p q e = by (cases_lt x 57344) (cases_lt x 65536) (cases_lt y 5734
     by (inr a) (inr b) (inl d) f = sym (rank_high x b) ∙ e ∙ rank_low y d
     by (inr a) (inr b) (inr d) (inl f) = let k = sym (rank_high x b) ∙ e ∙ rank_middle y d f in let m = xs in absurd (omega arith)
     by (inr a) (inr b) (inr d) (inr f) = sym (rank_high x b) ∙ e ∙ rank_high y f
-
-pub name_cmp_apart : (a b r s : List ℕ) (x y : ℕ) → IsUtf8 a → IsUtf8 b → a ≡ encode x ++ r → b ≡ encode y ++ s → (x ≡ y → ⊥)
-    → nat_cmp (units_rank x) (units_rank y) ≡ name_cmp a b
-name_cmp_apart a b r s x y u v p q ne =
-    sym (name_cmp_past a b r s x y u v p q ∙ settled (cases_lt (units_rank x) (units_rank y)))
-  where
-    settled : (units_rank x < units_rank y) ⊎ (units_rank y ≤ units_rank x) → ordering_then (nat_cmp (units_rank x) (units_rank y)) (name_cmp r s) ≡ nat_cmp (units_rank x) (units_rank y)
-    settled (inl l) = rw (nat_cmp_less _ _ l)
-    settled (inr l) =
-        let other : units_rank x ≡ units_rank y → ⊥ = λ e. ne (rank_apart x y (scalar_first a r x u p) (scalar_first b s y v q) e) in
-        rw (nat_cmp_greater (units_rank x) (units_rank y) (omega arith))
 
 -- ---- two names with the same code units are one
 

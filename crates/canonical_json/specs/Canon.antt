@@ -1,4 +1,5 @@
--- The canonical text of a value: RFC 8785, sections 3.2.1 to 3.2.3. In the range of lawful numbers its section 3.2.2.3 writes plain decimals, with no exponent.
+-- The canonical text of a value: RFC 8785, sections 3.2.1 to 3.2.3. In the range of lawful numbers its section 3.2.2.3
+-- writes plain decimals, with no exponent.
 use Rattle.std.specs.Prelude.{ℕ, suc, ◌-◌, ℤ, pos, negsuc, List, [], ◌∷◌, ◌++◌, length, take, drop, replicate, Bool, true, false, codes, if◌then◌else◌}
 use Rattle.std.specs.Fmt.{signed_decimal, decimal as digits_of}
 use Rattle.json.specs.Print.{quoted}
@@ -14,7 +15,9 @@ filled s digits = replicate (suc s - length digits) 48 ++ digits
 
 -- the same, with a full stop before the last s
 abbrev pub with_stop : ℕ → List ℕ → List ℕ
-with_stop s digits = take (length (filled s digits) - s) (filled s digits) ++ 46 ∷ drop (length (filled s digits) - s) (filled s digits)
+with_stop s digits =
+    take (length (filled s digits) - s) (filled s digits)
+    ++ 46 ∷ drop (length (filled s digits) - s) (filled s digits)
 
 abbrev pub decimal_text : ℤ → ℕ → List ℕ
 decimal_text (pos n) s = with_stop s (digits_of n)

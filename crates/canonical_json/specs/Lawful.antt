@@ -1,4 +1,5 @@
--- Which values have a canonical text: numbers that IEEE 754 doubles tell apart (RFC 8785, section 3.2.2.3), and names in order.
+-- Which values have a canonical text: numbers that IEEE 754 doubles tell apart (RFC 8785, section 3.2.2.3), and names
+-- in order.
 use Rattle.std.specs.Prelude.{ℤ, pos, negsuc, Bool, true, not, ◌&&◌, ◌||◌, IsTrue, int_lt, unsigned_abs}
 use Rattle.std.specs.Str.{IsUtf8}
 use Rattle.canonical_json.specs.Value.{Value, null, flag, int, decimal, text, list, object, Values, no_values, item, Members, no_members, member}

@@ -1,5 +1,5 @@
 -- Names in the order of RFC 8785, section 3.2.3: as sequences of UTF-16 code units.
-use Rattle.std.specs.Prelude.{◌≢◌, ℕ, ◌+◌, List, Bool, true, ◌&&◌, flat_map, nat_lt, nat_le, if◌then◌else◌}
+use Rattle.std.specs.Prelude.{◌≢◌, ℕ, ◌+◌, List, Bool, true, ◌&&◌, ◌||◌, ◌==◌, flat_map, nat_lt, nat_le, if◌then◌else◌}
 use Rattle.std.specs.declared.cmp.Ordering.{Ordering}
 use Rattle.std.specs.declared.cmp.Ordering.TheVariants.{Equal}
 use Rattle.std.specs.Ordering.{nat_cmp, match_ordering, is_lt}
@@ -15,6 +15,10 @@ units name = flat_map encode_utf16 (chars name)
 -- where a character stands by its code units: the surrogates of U+10000 and above come before U+E000 to U+FFFF
 abbrev pub units_rank : ℕ → ℕ
 units_rank c = if nat_le 0xE000 c && nat_lt c 0x1_0000 then c + 0x11_0000 else c
+
+-- where a byte of UTF-8 stands: 0xEE and 0xEF, which begin U+E000 to U+FFFF, come last
+abbrev pub byte_rank : ℕ → ℕ
+byte_rank b = if b == 0xEE || b == 0xEF then b + 0x100 else b
 
 -- which of two names comes first
 unfoldable pub name_cmp : List ℕ → List ℕ → Ordering
@@ -43,7 +47,8 @@ AreApart (member name v ms) = IsApart name ms × AreApart ms
 abbrev pub put : List ℕ → Value → Members → Members
 put name v no_members = member name v no_members
 put name v (member other w ms) =
-    match_ordering (name_cmp name other) (member name v (member other w ms)) (member other v ms) (member other w (put name v ms))
+    match_ordering (name_cmp name other)
+    (member name v (member other w ms)) (member other v ms) (member other w (put name v ms))
 
 -- the members put one after another among those that are there
 abbrev pub put_all : Members → Members → Members

@@ -1,4 +1,5 @@
--- The number that a number's text is: RFC 8259, section 6. A numeral's whole part, fraction and exponent are those of std's `scan`.
+-- The number that a number's text is: RFC 8259, section 6. A numeral's whole part, fraction and exponent are those of
+-- std's `scan`.
 use Rattle.std.specs.Prelude.{ℕ, zero, suc, ◌*◌, ◌/◌, ◌%◌, ◌^◌, List, length, drop, slice_index, Bool, true, false, not, ◌&&◌, ◌==◌, nat_lt, nat_le, if◌then◌else◌, Result, Ok, Err}
 use Rattle.fast_float.specs.Text.{minus, Parts, scan, digits_of, with_sign}
 use Rattle.canonical_json.specs.Value.{Value, null, int, decimal}
@@ -32,9 +33,11 @@ exact negative (n, zero) = if nat_le n greatest then Ok (int (with_sign negative
 exact negative (n, suc s) = if is_decimal n (suc s) then Ok (decimal (with_sign negative n) (suc s)) else Err Fraction
 
 abbrev pub from_parts : Bool → Parts → Result Value ReadError
-from_parts negative p = if length p.exponent == 0 then exact negative (lowest (digits_of p) (length p.fraction)) else Err Fraction
+from_parts negative p =
+    if length p.exponent == 0 then exact negative (lowest (digits_of p) (length p.fraction)) else Err Fraction
 
--- the value of a number's text, or its fault: Fraction for an exponent or more digits than a decimal has, Range for a whole number past 2^53 - 1
+-- the value of a number's text, or its fault: Fraction for an exponent or more digits than a decimal has, Range for a
+-- whole number past 2^53 - 1
 unfoldable pub number_in : List ℕ → Result Value ReadError
 number_in s = from_parts (is_negative s) (parts_of s)
 

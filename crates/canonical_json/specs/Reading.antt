@@ -1,4 +1,5 @@
--- Which value a text is, or why it is none: the grammar of RFC 8259 over UTF-8 as the kit's `json` defines it (`Lex` for sections 2 and 7, `Word` for 3 and 6, `Json` for 4 and 5), and the value of a tree of that grammar.
+-- Which value a text is, or why it is none: the grammar of RFC 8259 over UTF-8 as the kit's `json` defines it (`Lex`
+-- for sections 2 and 7, `Word` for 3 and 6, `Json` for 4 and 5), and the value of a tree of that grammar.
 use Rattle.std.specs.Prelude.{◌≡◌, ℕ, List, [], ◌∷◌, Bool, false, ◌||◌, bytes_eq, if◌then◌else◌, Option, Some, None, option_and_then, Result, Ok, Err}
 use Rattle.std.specs.Str.{is_utf8}
 use Rattle.json.specs.Json as json
@@ -91,7 +92,8 @@ abbrev mutual
 abbrev pub value_in_tree : json.Json → Result Value ReadError
 value_in_tree t =
     if has_repeated t then Err Repeated
-    else (if has_number is_fraction t then Err Fraction else (if has_number is_big t then Err Range else Ok (value_of t)))
+    else (if has_number is_fraction t then Err Fraction
+    else (if has_number is_big t then Err Range else Ok (value_of t)))
 
 abbrev pub if_tree : Option json.Json → Result Value ReadError
 if_tree None = Err NotJson

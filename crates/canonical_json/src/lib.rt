@@ -1,6 +1,7 @@
 //! Canonical JSON (RFC 8785) for values whose numbers are whole or decimals: reading, writing, and looking into them.
 #![tactic(auto)]
 
+mod descent;
 mod fault;
 mod faults;
 mod field;

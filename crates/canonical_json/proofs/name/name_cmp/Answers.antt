@@ -1,31 +1,31 @@
-use Rattle.std.proofs.Common.{rules, sym, ◌∙◌}
-use Rattle.std.proofs.lemmas.Str.{IsUtf8-past_char}
-use Rattle.std.specs.Str.Iter.{chars_rest}
-use Rattle.canonical_json.proofs.Units.{name_cmp_Equal, name_cmp_Less, name_cmp_Greater, name_cmp_same, name_cmp_apart}
+use Rattle.std.proofs.Common.{rules, ◌≡◌, ◌<◌, length, slice_index, sym, ap₂, ◌∙◌, inl, inr, ◌⊎◌, arith}
+use Rattle.std.specs.Cmp.Lexicographic.{slice_cmp}
+use Rattle.canonical_json.proofs.Bytes.{byte_cmp, byte_rank-apart, name_cmp-bytes, by_byte, by_length}
+use Rattle.canonical_json.proofs.name.name_cmp.Goals.{else-same-left-via-then-same-left+else-same-right, else-same-left-via-else-same-left}
 use Rattle.canonical_json.proofs.name.name_cmp.Goals as goal
 
-pub returns-in-None-None : goal.returns-in-None-None
-returns-in-None-None c =
-    let left = rw c.in-None-None.is-0 at c.next.ensures.steps in
-    sym (c.loop-x.invariant.2 ∙ name_cmp_Equal (chars_rest c.loop-x.left) (chars_rest c.loop-x.right) left.0.0 c.in-None-None.ensures.steps.0.0)
+pub returns-then-same-right : goal.returns-then-same-right
+returns-then-same-right c =
+    let n = c.common_len-same.result in
+    let a = c.as_bytes-left.result.now in
+    let b = c.as_bytes-right.result.now in
+    let p : n < length a = omega (arith, c.if-same-left.true) in
+    let q : n < length b = omega (arith, c.if-same-right.true) in
+    let x : slice_index a n < 256 = search rules in
+    let y : slice_index b n < 256 = search rules in
+    let met : c.cmp.result ≡ byte_cmp (slice_index a n) (slice_index b n) = search rules in
+    met ∙ by_byte n a b p q c.common_len-same.ensures.same (λ e. c.common_len-same.ensures.apart p q (byte_rank-apart _ _ x y e))
+    ∙ ap₂ (slice_cmp byte_cmp) c.as_bytes-left.ensures.value c.as_bytes-right.ensures.value ∙ sym (name_cmp-bytes c.args.a.now c.args.b.now c.utf8.a c.utf8.b)
 
-pub returns-in-None-Some : goal.returns-in-None-Some
-returns-in-None-Some c =
-    let left = rw c.in-None-Some.is-0 at c.next.ensures.steps in
-    sym (c.loop-x.invariant.2 ∙ name_cmp_Less (chars_rest c.loop-x.left) (chars_rest c.loop-x.right) _ _ left.0.0 c.loop-x.invariant.1 c.in-None-Some.ensures.steps.0)
-
-pub returns-in-Some-None : goal.returns-in-Some-None
-returns-in-Some-None c =
-    sym (c.loop-x.invariant.2 ∙ name_cmp_Greater (chars_rest c.loop-x.left) (chars_rest c.loop-x.right) _ _ c.in-Some-None.ensures'.steps.0.0 c.loop-x.invariant.0 c.in-Some-None.ensures.steps.0)
-
-pub returns-then-x-y : goal.returns-then-x-y
-returns-then-x-y c =
-    let apart = name_cmp_apart (chars_rest c.loop-x.left) (chars_rest c.loop-x.right) _ _ c.in-Some-Some.x c.in-Some-Some.y c.loop-x.invariant.0 c.loop-x.invariant.1 c.in-Some-Some.ensures.steps.0 c.in-Some-Some.ensures'.steps.0 (search rules) in
-    (search rules) ∙ apart ∙ sym c.loop-x.invariant.2
-
-pub loop-x-preserved : goal.loop-x-preserved
-loop-x-preserved c = (
-  IsUtf8-past_char (chars_rest c.loop-x.left) _ c.in-Some-Some.x c.loop-x.invariant.0 c.in-Some-Some.ensures.steps.0,
-  IsUtf8-past_char (chars_rest c.loop-x.right) _ c.in-Some-Some.y c.loop-x.invariant.1 c.in-Some-Some.ensures'.steps.0,
-  c.loop-x.invariant.2 ∙ name_cmp_same (chars_rest c.loop-x.left) (chars_rest c.loop-x.right) _ _ c.in-Some-Some.x c.in-Some-Some.y c.loop-x.invariant.0 c.loop-x.invariant.1 c.in-Some-Some.ensures.steps.0 c.in-Some-Some.ensures'.steps.0 (search rules),
-)
+pub returns-else-same-left : goal.returns-else-same-left
+returns-else-same-left c =
+    let n = c.common_len-same.result in
+    let a = c.as_bytes-left.result.now in
+    let b = c.as_bytes-right.result.now in
+    let bounds = c.common_len-same.ensures.bounds in
+    let end : (length a ≡ n) ⊎ (length b ≡ n) = elim c.else-same-left.branch [
+      | else-same-left-via-then-same-left+else-same-right w ↦ inr (omega (arith, w.if-same-right, bounds))
+      | else-same-left-via-else-same-left w ↦ inl (omega (arith, w.if-same-left, bounds))
+    ] in
+    let met : c.cmp-else-same-left.result ≡ slice_cmp byte_cmp a b = (search rules) ∙ by_length n a b bounds.0 bounds.1 c.common_len-same.ensures.same end in
+    met ∙ ap₂ (slice_cmp byte_cmp) c.as_bytes-left.ensures.value c.as_bytes-right.ensures.value ∙ sym (name_cmp-bytes c.args.a.now c.args.b.now c.utf8.a c.utf8.b)
