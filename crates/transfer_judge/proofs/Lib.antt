@@ -6,3 +6,7 @@ pub mod SigningLemmas
 pub mod BegunLemmas
 pub mod SealLemmas
 pub mod ReceiverLemmas
+pub mod PlanLemmas
+pub mod ListedLemmas
+pub mod FormLemmas
+pub mod FollowLemmas

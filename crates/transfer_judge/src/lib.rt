@@ -1,10 +1,13 @@
-//! Judgements: whether a platform receives a bill that another one sends.
+//! What a platform makes of a bill that another one sends, and of what a holder asks.
 #![tactic(auto)]
 
 mod dispute;
 mod judgement;
 mod judging;
 mod laws;
+mod plan_laws;
+mod planned;
+mod planning;
 #[cfg(test)]
 mod tests;
 
@@ -16,3 +19,10 @@ pub use laws::{
     front_of_legal_diary_is_legal, legal_diaries_sign_no_document_on_two_platforms,
     legal_diary_is_sound, what_is_judged_can_be_sealed,
 };
+pub use plan_laws::{
+    nothing_is_planned_only_for_listed_bytes, planned_attempt_is_the_next,
+    planned_entry_has_its_form, planned_entry_may_follow, planned_platform_is_the_destination,
+    planned_record_may_follow,
+};
+pub use planned::{PlanRefusal, Planned};
+pub use planning::plan;
