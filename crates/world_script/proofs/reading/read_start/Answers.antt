@@ -1,0 +1,9 @@
+use Rattle.std.proofs.Common.{IsUtf8, codes, sym, subst}
+use Rattle.canonical_json.specs.View.{view}
+use Rattle.world_script.proofs.FormLemmas.{IsUtf8-text_of}
+use Rattle.world_script.proofs.reading.read_start.Goals as goal
+
+pub returns-clause-form : goal.returns-clause-form
+returns-clause-form c texts =
+    subst IsUtf8 (sym c.in_ok-body.ensures)
+    (IsUtf8-text_of (codes "body") (view c.args.json.now) _ texts (sym c.in-Some.ensures))

@@ -1,0 +1,4 @@
+pub mod Event
+pub mod Form
+pub mod Reading
+pub mod Writing
