@@ -1,7 +1,7 @@
 //! A sink in memory that fails at listed calls.
-ghost use Rattle.std.specs.Prelude.{◌≡◌, ◌↔◌, [], true, false, Some, Contains, OnOk, OnErr, IsErr, is_err};
+ghost use Rattle.std.specs.Prelude.{◌≡◌, ◌↔◌, ◌≤◌, [], true, false, Some, Contains, OnOk, OnErr, IsErr, IsTrue, is_err};
 ghost use Rattle.std.specs.Io.KnownBytes.{Appends};
-ghost use Rattle.ebl_base.specs.Faults.{HasCause};
+ghost use Rattle.ebl_base.specs.Faults.{HasCause, risen};
 ghost use Rattle.ebl_edge.specs.Sink.{AppendsFirst};
 ghost use Rattle.ebl_base.specs.Calls.{after_call};
 
@@ -108,6 +108,22 @@ impl Sink for MemorySink {
 }
 
 impl MemorySink {
+    // Counts a call of the link that the sink is part of, and answers whether it is to fail.
+    pub(crate) fn next_call_fails(&mut self) -> bool
+        ensures listed { IsTrue result ↔ Contains self.old.calls.fails self.old.calls.number }
+        ensures counted { self.new ≡ record self.old { calls = record self.old.calls { number = risen self.old.calls.number } } }
+    {
+        self.calls.next_fails()
+    }
+
+    // Counts a fault and answers it.
+    pub(crate) fn fail(&mut self) -> Failed
+        ensures counted { self.new ≡ record self.old { calls = record self.old.calls { faults = risen self.old.calls.faults } } }
+        ensures later { self.old.calls.faults ≤ self.new.calls.faults }
+    {
+        self.calls.fail()
+    }
+
     // What a call that is to fail writes: nothing, or the first half if allocation succeeds.
     fn tear(&mut self, piece: &[u8])
         ensures first { AppendsFirst (Some self.old.written) (Some self.new.written) piece.now }

@@ -2,8 +2,9 @@
 ghost use Rattle.std.specs.Prelude.{◌≡◌};
 
 use crate::source::Source;
-use ebl_base::{Failed, count_fault};
-use std::io::{ErrorKind, Read};
+use crate::std_calls::read_some;
+use ebl_base::Failed;
+use std::io::Read;
 use std::marker::Model;
 
 /// A reader of std as a source. What is left is known if and only if the reader reports it; standard input doesn't.
@@ -45,17 +46,6 @@ impl<R: Read> Source for ReaderSource<R> {
     ghost faults = { λ s. s.faults };
 
     fn read(&mut self, into: &mut [u8]) -> Result<usize, Failed> {
-        for _ in 0..u64::MAX {
-            match self.reader.read(into) {
-                Ok(count) => return Ok(count),
-                Err(error) => {
-                    let failed = count_fault(&mut self.faults);
-                    if error.kind() != ErrorKind::Interrupted {
-                        return Err(failed);
-                    }
-                }
-            }
-        }
-        Err(count_fault(&mut self.faults))
+        read_some(&mut self.reader, &mut self.faults, into)
     }
 }

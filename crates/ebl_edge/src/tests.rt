@@ -1,6 +1,6 @@
 //! What no contract says: listed failures, and what passes through std.
 use super::*;
-use ebl_base::{ByteList, CallList, Copied, count_fault};
+use ebl_base::{ByteList, CallList, Copied, Moment, NoMemory, count_fault};
 use std::alloc::{AllocError, Global};
 use std::io;
 use std::io::{ErrorKind, Read, Write};
@@ -213,5 +213,140 @@ fn bytes_pass_through_std(rt: HostRuntime) -> Result<(), Fail> {
     let mut sink = WriterSink::new(&mut written);
     assert_eq!(rt; puts(&mut sink).as_slice(), b"...".as_slice());
     assert_eq!(rt; written.as_slice(), b"abcdefghi".as_slice());
+    Ok(())
+}
+
+// What six reads of three bytes answer: the bytes or a mark for a failure, and then a bar.
+fn link_reads<L: Link>(alloc: Global, link: &mut L) -> Result<Vec<u8>, AllocError> {
+    let mut told = Vec::new(alloc);
+    for _ in 0..6 {
+        let mut into = [0u8; 3];
+        match link.read(&mut into) {
+            Ok(count) => told.extend_from_slice(&into[..count])?,
+            Err(_) => told.push(b'!')?,
+        }
+        told.push(b'|')?;
+    }
+    Ok(told)
+}
+
+fn link_put<L: Link>(link: &mut L, piece: &[u8]) -> u8 {
+    match link.put(piece) {
+        Ok(()) => b'.',
+        Err(_) => b'!',
+    }
+}
+
+// What a link answers to three pieces.
+fn link_puts<L: Link>(link: &mut L) -> [u8; 3] {
+    [
+        link_put(link, b"ab"),
+        link_put(link, b"cdef"),
+        link_put(link, b"ghi"),
+    ]
+}
+
+fn pieces_of(alloc: Global, sizes: &[usize]) -> Result<PieceList, NoMemory> {
+    PieceList::from_slice(alloc, sizes)
+}
+
+fn link_row(
+    rt: &impl Abort,
+    alloc: Global,
+    sizes: &[usize],
+    fails: &[u64],
+    told: &[u8],
+) -> Result<(), Fail> {
+    let bytes = ByteList::from_slice(alloc, b"abcdefg")?;
+    let fails = CallList::from_slice(alloc, fails)?;
+    let link = MemoryLink::in_pieces(alloc, bytes, pieces_of(alloc, sizes)?, fails);
+    let mut link = link.copy(alloc)?;
+    assert_eq!(rt; link_reads(alloc, &mut link)?.as_slice(), told);
+    assert_eq!(rt; link.left().len(), 0);
+    Ok(())
+}
+
+#[test]
+fn a_memory_link_hands_out_its_pieces(rt: HostRuntime) -> Result<(), Fail> {
+    let alloc = rt.alloc();
+    link_row(&rt, alloc, &[], &[], b"abc|def|g||||")?;
+    link_row(&rt, alloc, &[1, 9, 2], &[], b"a|bcd|ef|g|||")?;
+    link_row(&rt, alloc, &[0, 0], &[3], b"a|b|cde|!|fg||")?;
+    link_row(&rt, alloc, &[2], &[0, 4], b"!|ab|cde|fg|!||")
+}
+
+fn put_row(rt: &impl Abort, mut link: MemoryLink, told: &[u8], written: &[u8], faults: u64) {
+    let mut into = [0u8; 1];
+    let read = link.read(&mut into);
+    assert!(rt; read.is_ok());
+    assert_eq!(rt; link_puts(&mut link).as_slice(), told);
+    assert_eq!(rt; link.written(), written);
+    assert_eq!(rt; link.faults(), faults);
+    assert_eq!(rt; link.left(), b"b".as_slice());
+}
+
+fn two_bytes(alloc: Global) -> Result<ByteList, NoMemory> {
+    ByteList::from_slice(alloc, b"ab")
+}
+
+#[test]
+fn reads_and_puts_of_a_link_are_counted_together(rt: HostRuntime) -> Result<(), Fail> {
+    let alloc = rt.alloc();
+    let fails = CallList::from_slice(alloc, &[3, 1])?;
+    let link = MemoryLink::new(alloc, two_bytes(alloc)?, fails.copy(alloc)?);
+    put_row(&rt, link, b"!.!", b"cdef", 2);
+    let none = PieceList::new(alloc);
+    let link = MemoryLink::tearing(alloc, two_bytes(alloc)?, none, fails);
+    put_row(&rt, link, b"!.!", b"acdefg", 2);
+    Ok(())
+}
+
+#[test]
+fn a_bounded_link_fails_past_its_room_alone(rt: HostRuntime) -> Result<(), Fail> {
+    let alloc = rt.alloc();
+    let link = BoundedLink::new(alloc, two_bytes(alloc)?, 5)?;
+    let mut link = link.copy(alloc)?;
+    assert_eq!(rt; link_puts(&mut link).as_slice(), b".!.".as_slice());
+    assert_eq!(rt; link.written(), b"abghi".as_slice());
+    assert_eq!(rt; link.faults(), 1);
+    assert_eq!(rt; link.left(), b"ab".as_slice());
+    assert_eq!(rt;
+        link_reads(alloc, &mut link)?.as_slice(),
+        b"ab||||||".as_slice()
+    );
+    Ok(())
+}
+
+#[test]
+fn interrupted_calls_of_a_link_are_made_again(rt: HostRuntime) -> Result<(), Fail> {
+    let alloc = rt.alloc();
+    let mut link = StreamLink::new(Stutter::new());
+    let mut into = [0u8; 3];
+    assert_eq!(rt; link.read(&mut into).ok(), Some(1));
+    assert_eq!(rt; link_puts(&mut link).as_slice(), b".!!".as_slice());
+    assert_eq!(rt;
+        link_reads(alloc, &mut link)?.as_slice(),
+        b"!|!|!|!|!|!|".as_slice()
+    );
+    assert_eq!(rt; link.faults(), 20);
+    Ok(())
+}
+
+#[test]
+fn a_memory_clock_stands(rt: HostRuntime) -> Result<(), Fail> {
+    let moment = Moment::try_new(1000).ok_or("a moment")?;
+    let mut clock = MemoryClock::new(moment);
+    assert_eq!(rt; clock.now().number(), 1000);
+    assert_eq!(rt; clock.now().number(), 1000);
+    assert_eq!(rt; clock.calls(), 2);
+    Ok(())
+}
+
+// 2026 began 1,767,225,600 seconds after 1970 did.
+#[test]
+fn the_clock_of_the_system_tells_the_time(rt: HostRuntime) -> Result<(), Fail> {
+    let first = Moment::try_new(0).ok_or("a moment")?;
+    let mut clock = SystemClock::new(&rt, first);
+    assert!(rt; clock.now().number() > 1_767_225_600_000);
     Ok(())
 }

@@ -1,7 +1,7 @@
 use Rattle.std.proofs.Common.{arith}
 use Rattle.std.proofs.KnownBytes.{Appends-kept}
 use Rattle.ebl_edge.proofs.SinkLemmas.{AppendsFirst-take, Appends-on, OnErr-fact}
-use Rattle.ebl_edge.proofs.writer_sink.WriterSinkSink.put.Goals as goal
+use Rattle.ebl_edge.proofs.std_calls.put_all.Goals as goal
 
 pub returns-in_err-done-clause-failed : goal.returns-in_err-done-clause-failed
 returns-in_err-done-clause-failed g c =
@@ -13,4 +13,4 @@ loop-preserved g c =
     (on.0, on.1, omega (arith, c.in_ok-done.ensures.cause.later))
 
 pub returns-clause-failed : goal.returns-clause-failed
-returns-clause-failed g c = AppendsFirst-take _ _ c.loop.done c.args.piece.now (rw (← c.self.view_is) at c.loop.invariant.1)
+returns-clause-failed g c = AppendsFirst-take _ _ c.loop.done c.args.piece.now c.loop.invariant.1

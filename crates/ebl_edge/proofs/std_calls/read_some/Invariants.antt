@@ -1,0 +1,6 @@
+use Rattle.std.proofs.Common.{◌≤◌}
+use Rattle.std.specs.Io.KnownBytes.{Keeps}
+use Rattle.ebl_edge.proofs.std_calls.read_some.Given as goal
+
+abbrev pub invariant-loop : goal.invariant-loop
+invariant-loop g l = Keeps (g.R.Read.remaining l.fn.reader) (g.R.Read.remaining l.reader) × (l.fn.faults ≤ l.faults)
