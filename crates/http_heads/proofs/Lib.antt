@@ -1,0 +1,3 @@
+pub mod LengthLemmas
+pub mod ScanLemmas
+pub mod PlanLemmas

@@ -1,0 +1,5 @@
+pub mod Scan
+pub mod Status
+pub mod Fields
+pub mod Route
+pub mod Plan
