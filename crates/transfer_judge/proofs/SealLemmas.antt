@@ -32,7 +32,7 @@ use Rattle.transfer_judge.specs.Sealing.{CanBeSealed}
 -- ---- texts of links
 
 compact_is : (link : ChainLink) → LinkIsItsText link → IsCompactText link.text
-compact_is link is = record { parts = is.has_payload.parts; compact = is.has_payload.compact }
+compact_is link is = (is.has_payload.parts, is.has_payload.compact)
 
 last_is : (o : Option ChainLink) (x : ChainLink) → ((l : ChainLink) → o ≡ Some l → LinkIsItsText l) → LinkIsItsText x
     → (l : ChainLink) → option_or o (Some x) ≡ Some l → LinkIsItsText l
