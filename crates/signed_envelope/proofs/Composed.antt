@@ -1,5 +1,5 @@
 -- What is composed is signed.
-use Rattle.std.proofs.Common.{◌≡◌, ℕ, ◌≤◌, Bool, true, false, List, [], ◌∷◌, length, codes, nat_eq, nat_lt, ltb-true, append_assoc, lit≤, Some, refl, arith}
+use Rattle.std.proofs.Common.{◌≡◌, ℕ, ◌≤◌, Bool, true, false, List, [], ◌∷◌, length, codes, nat_lt, ltb-true, append_assoc, lit≤, Some, refl, arith}
 use Rattle.std.proofs.lemmas.Bool.{and_parts}
 use Rattle.std.proofs.lemmas.Str.{IsUtf8-from_ascii}
 use Rattle.std.proofs.lemmas.Str.Ascii.{IsAscii-cons, IsAscii-nil}
@@ -101,7 +101,7 @@ header_names Hs256 who h = h
 header_names Es256 who h = h
 
 -- it reads so
-header_reads : (alg : Alg) (who : PlatformCode) → code_of (code_text who) ≡ Some who → IsHeader alg (header_text alg who) (header_value alg who) who
+pub header_reads : (alg : Alg) (who : PlatformCode) → code_of (code_text who) ≡ Some who → IsHeader alg (header_text alg who) (header_value alg who) who
 header_reads alg who h = record {
   reads = rw (header_is_canonical alg who)
       (canon_reads (header_value alg who) (header_is_lawful alg who) (header_has_texts alg who) (lit≤ tt));

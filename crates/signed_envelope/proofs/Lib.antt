@@ -4,5 +4,6 @@ pub mod Refusals
 pub mod Readings
 pub mod Utf8Bytes
 pub mod Composed
+pub mod Written
 pub mod CompactLemmas
 pub mod LengthLemmas

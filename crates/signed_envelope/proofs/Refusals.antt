@@ -1,7 +1,7 @@
 -- How the causes of the parts of a text become those of the text.
-use Rattle.std.proofs.Common.{◌≡◌, ℕ, ◌≤◌, true, false, List, ◌∷◌, length, take, Option, Some, bytes_eq, refl, sym, ap, arith}
+use Rattle.std.proofs.Common.{◌≡◌, ℕ, true, false, List, ◌∷◌, take, Option, Some, refl, sym, arith}
 use Rattle.std.proofs.Math.Bool.{not}
-use Rattle.std.proofs.lemmas.List.{take_at, length-append}
+use Rattle.std.proofs.lemmas.List.{take_at}
 use Rattle.ebl_base.specs.PlatformCode.{code_eq}
 use Rattle.ebl_base.proofs.SameLemmas.{code_eq-Decides}
 use Rattle.ebl_base.specs.Signature.{signature_bytes}

@@ -1,7 +1,9 @@
 //! The header of a signed text, as it is read.
-ghost use Rattle.std.specs.Prelude.{◌≡◌, IfOk, IfErr};
+ghost use Rattle.std.specs.Prelude.{◌≡◌, ◌++◌, codes, IfOk, IfErr, IfSome};
 ghost use Rattle.canonical_json.specs.View.{view};
-ghost use Rattle.signed_envelope.specs.Header.{names_alg, signer_of};
+ghost use Rattle.ebl_base.specs.PlatformCode.{IsCode};
+ghost use Rattle.signed_envelope.specs.Alg.{alg_text};
+ghost use Rattle.signed_envelope.specs.Header.{header_text, names_alg, signer_of};
 ghost use Rattle.signed_envelope.specs.Steps.{HasSigner, IsHeaderRefused};
 
 use crate::alg::Alg;
@@ -15,6 +17,9 @@ pub(crate) fn signer(alloc: Global, alg: Alg, header: &[u8]) -> Result<PlatformC
     ensures ok { IfOk result (λ who. HasSigner alg header.now who) }
     ensures err { IfErr result (λ e. IsHeaderRefused alg header.now e) }
 {
+    if let Some(who) = written_signer(alg, header) {
+        return Ok(who);
+    }
     let Some(head) = read_if_any(alloc, header)? else {
         return Err(BadSigned::HeaderForm);
     };
@@ -25,6 +30,24 @@ pub(crate) fn signer(alloc: Global, alg: Alg, header: &[u8]) -> Result<PlatformC
         return Err(BadSigned::Critical);
     }
     Ok(who)
+}
+
+// The platform of a header that is written as `compose` writes it. Such a header needn't be read.
+fn written_signer(alg: Alg, header: &[u8]) -> Option<PlatformCode>
+    ensures { IfSome result (λ who. (header.now ≡ header_text alg who) × IsCode who) }
+{
+    let code = header.strip_prefix(front(alg))?.strip_suffix(b"\"}")?;
+    PlatformCode::try_new(code)
+}
+
+// What stands before the platform in a header that `compose` writes.
+fn front(alg: Alg) -> &'static [u8]
+    ensures { result.now ≡ codes "{\"alg\":\"" ++ alg_text alg ++ codes "\",\"kid\":\"" }
+{
+    match alg {
+        Alg::Hs256 => b"{\"alg\":\"HS256\",\"kid\":\"",
+        Alg::Es256 => b"{\"alg\":\"ES256\",\"kid\":\"",
+    }
 }
 
 fn named(alg: Alg, head: &Json) -> Option<PlatformCode>
