@@ -1,5 +1,5 @@
-//! Lines that are events, and values that are none. In these texts `'` stands for `"`, `$` for a bill's name and `%` for a
-//! reference.
+//! Lines that are events, and values that are none. In these texts `'` stands for `"`, `$` for a bill's name and
+//! `%` for a reference.
 use crate::{Event, EventFault};
 use canonical_json::{Json, ReadError, read, write};
 use std::alloc::{AllocError, Global};
