@@ -8,6 +8,7 @@ use Rattle.transport_document.specs.declared.fault.DocumentField.TheVariants as 
 use Rattle.transport_document.specs.declared.fault.DocumentFault.{DocumentFault}
 use Rattle.transport_document.specs.declared.fault.DocumentFault.TheVariants.{DocumentForm, NotTitle, TooLarge, NoMemory}
 use Rattle.ebl_base.specs.declared.carrier_code.CarrierCode.{CarrierCode}
+use Rattle.ebl_base.specs.declared.limits.TheConstants.{MAX_TRANSPORT_DOCUMENT}
 use Rattle.ebl_base.specs.declared.provider.Provider.{Provider}
 use Rattle.transport_document.specs.Members.{required_reference, required_title}
 use Rattle.transport_document.specs.DocumentRecord.{DocumentRecord}
@@ -15,7 +16,8 @@ use Rattle.transport_document.specs.DocumentRecord.{DocumentRecord}
 -- the document with this text, which has at most 262,144 bytes
 abbrev pub within_limit : List ℕ → CarrierCode → Provider → Result DocumentRecord DocumentFault
 within_limit text code provider =
-    if nat_le (length text) 262144 then Ok (record { text = text; provider = provider; code = code }) else Err TooLarge
+    if nat_le (length text) MAX_TRANSPORT_DOCUMENT then Ok (record { text = text; provider = provider; code = code })
+    else Err TooLarge
 
 -- a sea waybill gives no title
 abbrev pub title_of : Bool → Result DocumentRecord DocumentFault → Result DocumentRecord DocumentFault

@@ -9,13 +9,12 @@ use crate::fault::{DocumentFault, DocumentField};
 use crate::members::{has_reference, required_title};
 use canonical_json::{Json, flag_of, write};
 use document_checksum::checksum;
-use ebl_base::{ByteList, CarrierCode, Checksum, Copied, NoMemory, Provider};
+use ebl_base::{
+    ByteList, CarrierCode, Checksum, Copied, MAX_TRANSPORT_DOCUMENT, NoMemory, Provider,
+};
 use json_forms::{required_carrier_code, required_provider};
 use std::alloc::Global;
 use std::marker::Model;
-
-/// The most bytes of a document's canonical text.
-const MOST: usize = 262_144;
 
 /// A transport document that gives title, by its canonical text (RFC 8785).
 ///
@@ -81,7 +80,7 @@ impl Document {
     ) -> Result<Document, DocumentFault>
         ensures { result ≡ within_limit text code provider }
     {
-        if text.len() > MOST {
+        if text.len() > MAX_TRANSPORT_DOCUMENT {
             return Err(DocumentFault::TooLarge);
         }
         let bill = checksum(text.as_slice());

@@ -5,9 +5,7 @@ ghost use Rattle.canonical_json.specs.View.{view};
 ghost use Rattle.transport_document.specs.Members.{gives_title, reference_of, required_reference, required_title};
 
 use canonical_json::{Json, text_of};
-
-/// The most characters of a reference.
-const MOST: usize = 20;
+use ebl_base::MAX_DOCUMENT_REFERENCE;
 
 /// Whether there is a reference of 1 to 20 characters.
 pub(crate) fn has_reference(json: &Json) -> bool
@@ -23,7 +21,7 @@ fn is_reference(text: &str) -> bool
     ensures { result ≡ is_some (reference_of text.now) }
 {
     let count = count_of(text);
-    1 <= count && count <= MOST
+    1 <= count && count <= MAX_DOCUMENT_REFERENCE
 }
 
 // How many characters a text has. It goes over the text.
@@ -33,8 +31,8 @@ fn count_of(text: &str) -> usize
     text.chars().count()
 }
 
-/// Whether the document gives title: a bill of lading, `BOL`, does, and a sea waybill, `SWB`, doesn't. None exactly when
-/// its type is neither.
+/// Whether the document gives title: a bill of lading, `BOL`, does, and a sea waybill, `SWB`, doesn't. None exactly
+/// when its type is neither.
 pub(crate) fn required_title(json: &Json) -> Option<bool>
     ensures { result ≡ required_title (view json.now) }
 {
