@@ -9,6 +9,7 @@ use Rattle.document_checksum.specs.Digest.{IsChecksum}
 use Rattle.json_forms.specs.Reading.{required_items, all_of, checksum_in}
 use Rattle.json_forms.specs.Writing.{checksums_value}
 use Rattle.ebl_base.specs.declared.checksum.Checksum.{Checksum}
+use Rattle.ebl_base.specs.declared.limits.TheConstants.{MAX_DOCUMENTS}
 use Rattle.ebl_base.specs.declared.reference.Reference.{Reference}
 use Rattle.upload_state.specs.declared.started.Started.{Started}
 use Rattle.upload_state.specs.declared.started.StartedFault.{StartedFault}
@@ -25,7 +26,7 @@ started_with (Some reference) (Some missing) = Some (record { reference = refere
 abbrev pub started_of : Value → Option Started
 started_of v =
     started_with (option_and_then reference_in (text_of (codes "reference") v))
-    (option_and_then (all_of checksum_in) (required_items (codes "missing") 1 16 v))
+    (option_and_then (all_of checksum_in) (required_items (codes "missing") 1 MAX_DOCUMENTS v))
 
 -- the bytes are a text of JSON with whole numbers, and its value is the answer
 abbrev pub ReadsAs : List ℕ → Started → Type 0
@@ -58,7 +59,7 @@ AreChecksums (checksum ∷ checksums) = IsChecksum checksum × AreChecksums chec
 pub record IsStarted (started : Started) : Type 0 where
   pub reference : IsReference started.reference
   pub least : 1 ≤ length started.missing
-  pub most : length started.missing ≤ 16
+  pub most : length started.missing ≤ MAX_DOCUMENTS
   pub missing : AreChecksums started.missing
 
 -- the written form, with the names in order

@@ -8,12 +8,9 @@ ghost use Rattle.upload_state.specs.Started.{IsFault, IsMalformed, IsStarted, Re
 use crate::reference::reference_from;
 use crate::started::{Started, StartedFault};
 use canonical_json::{Json, ReadError, read, text_of};
-use ebl_base::Reference;
+use ebl_base::{MAX_DOCUMENTS, Reference};
 use json_forms::{checksums_in, required_items};
 use std::alloc::Global;
-
-/// The most checksums of an answer.
-const MOST: usize = 16;
 
 /// The answer that a text is: an object with `reference`, a text that [`reference_from`](crate::reference_from) takes,
 /// and `missing`, a list of 1 to 16 checksums. Further members are ignored.
@@ -49,7 +46,7 @@ fn started_of(alloc: Global, json: &Json) -> Result<Started, StartedFault>
     let Some(reference) = required_reference(json, "reference") else {
         return Err(StartedFault::Form);
     };
-    let Some(items) = required_items(json, "missing", 1, MOST) else {
+    let Some(items) = required_items(json, "missing", 1, MAX_DOCUMENTS) else {
         return Err(StartedFault::Form);
     };
     let Some(missing) = checksums_in(alloc, items)? else {
