@@ -4,6 +4,7 @@ use Rattle.std.specs.Set.{is_member}
 use Rattle.canonical_json.specs.Value.{Value, Values}
 use Rattle.ebl_base.specs.PlatformCode.{code_eq}
 use Rattle.ebl_base.specs.Party.{party_eq}
+use Rattle.ebl_base.specs.declared.limits.TheConstants.{MAX_ROSTER_CARRIERS, MAX_ROSTER_PARTIES, MAX_ROSTER_PLATFORMS}
 use Rattle.ebl_base.specs.declared.platform_code.PlatformCode.{PlatformCode}
 use Rattle.ebl_base.specs.declared.party.Party.{Party}
 use Rattle.ebl_base.specs.declared.provider.Provider.{Provider}
@@ -29,7 +30,7 @@ distinct_platforms values = distinct code_eq Platform (each platform_in values)
 
 -- 1 to 8 of them
 abbrev pub platforms_of : Value → Result (List PlatformCode) RosterPlace
-platforms_of v = list_read Whole distinct_platforms (required_items (codes "platforms") 1 8 v)
+platforms_of v = list_read Whole distinct_platforms (required_items (codes "platforms") 1 MAX_ROSTER_PLATFORMS v)
 
 -- the party, where its platform is listed
 abbrev pub on_listed : List PlatformCode → Option Party → Option Party
@@ -47,7 +48,7 @@ distinct_parties platforms values = distinct party_eq PartyAt (each (listed_part
 -- 1 to 1,024 of them
 abbrev pub parties_of : List PlatformCode → Value → Result (List Party) RosterPlace
 parties_of platforms v =
-    list_read Parties (distinct_parties platforms) (required_items (codes "parties") 1 1024 v)
+    list_read Parties (distinct_parties platforms) (required_items (codes "parties") 1 MAX_ROSTER_PARTIES v)
 
 -- the carrier with these parts, where each has its form
 abbrev pub carrier_with : Option Provider → Option CarrierCode → Option Party → Option Carrier
@@ -78,7 +79,8 @@ distinct_carriers parties values = distinct same_carrier CarrierAt (each (listed
 
 -- 1 to 64 of them
 abbrev pub carriers_of : List Party → Value → Result (List Carrier) RosterPlace
-carriers_of parties v = list_read Carriers (distinct_carriers parties) (required_items (codes "carriers") 1 64 v)
+carriers_of parties v =
+    list_read Carriers (distinct_carriers parties) (required_items (codes "carriers") 1 MAX_ROSTER_CARRIERS v)
 
 -- the roster that a value is, or the first wrong place: of the platforms, then of the parties, then of the carriers
 abbrev pub roster_of : Value → Result RosterRecord RosterPlace

@@ -5,6 +5,7 @@ use Rattle.ebl_base.specs.PlatformCode.{code_eq, code_of, code_text}
 use Rattle.ebl_base.specs.Party.{party_eq, party_of, party_text}
 use Rattle.ebl_base.specs.Provider.{provider_of, provider_text}
 use Rattle.ebl_base.specs.CarrierCode.{carrier_code_of, carrier_code_text}
+use Rattle.ebl_base.specs.declared.limits.TheConstants.{MAX_ROSTER_CARRIERS, MAX_ROSTER_PARTIES, MAX_ROSTER_PLATFORMS}
 use Rattle.ebl_base.specs.declared.platform_code.PlatformCode.{PlatformCode}
 use Rattle.ebl_base.specs.declared.party.Party.{Party}
 use Rattle.party_roster.specs.declared.carrier.Carrier.{Carrier}
@@ -30,6 +31,6 @@ pub record IsListedCarrier (parties : List Party) (carrier : Carrier) : Type 0 w
 -- 1 to 8 distinct platforms; 1 to 1,024 distinct parties on them; 1 to 64 carriers with listed parties, distinct by
 -- provider and code
 pub record IsRoster (roster : RosterRecord) : Type 0 where
-  pub platforms : IsDistinctList IsPlatform code_eq 8 roster.platforms
-  pub parties : IsDistinctList (IsListedParty roster.platforms) party_eq 1024 roster.parties
-  pub carriers : IsDistinctList (IsListedCarrier roster.parties) same_carrier 64 roster.carriers
+  pub platforms : IsDistinctList IsPlatform code_eq MAX_ROSTER_PLATFORMS roster.platforms
+  pub parties : IsDistinctList (IsListedParty roster.platforms) party_eq MAX_ROSTER_PARTIES roster.parties
+  pub carriers : IsDistinctList (IsListedCarrier roster.parties) same_carrier MAX_ROSTER_CARRIERS roster.carriers

@@ -10,14 +10,11 @@ use crate::carrier::Carrier;
 use crate::fault::{RosterFault, RosterPlace};
 use crate::parties::PartyList;
 use canonical_json::Json;
-use ebl_base::{CarrierCode, Copied, NoMemory, Party, Provider};
+use ebl_base::{CarrierCode, Copied, MAX_ROSTER_CARRIERS, NoMemory, Party, Provider};
 use json_forms::{required_carrier_code, required_items, required_party, required_provider};
 use std::alloc::Global;
 use std::collections::BTreeMap;
 use std::marker::Model;
-
-/// The most carriers of a roster.
-const MOST: usize = 64;
 
 /// Carriers in the order of the roster, which are found without going through all.
 #[derive(Drop)]
@@ -50,7 +47,7 @@ impl CarrierList {
         ensures ok { IfOk result (λ carriers. carriers_of parties.now (view json.now) ≡ Ok carriers) }
         ensures err { IfErr result (IsFault (carriers_of parties.now (view json.now))) }
     {
-        match required_items(json, "carriers", 1, MOST) {
+        match required_items(json, "carriers", 1, MAX_ROSTER_CARRIERS) {
             Some(items) => distinct_carriers(alloc, parties, items),
             None => Err(RosterFault::RosterForm(RosterPlace::Carriers)),
         }

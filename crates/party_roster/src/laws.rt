@@ -4,6 +4,7 @@ ghost use Rattle.canonical_json.specs.Value.{Value, Values};
 ghost use Rattle.canonical_json.specs.Canon.{canon};
 ghost use Rattle.ebl_base.specs.PlatformCode.{code_eq};
 ghost use Rattle.ebl_base.specs.Party.{party_eq};
+ghost use Rattle.ebl_base.specs.declared.limits.TheConstants.{MAX_ROSTER_CARRIERS, MAX_ROSTER_PARTIES, MAX_ROSTER_PLATFORMS};
 ghost use Rattle.ebl_base.specs.declared.platform_code.PlatformCode.{PlatformCode};
 ghost use Rattle.ebl_base.specs.declared.party.Party.{Party};
 ghost use Rattle.ebl_base.specs.declared.provider.Provider.{Provider};
@@ -40,14 +41,14 @@ pub fn rosters_with_one_text_are_one()
 /// and the item there is malformed, or not listed where it has to be, or repeats an earlier one.
 pub fn faults_name_the_first_wrong_place()
     ensures platforms { (v : Value) (values : Values) (i : ℕ)
-        → required_items (codes "platforms") 1 8 v ≡ Some values
+        → required_items (codes "platforms") 1 MAX_ROSTER_PLATFORMS v ≡ Some values
         → roster_of v ≡ Err (Platform i) → IsFirstWrong code_eq (each platform_in values) i }
     ensures parties { (v : Value) (platforms : List PlatformCode) (values : Values) (i : ℕ)
-        → platforms_of v ≡ Ok platforms → required_items (codes "parties") 1 1024 v ≡ Some values
+        → platforms_of v ≡ Ok platforms → required_items (codes "parties") 1 MAX_ROSTER_PARTIES v ≡ Some values
         → roster_of v ≡ Err (PartyAt i) → IsFirstWrong party_eq (each (listed_party platforms) values) i }
     ensures carriers { (v : Value) (platforms : List PlatformCode) (parties : List Party)
         (values : Values) (i : ℕ) → platforms_of v ≡ Ok platforms → parties_of platforms v ≡ Ok parties
-        → required_items (codes "carriers") 1 64 v ≡ Some values → roster_of v ≡ Err (CarrierAt i)
+        → required_items (codes "carriers") 1 MAX_ROSTER_CARRIERS v ≡ Some values → roster_of v ≡ Err (CarrierAt i)
         → IsFirstWrong same_carrier (each (listed_carrier parties) values) i }
 {}
 

@@ -9,14 +9,11 @@ ghost use Rattle.party_roster.specs.Reading.{parties_of, distinct_parties, liste
 use crate::fault::{RosterFault, RosterPlace};
 use crate::platforms::has_platform;
 use canonical_json::Json;
-use ebl_base::{Copied, NoMemory, Party, PlatformCode};
+use ebl_base::{Copied, MAX_ROSTER_PARTIES, NoMemory, Party, PlatformCode};
 use json_forms::{party_in, required_items};
 use std::alloc::Global;
 use std::collections::BTreeSet;
 use std::marker::Model;
-
-/// The most parties of a roster.
-const MOST: usize = 1024;
 
 /// Parties in the order of the roster, which are found without going through all.
 #[derive(Drop)]
@@ -71,7 +68,7 @@ impl PartyList {
         ensures ok { IfOk result (λ parties. parties_of platforms.now (view json.now) ≡ Ok parties) }
         ensures err { IfErr result (IsFault (parties_of platforms.now (view json.now))) }
     {
-        match required_items(json, "parties", 1, MOST) {
+        match required_items(json, "parties", 1, MAX_ROSTER_PARTIES) {
             Some(items) => distinct_parties(alloc, platforms, items),
             None => Err(RosterFault::RosterForm(RosterPlace::Parties)),
         }

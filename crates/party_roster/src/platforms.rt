@@ -9,19 +9,16 @@ ghost use Rattle.party_roster.specs.Reading.{platforms_of, distinct_platforms, I
 
 use crate::fault::{RosterFault, RosterPlace};
 use canonical_json::Json;
-use ebl_base::{Items, PlatformCode};
+use ebl_base::{Items, MAX_ROSTER_PLATFORMS, PlatformCode};
 use json_forms::{platform_in, required_items};
 use std::alloc::Global;
-
-/// The most platforms of a roster.
-const MOST: usize = 8;
 
 /// The platforms of the roster that a value is.
 pub(crate) fn platforms_of(alloc: Global, json: &Json) -> Result<Items<PlatformCode>, RosterFault>
     ensures ok { IfOk result (λ platforms. platforms_of (view json.now) ≡ Ok platforms) }
     ensures err { IfErr result (IsFault (platforms_of (view json.now))) }
 {
-    match required_items(json, "platforms", 1, MOST) {
+    match required_items(json, "platforms", 1, MAX_ROSTER_PLATFORMS) {
         Some(items) => distinct_platforms(alloc, items),
         None => Err(RosterFault::RosterForm(RosterPlace::Whole)),
     }
