@@ -1,0 +1,9 @@
+pub mod NumberLemmas
+pub mod ReplyLemmas
+pub mod ScanLemmas
+pub mod HeadLemmas
+pub mod FillLemmas
+pub mod ReceiveLemmas
+pub mod ExchangeLemmas
+pub mod LawLemmas
+pub mod RequestLemmas

@@ -1,0 +1,36 @@
+-- The number that up to 19 digits write, digit by digit.
+use Rattle.std.proofs.Common.{◌≡◌, ℕ, ◌+◌, ◌-◌, ◌*◌, ◌^◌, ◌≤◌, ◌<◌, Bool, true, List, length, take, get_or, ap, sym, ◌∙◌, arith}
+use Rattle.std.specs.Prelude.{nat_le, ◌&&◌, slice_index_or}
+use Rattle.std.specs.Str.{all_ascii_digits}
+use Rattle.std.specs.Str.Parse.{digits_value}
+use Rattle.std.specs.Char.{digit_value}
+use Rattle.std.proofs.lemmas.Bool.{leb-true, and_parts}
+use Rattle.std.proofs.lemmas.Str.{digit_value_digit}
+use Rattle.std.proofs.lemmas.Str.Parse.{numerals_by_value, tells_all_ascii_digits, digits_value_short, digits_value-take-le, digit_at}
+use Rattle.std.proofs.lemmas.Int.Digits.{digits_value_more}
+use Rattle.pint_client.specs.Reply.{is_length}
+
+-- the digit at a place, and the number with it
+pub record NextDigit (ds : List ℕ) (i : ℕ) : Type 0 where
+  pub low : 48 ≤ get_or ds i 0
+  pub high : get_or ds i 0 ≤ 57
+  pub more : digits_value 10 (take (i + 1) ds) ≡ digits_value 10 (take i ds) * 10 + (get_or ds i 0 - 48)
+  pub most : digits_value 10 (take (i + 1) ds) < 2 ^ 64
+
+pub next_digit : (ds : List ℕ) (i : ℕ) → is_length ds ≡ true → i < length ds → NextDigit ds i
+next_digit ds i form within =
+    let parts = and_parts (nat_le 1 (length ds)) (nat_le (length ds) 19 && all_ascii_digits ds) form in
+    let rest = and_parts (nat_le (length ds) 19) (all_ascii_digits ds) parts.1 in
+    let few : length ds ≤ 19 = leb-true (length ds) 19 rest.0 in
+    let own = numerals_by_value _ tells_all_ascii_digits in
+    let digit = digit_at ds i (own.to ds rest.1) within in
+    let value = digit_value_digit (get_or ds i 0) digit in
+    let whole : digits_value 10 ds < 10 ^ 19 = digits_value_short own ds 19 rest.1 few in
+    let front = digits_value-take-le 10 ds (i + 1) (omega arith) in
+    let step = digits_value_more 10 ds i within in
+    record {
+      low = digit.0;
+      high = digit.1;
+      more = step ∙ ap (λ d. digits_value 10 (take i ds) * 10 + d) (omega (arith, value));
+      most = omega (arith, whole, front);
+    }

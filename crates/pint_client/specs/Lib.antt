@@ -1,0 +1,5 @@
+pub mod HeadScan
+pub mod Reply
+pub mod Request
+pub mod Exchange
+pub mod Receiving
