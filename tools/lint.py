@@ -78,19 +78,26 @@ WORD = re.compile(r"[^\s(){},.;:|\"`]+")
 def blocks(text):
     """(name of the definition, its lines) of a module, in order; the name is empty before the first one.
 
-    A definition stands at the left, or as deep as a module that is open there has its items.
+    A definition stands at the left, or as deep as a module that is open there has its items. Of mutual ones all types
+    come first, and then the equations.
     """
-    name, lines, depths = "", [], [0]
+    name, lines, depths, defined = "", [], [0], set()
     for line in text.split("\n"):
         deep = len(line) - len(line.lstrip())
         if line.strip() and not line.lstrip().startswith("--"):
             depths = [depth for depth in depths if depth <= deep] or [0]
-        if line.lstrip().startswith("module "):
+        if line.lstrip().startswith(("module ", "mutual")):
             depths.append(deep + 2)
+            yield name, lines
+            name, lines = "", []
         found = DEFINED.match(line) or RULESET.match(line)
         if found and deep in depths and found.group(2) not in ("use", "mod", "module", "--"):
             yield name, lines
             name, lines = found.group(2), []
+            defined.add(name)
+        elif deep in depths and line.split(" ", 1)[0] in defined:
+            yield name, lines
+            name, lines = line.split(" ", 1)[0], []
         lines.append(line)
     yield name, lines
 
