@@ -18,11 +18,19 @@ use transfer_chain::{ChainRefusal, check};
 use transport_document::Document;
 
 // Neither ALPH/GHOST nor BETA/GHOST is among the parties.
-const ROSTER: &[u8] =
-    br#"{"carriers":[{"code":"OCNL","party":"ALPH/CARRIER","provider":"NMFTA"}],"parties":["ALPH/CARRIER","ALPH/EXPORT","BETA/IMPORT"],"platforms":["ALPH","BETA"]}"#;
+const ROSTER: &[u8] = br#"{
+    "carriers":[{"code":"OCNL","party":"ALPH/CARRIER","provider":"NMFTA"}],
+    "parties":["ALPH/CARRIER","ALPH/EXPORT","BETA/IMPORT"],
+    "platforms":["ALPH","BETA"]
+}"#;
 
-const DOCUMENT: &[u8] =
-    br#"{"carrierCode":"OCNL","carrierCodeListProvider":"NMFTA","isToOrder":true,"transportDocumentReference":"OCNL0000001","transportDocumentTypeCode":"BOL"}"#;
+const DOCUMENT: &[u8] = br#"{
+    "carrierCode":"OCNL",
+    "carrierCodeListProvider":"NMFTA",
+    "isToOrder":true,
+    "transportDocumentReference":"OCNL0000001",
+    "transportDocumentTypeCode":"BOL"
+}"#;
 
 /// The entry that hands the bill to a party that the roster doesn't know.
 const TO_UNKNOWN: u16 = 7;
