@@ -11,7 +11,7 @@ use Rattle.ebl_cli.specs.declared.fate.Fate.TheVariants.{Whole}
 use Rattle.ebl_cli.specs.declared.script.Start.{Start}
 use Rattle.ebl_cli.specs.World.{WorldRecord}
 use Rattle.ebl_cli.specs.Step.{step}
-use Rattle.ebl_cli.specs.Script.{LineGives, start_of, event_of, opening}
+use Rattle.ebl_cli.specs.Script.{LineGives, start_of, event_of}
 use Rattle.ebl_cli.specs.Lines.{bill_lines}
 use Rattle.ebl_cli.specs.Run.{Run, RunEnd, complete, bad_line, stopped, after_text, Runs, RunsFrom, OnNumbered, OnEvent, RunsLines, IsRunOf, Ends, Wrote, WroteFirst, IsAnswered}
 use Rattle.ebl_cli.specs.Status.{EndsAs, EndsAsLast}
@@ -202,22 +202,3 @@ Wrote-no_start script line lines now parts gives =
     let run : Run = record { text = []; end = bad_line 1 } in
     let P : List (List ℕ) → Type 0 = λ ls. RunsLines ls [] run in
     (run, ([], subst P (sym parts) (inr (None, gives, (refl, refl)))), refl, Appends-nil now)
-
--- a run behind the first line is a run of the script
-pub run_of_script : (script line : List ℕ) (lines : List (List ℕ)) (start : Start) (run : Run) → parts_of 10 script ≡ line ∷ lines
-    → LineGives line start_of (Some start) → RunsFrom start lines (opening start) 1 run → IsRunOf script run
-run_of_script script line lines start run parts gives (fates, runs) =
-    let P : List (List ℕ) → Type 0 = λ ls. RunsLines ls fates run in
-    (fates, subst P (sym parts) (inr (Some start, gives, runs)))
-
--- what ends so as one kind of runs ends so as another, where each of the one is of the other
-pub EndsAs-wider : (status : Status) (IsRun IsOther : Run → Type 0) (old now : Option (List ℕ)) → ((run : Run) → IsRun run → IsOther run)
-    → EndsAs status IsRun old now → EndsAs status IsOther old now
-EndsAs-wider Done IsRun IsOther old now wider ended = (ended.0, wider ended.0 ended.1, ended.2, ended.3)
-EndsAs-wider (BadScript n) IsRun IsOther old now wider ended = (ended.0, wider ended.0 ended.1, ended.2, ended.3)
-EndsAs-wider (BadJson fault) IsRun IsOther old now wider ended = (ended.0, wider ended.0 ended.1, ended.2, ended.3)
-EndsAs-wider WriteFault IsRun IsOther old now wider ended = (ended.0, wider ended.0 ended.1, ended.2)
-EndsAs-wider NoMemory IsRun IsOther old now wider ended = (ended.0, wider ended.0 ended.1, ended.2)
-EndsAs-wider Usage IsRun IsOther old now wider wrote = wrote
-EndsAs-wider ReadFault IsRun IsOther old now wider wrote = wrote
-EndsAs-wider TooLong IsRun IsOther old now wider wrote = wrote

@@ -5,8 +5,7 @@ use Rattle.ebl_base.specs.PlatformCode.{code_text}
 use Rattle.ebl_base.specs.Party.{party_text}
 use Rattle.title_fold.specs.declared.title.Title.{Title}
 use Rattle.title_fold.specs.declared.title.Title.TheVariants.{Signed, Live, Asked, Ended}
-use Rattle.title_fold.specs.declared.refusal.FoldRefusal.{FoldRefusal}
-use Rattle.title_fold.specs.declared.refusal.FoldRefusal.TheVariants.{F1, F2, F3, F4, F5, F6, F7, F8, F9}
+use Rattle.title_fold.specs.Refusal.{refusal_text}
 use Rattle.title_fold.specs.Title.{possessor, title_holder}
 use Rattle.canonical_json.specs.Value.{Value, flag, int, text, list, object, Values, no_values, item, Members, no_members, member}
 use Rattle.canonical_json.specs.Canon.{canon}
@@ -25,18 +24,6 @@ state_name (Signed c) = codes "SIGNED"
 state_name (Live c p h) = codes "LIVE"
 state_name (Asked kind c by) = codes "ASKED"
 state_name (Ended kind c) = codes "ENDED"
-
--- the name of a rule
-abbrev pub rule_name : FoldRefusal → List ℕ
-rule_name F1 = codes "F1"
-rule_name F2 = codes "F2"
-rule_name F3 = codes "F3"
-rule_name F4 = codes "F4"
-rule_name F5 = codes "F5"
-rule_name F6 = codes "F6"
-rule_name F7 = codes "F7"
-rule_name F8 = codes "F8"
-rule_name F9 = codes "F9"
 
 -- how a bill stands on this platform, which holds it with no entries of other platforms
 abbrev pub view_value : View → Value
@@ -70,7 +57,7 @@ answer_value n NoBill = bare_answer n (codes "NO_BILL")
 answer_value n (NotAllowed rule) = object
     (member (codes "event") (number n)
     (member (codes "reply") (text (codes "NOT_ALLOWED"))
-    (member (codes "rule") (text (rule_name rule))
+    (member (codes "rule") (text (refusal_text rule))
     (member (codes "sent") (list no_values)
     no_members))))
 
@@ -109,7 +96,8 @@ answer_line n answer = line_of (answer_value n answer)
 -- a line for each bill, numbered from here
 abbrev pub bill_lines_from : PlatformCode → ℕ → List BillRecord → List ℕ
 bill_lines_from platform n [] = []
-bill_lines_from platform n (bill ∷ bills) = line_of (bill_value platform n (title_of bill)) ++ bill_lines_from platform (n + 1) bills
+bill_lines_from platform n (bill ∷ bills) =
+    line_of (bill_value platform n (title_of bill)) ++ bill_lines_from platform (n + 1) bills
 
 -- a line for each bill, in the order in which they were signed
 abbrev pub bill_lines : WorldRecord → List ℕ

@@ -38,7 +38,8 @@ abbrev pub Ends : RunEnd → List ℕ → List Fate → Run → Type 0
 Ends end text fates run = (fates ≡ []) × (run ≡ record { text = text; end = end })
 
 -- an event is answered by a line, and the rest of the run goes on from the world after it; no event is a bad line
-abbrev pub OnEvent : Option Event → WorldRecord → ℕ → List Fate → Run → (WorldRecord → List Fate → Run → Type 0) → Type 0
+abbrev pub OnEvent : Option Event → WorldRecord → ℕ → List Fate → Run → (WorldRecord → List Fate → Run → Type 0)
+    → Type 0
 OnEvent None w n fates run Rest = Ends (bad_line (n + 1)) [] fates run
 OnEvent (Some event) w n [] run Rest = ⊥
 OnEvent (Some event) w n (fate ∷ fates) run Rest =
@@ -46,7 +47,8 @@ OnEvent (Some event) w n (fate ∷ fates) run Rest =
     × IsStep w event fate answer after × (run ≡ after_text (answer_line n answer) rest) × Rest after fates rest
 
 -- a script has at most 100,000 lines, so at most 99,999 events
-abbrev pub OnNumbered : Start → List ℕ → WorldRecord → ℕ → List Fate → Run → (WorldRecord → List Fate → Run → Type 0) → Type 0
+abbrev pub OnNumbered : Start → List ℕ → WorldRecord → ℕ → List Fate → Run
+    → (WorldRecord → List Fate → Run → Type 0) → Type 0
 OnNumbered start line w n fates run Rest = MatchBool (nat_le 100000 n)
     (Ends (bad_line (n + 1)) [] fates run)
     ((read : Option Event) × LineGives line (event_of start) read × OnEvent read w n fates run Rest)
@@ -55,7 +57,8 @@ OnNumbered start line w n fates run Rest = MatchBool (nat_le 100000 n)
 abbrev pub Runs : Start → List (List ℕ) → WorldRecord → ℕ → List Fate → Run → Type 0
 Runs start [] w n fates run = Ends stopped [] fates run ⊎ Ends complete (bill_lines w) fates run
 Runs start (line ∷ lines) w n fates run =
-    Ends stopped [] fates run ⊎ OnNumbered start line w n fates run (λ after fs rest. Runs start lines after (n + 1) fs rest)
+    Ends stopped [] fates run
+    ⊎ OnNumbered start line w n fates run (λ after fs rest. Runs start lines after (n + 1) fs rest)
 
 -- the first line gives the roster
 abbrev pub OnStart : Option Start → List (List ℕ) → List Fate → Run → Type 0
@@ -91,4 +94,5 @@ WroteFirst IsRun old new = (run : Run) × IsRun run × AppendsFirst old new run.
 abbrev pub IsAnswered : Start → List ℕ → WorldRecord → ℕ → Option (List ℕ) → WorldRecord → Type 0
 IsAnswered start line w n None after = LineGives line (event_of start) None
 IsAnswered start line w n (Some text) after =
-    (event : Event) × LineGives line (event_of start) (Some event) × (text ≡ answer_line n (step w event).answer) × (after ≡ (step w event).world)
+    (event : Event) × LineGives line (event_of start) (Some event)
+    × (text ≡ answer_line n (step w event).answer) × (after ≡ (step w event).world)

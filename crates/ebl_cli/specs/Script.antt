@@ -39,7 +39,8 @@ IsLineValue line (Some json) = Reads line (view json)
 
 -- a first path has one platform and one carrier
 abbrev pub start_with : RosterRecord → List PlatformCode → List Carrier → Option Start
-start_with roster (platform ∷ []) (carrier ∷ []) = Some (record { roster = roster; platform = platform; carrier = carrier.party })
+start_with roster (platform ∷ []) (carrier ∷ []) =
+    Some (record { roster = roster; platform = platform; carrier = carrier.party })
 start_with roster platforms carriers = None
 
 abbrev pub start_if_read : {E : Type 0} → Result RosterRecord E → Option Start

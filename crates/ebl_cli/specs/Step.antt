@@ -27,11 +27,13 @@ pub record Stepped : Type 0 where
 
 -- the transaction that a party makes by a command
 abbrev pub transaction_by : Event → Kind → Option Party → Transaction
-transaction_by event kind recipient = record { kind = kind; actor = event.party; recipient = recipient; time = event.now }
+transaction_by event kind recipient =
+    record { kind = kind; actor = event.party; recipient = recipient; time = event.now }
 
 -- a bill that was signed, and nothing since
 abbrev pub signed_bill : Checksum → Party → Moment → BillRecord
-signed_bill name party now = record { name = name; transactions = record { kind = Sign; actor = party; recipient = None; time = now } ∷ [] }
+signed_bill name party now =
+    record { name = name; transactions = record { kind = Sign; actor = party; recipient = None; time = now } ∷ [] }
 
 -- a bill is signed once, whoever signs it again
 abbrev pub signed : WorldRecord → Event → Checksum → Stepped
@@ -48,8 +50,11 @@ answer_to number (Err rule) = NotAllowed rule
 
 -- a transaction was made and gives this title, or this rule refused it and the bill stayed
 abbrev pub IsActed : BillRecord → Transaction → Result Title FoldRefusal → BillRecord → Type 0
-IsActed old t (Ok title) new = (fold (old.transactions ++ t ∷ []) ≡ Ok (Some title)) × (new ≡ record old { transactions = old.transactions ++ t ∷ [] })
-IsActed old t (Err rule) new = (fold (old.transactions ++ t ∷ []) ≡ Err (record { place = length old.transactions; rule = rule })) × (new ≡ old)
+IsActed old t (Ok title) new =
+    (fold (old.transactions ++ t ∷ []) ≡ Ok (Some title))
+    × (new ≡ record old { transactions = old.transactions ++ t ∷ [] })
+IsActed old t (Err rule) new =
+    (fold (old.transactions ++ t ∷ []) ≡ Err (record { place = length old.transactions; rule = rule })) × (new ≡ old)
 
 -- a transaction is taken where it and those before it fold, else the first rule that refuses is answered
 abbrev pub acted : WorldRecord → ℕ → BillRecord → List Transaction → Result (Option Title) FoldAt → Stepped

@@ -3,7 +3,7 @@ ghost use Rattle.std.specs.Prelude.{◌≡◌, ◌^◌, ◌<◌, Some, length, c
 ghost use Rattle.ebl_base.specs.Party.{party_text};
 ghost use Rattle.canonical_json.specs.Value.{text, list, object, no_values};
 ghost use Rattle.canonical_json.specs.View.{view, member_view, members_view, items_view};
-ghost use Rattle.ebl_cli.specs.Lines.{number, state_name, rule_name, view_value, bare_answer, answer_value, answer_line, acting, bill_value, bill_lines_from, line_of};
+ghost use Rattle.ebl_cli.specs.Lines.{number, state_name, view_value, bare_answer, answer_value, answer_line, acting, bill_value, bill_lines_from, line_of};
 ghost use Rattle.ebl_cli.specs.World.{title_of};
 ghost use Rattle.ebl_cli.specs.declared.answer.Answer.TheVariants.{Done, NotAllowed};
 
@@ -83,22 +83,6 @@ fn state_name(title: Title) -> &'static str
     }
 }
 
-fn rule_name(rule: FoldRefusal) -> &'static str
-    ensures { result.now ≡ rule_name rule }
-{
-    match rule {
-        FoldRefusal::F1 => "F1",
-        FoldRefusal::F2 => "F2",
-        FoldRefusal::F3 => "F3",
-        FoldRefusal::F4 => "F4",
-        FoldRefusal::F5 => "F5",
-        FoldRefusal::F6 => "F6",
-        FoldRefusal::F7 => "F7",
-        FoldRefusal::F8 => "F8",
-        FoldRefusal::F9 => "F9",
-    }
-}
-
 fn view_value(alloc: Global, v: View) -> Result<Json, NoMemory>
     ensures { IfOk result (λ json. view json ≡ view_value v) }
 {
@@ -142,7 +126,7 @@ fn refusal_answer(alloc: Global, n: u32, rule: FoldRefusal) -> Result<Json, NoMe
     let members = vec![in alloc;
         number_member(alloc, "event", u64::from(n))?,
         text_member(alloc, "reply", "NOT_ALLOWED")?,
-        text_member(alloc, "rule", rule_name(rule))?,
+        text_member(alloc, "rule", rule.as_str())?,
         sent_member(alloc)?,
     ]?;
     Ok(object_json(members))

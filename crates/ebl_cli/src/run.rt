@@ -39,8 +39,10 @@ pub fn run_ebl<S: Source, K: Sink>(
     ensures not_too_long { IsAfterRead result → IfSome (S.left source.old) (λ script. length script ≤ MOST_BYTES) }
     ensures write_fault { result ≡ Status.WriteFault → Rose (K.faults sink.old) (K.faults sink.new) }
 
-    // What the status says of the bytes written, wherever the source tells its bytes. Where the sink doesn't tell, it says nothing.
-    ensures ends { IfSome (S.left source.old) (λ script. EndsAs result (RunsBy (command_of words.now.items) script) (K.written sink.old) (K.written sink.new)) }
+    // What the status says of the bytes written, wherever the source tells its bytes. Where the sink doesn't tell, it
+    // says nothing.
+    ensures ends { IfSome (S.left source.old) (λ script.
+        EndsAs result (RunsBy (command_of words.now.items) script) (K.written sink.old) (K.written sink.new)) }
     ensures untouched { IsBeforeWrite result → sink.new ≡ sink.old }
     ensures source_later { S.faults source.old ≤ S.faults source.new }
     ensures sink_later { K.faults sink.old ≤ K.faults sink.new }
@@ -85,7 +87,8 @@ fn drive<K: Sink>(alloc: Global, script: &[u8], sink: &mut K) -> Status
 }
 
 fn run_events<K: Sink>(alloc: Global, start: &Start, lines: &[u8], sink: &mut K) -> Status
-    ensures ends { EndsAs result (RunsFrom start.now (parts_of 10 lines.now) (opening start.now) 1) (K.written sink.old) (K.written sink.new) }
+    ensures ends { EndsAs result (RunsFrom start.now (parts_of 10 lines.now) (opening start.now) 1)
+        (K.written sink.old) (K.written sink.new) }
     ensures after_read { IsCommandEnd result }
     ensures write_fault { result ≡ Status.WriteFault → Rose (K.faults sink.old) (K.faults sink.new) }
     ensures later { K.faults sink.old ≤ K.faults sink.new }

@@ -14,7 +14,8 @@ pub enum Status {
     TooLong,
     /// `canon` alone: the input is no JSON that `canonical_json` reads, and why.
     BadJson(ReadError),
-    /// The line of this number, counted from 1, is the first outside the grammar, or the line 100,001. The answers before it stand.
+    /// The line of this number, counted from 1, is the first outside the grammar, or the line 100,001. The answers
+    /// before it stand.
     BadScript(u64),
     /// The sink failed. What it took is a first part of the answers.
     WriteFault,
