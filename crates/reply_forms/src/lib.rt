@@ -1,0 +1,9 @@
+//! What a platform's reply says beside its status: canonical JSON, a signed text, or nothing.
+#![tactic(auto)]
+
+mod body;
+mod refusals;
+mod views;
+mod words;
+
+pub use body::{ReplyBody, reply_body};

@@ -1,0 +1,120 @@
+//! Refusals as JSON, without the number of an event and the messages sent.
+ghost use Rattle.std.specs.Prelude.{◌≡◌, IfOk, codes, option_map};
+ghost use Rattle.canonical_json.specs.Value.{text, object, member as member_of, no_members};
+ghost use Rattle.canonical_json.specs.View.{view};
+ghost use Rattle.json_forms.specs.Writing.{party_value};
+ghost use Rattle.platform_requests.specs.Words.{ignore_text};
+ghost use Rattle.reply_forms.specs.Body.{document_value, place_value, word_value};
+ghost use Rattle.reply_forms.specs.Words.{field_name, limit_text};
+ghost use Rattle.title_fold.specs.Refusal.{refusal_text};
+
+use crate::words::{field_name, limit_text, place_text};
+use canonical_json::Json;
+use ebl_base::{LimitKind, NoMemory, Party, PlaceTag};
+use json_forms::{object_json, party_member, text_member};
+use platform_requests::IgnoreReason;
+use std::alloc::Global;
+use title_fold::FoldRefusal;
+use transport_document::{DocumentFault, DocumentField};
+
+/// A refusal that says its word alone.
+pub(crate) fn word_json(alloc: Global, word: &str) -> Result<Json, NoMemory>
+    ensures { IfOk result (λ json. view json ≡ word_value word.now) }
+{
+    let members = vec![in alloc; text_member(alloc, "reply", word)?]?;
+    Ok(object_json(members))
+}
+
+// Two texts under their names.
+fn two_texts(
+    alloc: Global,
+    first: &str,
+    one: &str,
+    second: &str,
+    other: &str,
+) -> Result<Json, NoMemory>
+    ensures { IfOk result (λ json. view json
+        ≡ object (member_of first.now (text one.now) (member_of second.now (text other.now) no_members))) }
+{
+    let members = vec![in alloc;
+        text_member(alloc, first, one)?,
+        text_member(alloc, second, other)?,
+    ]?;
+    Ok(object_json(members))
+}
+
+/// A refusal by the place of a bill.
+pub(crate) fn place_json(alloc: Global, word: &str, place: PlaceTag) -> Result<Json, NoMemory>
+    ensures { IfOk result (λ json. view json ≡ place_value word.now place) }
+{
+    two_texts(alloc, "place", place_text(place), "reply", word)
+}
+
+pub(crate) fn no_party_json(alloc: Global, party: Party) -> Result<Json, NoMemory>
+    ensures { IfOk result (λ json. view json
+        ≡ object (member_of (codes "party") (party_value party) (member_of (codes "reply") (text (codes "NO_PARTY")) no_members))) }
+{
+    let members = vec![in alloc;
+        party_member(alloc, "party", party)?,
+        text_member(alloc, "reply", "NO_PARTY")?,
+    ]?;
+    Ok(object_json(members))
+}
+
+pub(crate) fn not_allowed_json(alloc: Global, rule: FoldRefusal) -> Result<Json, NoMemory>
+    ensures { IfOk result (λ json. view json
+        ≡ object (member_of (codes "reply") (text (codes "NOT_ALLOWED")) (member_of (codes "rule") (text (refusal_text rule)) no_members))) }
+{
+    two_texts(alloc, "reply", "NOT_ALLOWED", "rule", rule.as_str())
+}
+
+pub(crate) fn limit_json(alloc: Global, which: LimitKind) -> Result<Json, NoMemory>
+    ensures { IfOk result (λ json. view json
+        ≡ object (member_of (codes "reply") (text (codes "LIMIT")) (member_of (codes "which") (text (limit_text which)) no_members))) }
+{
+    two_texts(alloc, "reply", "LIMIT", "which", limit_text(which))
+}
+
+pub(crate) fn ignored_json(alloc: Global, reason: IgnoreReason) -> Result<Json, NoMemory>
+    ensures { IfOk result (λ json. view json
+        ≡ object (member_of (codes "reason") (text (ignore_text reason)) (member_of (codes "reply") (text (codes "IGNORED")) no_members))) }
+{
+    two_texts(alloc, "reason", reason.as_str(), "reply", "IGNORED")
+}
+
+/// Why a document gives no bill; nothing for want of memory.
+pub(crate) fn document_json(alloc: Global, fault: DocumentFault) -> Result<Option<Json>, NoMemory>
+    ensures { IfOk result (λ json. option_map view json ≡ document_value fault) }
+{
+    match fault {
+        DocumentFault::DocumentForm(field) => Ok(Some(form_json(alloc, field)?)),
+        DocumentFault::NotTitle => Ok(Some(two_texts(
+            alloc,
+            "fault",
+            "NOT_TITLE",
+            "reply",
+            "DOCUMENT",
+        )?)),
+        DocumentFault::TooLarge => Ok(Some(two_texts(
+            alloc,
+            "fault",
+            "TOO_LARGE",
+            "reply",
+            "DOCUMENT",
+        )?)),
+        DocumentFault::NoMemory => Ok(None),
+    }
+}
+
+fn form_json(alloc: Global, field: DocumentField) -> Result<Json, NoMemory>
+    ensures { IfOk result (λ json. view json
+        ≡ object (member_of (codes "fault") (text (codes "FORM"))
+        (member_of (codes "field") (text (field_name field)) (member_of (codes "reply") (text (codes "DOCUMENT")) no_members)))) }
+{
+    let members = vec![in alloc;
+        text_member(alloc, "fault", "FORM")?,
+        text_member(alloc, "field", field_name(field))?,
+        text_member(alloc, "reply", "DOCUMENT")?,
+    ]?;
+    Ok(object_json(members))
+}

@@ -1,0 +1,54 @@
+//! The words of places, titles, limits and fields.
+ghost use Rattle.std.specs.Prelude.{◌≡◌};
+ghost use Rattle.reply_forms.specs.Words.{field_name, limit_text, place_text, state_text};
+
+use ebl_base::{LimitKind, PlaceTag};
+use title_fold::Title;
+use transport_document::DocumentField;
+
+pub(crate) fn place_text(place: PlaceTag) -> &'static str
+    ensures { result.now ≡ place_text place }
+{
+    match place {
+        PlaceTag::Absent => "ABSENT",
+        PlaceTag::Held => "HELD",
+        PlaceTag::Parting => "PARTING",
+        PlaceTag::Gone => "GONE",
+    }
+}
+
+pub(crate) fn state_text(title: Title) -> &'static str
+    ensures { result.now ≡ state_text title }
+{
+    match title {
+        Title::Signed { .. } => "SIGNED",
+        Title::Live { .. } => "LIVE",
+        Title::Asked { .. } => "ASKED",
+        Title::Ended { .. } => "ENDED",
+    }
+}
+
+pub(crate) fn limit_text(which: LimitKind) -> &'static str
+    ensures { result.now ≡ limit_text which }
+{
+    match which {
+        LimitKind::Entries => "ENTRIES",
+        LimitKind::Transactions => "TRANSACTIONS",
+        LimitKind::DocumentSize => "DOCUMENT_SIZE",
+        LimitKind::Documents => "DOCUMENTS",
+        LimitKind::DocumentBytes => "DOCUMENT_BYTES",
+    }
+}
+
+/// The name of a member of a transport document.
+pub(crate) fn field_name(field: DocumentField) -> &'static str
+    ensures { result.now ≡ field_name field }
+{
+    match field {
+        DocumentField::TransportDocumentReference => "transportDocumentReference",
+        DocumentField::CarrierCode => "carrierCode",
+        DocumentField::CarrierCodeListProvider => "carrierCodeListProvider",
+        DocumentField::TransportDocumentTypeCode => "transportDocumentTypeCode",
+        DocumentField::IsToOrder => "isToOrder",
+    }
+}
