@@ -1,0 +1,3 @@
+pub mod AskedLemmas
+pub mod CutLemmas
+pub mod ReadingLemmas
