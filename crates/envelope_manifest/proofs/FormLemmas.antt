@@ -1,5 +1,5 @@
 -- What holds of members that were read in their forms.
-use Rattle.std.proofs.Common.{nat_lt, [], ◌∷◌, IsUtf8, ◌≡◌, ℕ, ◌≤◌, ℤ, true, nat_le, List, Option, Some, None, Result, Ok, IsTrue, refl, sym, ap, ◌∙◌, arith}
+use Rattle.std.proofs.Common.{nat_lt, [], ◌∷◌, IsUtf8, ◌≡◌, ℕ, true, List, Option, Some, None, IsTrue, sym, ap, ◌∙◌, arith}
 use Rattle.std.specs.Prelude.{option_and_then}
 use Rattle.std.specs.List.{list_all}
 use Rattle.std.specs.Str.{IsAscii}

@@ -1,5 +1,5 @@
 -- How long the canonical texts of manifests are.
-use Rattle.std.proofs.Common.{◌≡◌, ◌≤◌, ◌<◌, ◌+◌, ◌*◌, ◌/◌, ◌%◌, ℕ, Bool, true, false, ◌&&◌, nat_le, nat_lt, ltb-true, List, [], ◌∷◌, ◌++◌, IsTrue, IsUtf8, codes, cond, length, refl, sym, ap, subst, arith}
+use Rattle.std.proofs.Common.{◌≡◌, ◌≤◌, ◌<◌, ◌+◌, ◌*◌, ◌/◌, ℕ, Bool, true, false, ◌&&◌, nat_le, nat_lt, List, [], ◌∷◌, ◌++◌, IsTrue, IsUtf8, codes, cond, length, refl, subst, arith}
 use Rattle.std.proofs.Math.Bool.{not}
 use Rattle.std.specs.List.{list_all}
 use Rattle.std.specs.Str.{chars}
@@ -11,8 +11,8 @@ use Rattle.std.proofs.lemmas.List.Folds.{list_all-append}
 use Rattle.std.proofs.lemmas.Str.{encodes-chars}
 use Rattle.json.specs.Print.{quoted, escape_byte}
 use lib.Utf8.{encode, encodes, next}
-use Rattle.canonical_json.specs.Canon.{canon, comma_if, members_text, values_text}
-use Rattle.canonical_json.specs.Value.{Value, text, list, Members, no_members, member}
+use Rattle.canonical_json.specs.Canon.{canon, values_text}
+use Rattle.canonical_json.specs.Value.{text, list, no_members, member}
 use Rattle.json_forms.specs.Writing.{each_written, number_value, checksum_value}
 use Rattle.json_forms.proofs.LengthLemmas.{checksum_length, member_length, printed_length}
 use Rattle.envelope_manifest.specs.declared.piece.Piece.{Piece}

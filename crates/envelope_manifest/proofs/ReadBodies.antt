@@ -1,11 +1,11 @@
 -- A body that was read is well-formed.
-use Rattle.std.proofs.Common.{◌≡◌, ℕ, List, [], ◌∷◌, Bool, true, false, cond, IsUtf8, Option, Some, None, Result, Ok, Err, codes, bytes_eq, refl, sym, ap, ◌∙◌, subst}
+use Rattle.std.proofs.Common.{◌≡◌, ℕ, List, [], ◌∷◌, IsUtf8, Option, Some, None, Result, Ok, Err, codes, refl, sym, ap, ◌∙◌, subst}
 use Rattle.std.specs.Prelude.{option_and_then, IfOk}
 use Rattle.std.specs.Result.{result_unwrap_or}
-use Rattle.canonical_json.specs.Value.{Value, null, flag, int, decimal, text, list, object, Values, no_values, item, Members, no_members, member}
+use Rattle.canonical_json.specs.Value.{Value, null, flag, int, decimal, text, list, object, Values, no_values, item, Members}
 use Rattle.canonical_json.specs.Field.{under}
 use Rattle.canonical_json.specs.Lawful.{IsLawful, HasTexts, HaveTexts, MembersHaveTexts}
-use Rattle.canonical_json.proofs.Parts.{is_lawful-member_of}
+use Rattle.canonical_json.proofs.Parts.{HasTexts-under, is_lawful-member_of}
 use Rattle.json_forms.specs.Reading.{all_of, with_more}
 use Rattle.ebl_base.specs.declared.signed_text.SignedText.{SignedText}
 use Rattle.envelope_manifest.specs.declared.body.Body.{Body}
@@ -14,15 +14,6 @@ use Rattle.envelope_manifest.specs.declared.fault.BodyField.TheVariants as field
 use Rattle.envelope_manifest.specs.declared.fault.BodyFault.{BodyFault}
 use Rattle.envelope_manifest.specs.Body.{BodyRecord, AreUtf8, IsBody, object_in, signed_in, all_signed_in, parts_of, body_of, body_view}
 use Rattle.json_forms.proofs.ReadForms.{required-parts}
-
--- what stands under a name among texts has texts
-HasTexts-under : (name : List ℕ) (ms : Members) (w : Value) → MembersHaveTexts ms → under name ms ≡ Some w → HasTexts w
-HasTexts-under name no_members w h e = cc
-HasTexts-under name (member other v ms) w h e = by_test (HasTexts-under name ms w h.2) (bytes_eq other name) e
-  where
-    by_test : (under name ms ≡ Some w → HasTexts w) → (b : Bool) → cond b (Some v) (under name ms) ≡ Some w → HasTexts w
-    by_test deeper true f = let same : v ≡ w = cc in subst HasTexts same h.1
-    by_test deeper false f = deeper f
 
 -- what was made of a value that is there
 pub made_of : {A B : Type 0} (form : A → Option B) (found : Option A) (y : B) → option_and_then form found ≡ Some y
