@@ -1,11 +1,11 @@
 -- A response that was read is well-formed.
-use Rattle.std.proofs.Common.{◌≡◌, ℕ, ℤ, Bool, true, false, cond, nat_le, is_some, List, [], ◌∷◌, Option, Some, None, Result, Ok, Err, codes, option_map, refl, ap, subst, ◌∙◌, All, arith}
+use Rattle.std.proofs.Common.{◌≡◌, ℕ, ℤ, Bool, true, false, cond, nat_le, is_some, List, [], ◌∷◌, Option, Some, None, Result, Ok, codes, option_map, refl, ap, subst, ◌∙◌, All, arith}
 use Rattle.std.specs.Prelude.{option_and_then}
 use Rattle.std.proofs.lemmas.Bool.{and_parts}
 use Rattle.std.proofs.lemmas.List.Elements.{All-cons}
-use Rattle.canonical_json.specs.Field.{as_text, flag_of, int_of, list_of, member_of, under}
-use Rattle.canonical_json.specs.Value.{Value, Values, no_values, item, null, flag, int, decimal, text, list, object, Members, no_members, member}
-use Rattle.json_forms.specs.Reading.{all_of, optional_checksum, checksum_in, optional, in_form, required, unless_malformed, number_in, required_number, with_more}
+use Rattle.canonical_json.specs.Field.{as_text, flag_of, int_of, list_of, member_of}
+use Rattle.canonical_json.specs.Value.{Value, Values, no_values, item, null, flag, int, decimal, text, list, object}
+use Rattle.json_forms.specs.Reading.{all_of, optional_checksum, checksum_in, optional, in_form, number_in, required_number, with_more}
 use Rattle.json_forms.proofs.RoundTrips.{number_in-within}
 use Rattle.document_checksum.specs.Digest.{IsChecksum}
 use Rattle.document_checksum.specs.Text.{checksum_of_text}
@@ -24,8 +24,8 @@ use Rattle.pint_responses.specs.declared.fault.ResponseField.{ResponseField}
 use Rattle.pint_responses.specs.declared.fault.ResponseField.TheVariants as fields
 use Rattle.ebl_base.specs.declared.evidence.Evidence.{Evidence}
 use Rattle.std.specs.Str.{IsUtf8}
-use Rattle.std.specs.Prelude.{bytes_eq}
-use Rattle.canonical_json.specs.Lawful.{HasTexts, MembersHaveTexts}
+use Rattle.canonical_json.proofs.Parts.{HasTexts-member_of}
+use Rattle.canonical_json.specs.Lawful.{HasTexts}
 use Rattle.json_forms.proofs.ReadForms.{required-parts, then_read-parts, unless_malformed-parts}
 use Rattle.pint_responses.specs.declared.response.Response.{Response}
 
@@ -165,24 +165,6 @@ reason_is code v o h =
 
 -- ---- evidence
 
--- a member of a value with texts has texts
-under-texts : (name : List ℕ) (ms : Members) (w : Value) → MembersHaveTexts ms → under name ms ≡ Some w → HasTexts w
-under-texts name no_members w h e = cc e
-under-texts name (member other v ms) w h e = by_test (under-texts name ms w h.2) (bytes_eq other name) e
-  where
-    by_test : (under name ms ≡ Some w → HasTexts w) → (b : Bool) → cond b (Some v) (under name ms) ≡ Some w → HasTexts w
-    by_test deeper true f = let same : v ≡ w = cc in subst HasTexts same h.1
-    by_test deeper false f = deeper f
-
-member-texts : (name : List ℕ) (v w : Value) → HasTexts v → member_of name v ≡ Some w → HasTexts w
-member-texts name null w h e = cc e
-member-texts name (flag b) w h e = cc e
-member-texts name (int z) w h e = cc e
-member-texts name (decimal z n) w h e = cc e
-member-texts name (text t) w h e = cc e
-member-texts name (list vs) w h e = cc e
-member-texts name (object ms) w h e = under-texts name ms w h e
-
 signed-utf8 : (w : Value) (t : SignedText) → HasTexts w → signed_in w ≡ Some t → IsUtf8 t.0
 signed-utf8 null t h e = cc e
 signed-utf8 (flag b) t h e = cc e
@@ -206,7 +188,7 @@ signed-is name v o texts h = by_member (member_of name v) refl h
   where
     by_member : (m : Option Value) → member_of name v ≡ m → optional signed_in m ≡ Ok o → IsOptionalUtf8 o
     by_member None e f = let same : None ≡ o = cc f in subst IsOptionalUtf8 same tt
-    by_member (Some w) e f = formed-utf8 (signed_in w) o (λ t. signed-utf8 w t (member-texts name v w texts e)) f
+    by_member (Some w) e f = formed-utf8 (signed_in w) o (λ t. signed-utf8 w t (HasTexts-member_of name v w texts e)) f
 
 -- ---- the whole
 
