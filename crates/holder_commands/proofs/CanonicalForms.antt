@@ -1,5 +1,5 @@
 -- What is written of a command has a canonical text.
-use Rattle.std.proofs.Common.{◌≡◌, ℕ, List, true, ◌&&◌, Option, Some, None, codes, refl, ap}
+use Rattle.std.proofs.Common.{true, ◌&&◌, Some, None, codes, refl, ap}
 use Rattle.std.specs.Str.{chars}
 use Rattle.canonical_json.specs.Lawful.{IsLawful, HasTexts}
 use Rattle.canonical_json.specs.Name.{name_cmp}

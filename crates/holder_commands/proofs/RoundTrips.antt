@@ -1,6 +1,5 @@
 -- A command is read from its written form.
-use Rattle.std.proofs.Common.{◌≡◌, ℕ, List, Bool, true, false, cond, IsTrue, Option, Some, None, Result, Ok, Err, codes, refl, sym, ap, ◌∙◌}
-use Rattle.std.specs.Prelude.{IfSome}
+use Rattle.std.proofs.Common.{◌≡◌, ℕ, List, false, cond, IsTrue, Option, Some, None, Result, Ok, refl, ap, ◌∙◌}
 use Rattle.base64.specs.GeneralPurpose.{IsBytes}
 use Rattle.document_checksum.specs.Digest.{IsChecksum}
 use Rattle.document_checksum.specs.Text.{checksum_of_text, checksum_text}
@@ -9,7 +8,6 @@ use Rattle.json_forms.specs.Reading.{required, unless_malformed, in_form}
 use Rattle.json_forms.specs.Bytes.{bytes_of, base64}
 use Rattle.json_forms.proofs.BytesLemmas.{bytes_of-base64}
 use Rattle.json_forms.specs.declared.reading.Malformed.{Malformed}
-use Rattle.ebl_base.specs.Party.{IsParty}
 use Rattle.envelope_manifest.specs.Piece.{is_plain_text, plain_text}
 use Rattle.ebl_base.specs.Party.{party_of, party_text}
 use Rattle.ebl_base.specs.declared.checksum.Checksum.{Checksum}
@@ -20,7 +18,7 @@ use Rattle.holder_commands.specs.declared.fault.CommandField.{CommandField}
 use Rattle.holder_commands.specs.declared.fault.CommandField.TheVariants as fields
 use Rattle.holder_commands.specs.Command.{CommandRecord, signs, acts, attaches}
 use Rattle.holder_commands.specs.Form.{IsCommand}
-use Rattle.holder_commands.specs.Reading.{command_of, act_of, begins_a_bill}
+use Rattle.holder_commands.specs.Reading.{command_of, begins_a_bill}
 use Rattle.holder_commands.specs.Writing.{command_value}
 
 -- an act of these parts

@@ -1,4 +1,4 @@
-use Rattle.std.proofs.Common.{Result, Ok, sym, ap, ◌∙◌}
+use Rattle.std.proofs.Common.{Result, sym, ap, ◌∙◌}
 use Rattle.std.specs.Result.{result_unwrap_or}
 use Rattle.holder_commands.specs.Command.{CommandRecord}
 use Rattle.holder_commands.specs.declared.fault.CommandField.{CommandField}
