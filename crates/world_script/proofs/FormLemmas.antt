@@ -1,10 +1,11 @@
 -- An event that was read has its form.
-use Rattle.std.proofs.Common.{◌≡◌, ℕ, List, Bool, true, false, cond, bytes_eq, Option, Some, None, Ok, refl, subst}
+use Rattle.std.proofs.Common.{◌≡◌, ℕ, List, Option, Some, None, Ok, refl, subst}
 use Rattle.std.specs.Prelude.{IfSome, option_and_then}
 use Rattle.std.specs.Str.{IsUtf8}
-use Rattle.canonical_json.specs.Value.{Value, null, flag, int, decimal, text, list, object, Members, no_members, member}
-use Rattle.canonical_json.specs.Field.{under, member_of, as_text, text_of, int_of}
-use Rattle.canonical_json.specs.Lawful.{HasTexts, MembersHaveTexts}
+use Rattle.canonical_json.specs.Value.{Value, null, flag, int, decimal, text, list, object}
+use Rattle.canonical_json.specs.Field.{member_of, as_text, text_of, int_of}
+use Rattle.canonical_json.proofs.Parts.{HasTexts-member_of}
+use Rattle.canonical_json.specs.Lawful.{HasTexts}
 use Rattle.json_forms.specs.Reading.{optional, party_in}
 use Rattle.json_forms.proofs.ReadForms.{optional_form, least-read, most-read}
 use Rattle.chain_entry.proofs.RoundTrips.{party_form}
@@ -17,24 +18,6 @@ use Rattle.world_script.specs.Form.{IsNumber}
 use Rattle.world_script.specs.Reading.{numbered}
 
 -- ---- texts
-
--- what stands under a name among texts has texts
-HasTexts-under : (name : List ℕ) (ms : Members) (w : Value) → MembersHaveTexts ms → under name ms ≡ Some w → HasTexts w
-HasTexts-under name no_members w h e = cc
-HasTexts-under name (member other v ms) w h e = by_test (HasTexts-under name ms w h.2) (bytes_eq other name) e
-  where
-    by_test : (under name ms ≡ Some w → HasTexts w) → (b : Bool) → cond b (Some v) (under name ms) ≡ Some w → HasTexts w
-    by_test deeper true f = let same : v ≡ w = cc in subst HasTexts same h.1
-    by_test deeper false f = deeper f
-
-pub HasTexts-member_of : (name : List ℕ) (v w : Value) → HasTexts v → member_of name v ≡ Some w → HasTexts w
-HasTexts-member_of name null w h e = cc
-HasTexts-member_of name (flag b) w h e = cc
-HasTexts-member_of name (int z) w h e = cc
-HasTexts-member_of name (decimal z n) w h e = cc
-HasTexts-member_of name (text s) w h e = cc
-HasTexts-member_of name (list vs) w h e = cc
-HasTexts-member_of name (object ms) w h e = HasTexts-under name ms w h e
 
 -- a text among them is UTF-8
 text_is_utf8 : (found : Option Value) (s : List ℕ) → ((w : Value) → found ≡ Some w → HasTexts w)

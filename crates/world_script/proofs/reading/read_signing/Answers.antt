@@ -1,8 +1,7 @@
 use Rattle.std.proofs.Common.{codes, sym, subst}
 use Rattle.canonical_json.specs.Lawful.{IsLawful, HasTexts}
 use Rattle.canonical_json.specs.View.{view}
-use Rattle.canonical_json.proofs.Parts.{is_lawful-member_of}
-use Rattle.world_script.proofs.FormLemmas.{HasTexts-member_of}
+use Rattle.canonical_json.proofs.Parts.{HasTexts-member_of, is_lawful-member_of}
 use Rattle.world_script.proofs.reading.read_signing.Goals as goal
 
 pub returns-clause-form : goal.returns-clause-form
