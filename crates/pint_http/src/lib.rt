@@ -1,0 +1,9 @@
+//! HTTP sessions of a title platform, the server's side (DCSA PINT 3.0 over HTTP/1.1 and HTTP/1.0).
+#![tactic(auto)]
+
+mod known;
+mod reply;
+mod serve;
+
+pub use http_requests::LinkEnd;
+pub use serve::{MOST_REPLIES, serve_link};
