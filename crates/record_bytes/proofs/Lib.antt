@@ -1,0 +1,11 @@
+pub mod FindLemmas
+pub mod FieldLemmas
+pub mod DocumentLemmas
+pub mod TextLemmas
+pub mod RecordParts
+pub mod BegunLemmas
+pub mod EvidenceLemmas
+pub mod SpellingLemmas
+pub mod FrameLemmas
+pub mod SoundLemmas
+pub mod LengthLemmas
