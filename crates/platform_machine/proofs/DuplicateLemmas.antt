@@ -1,0 +1,95 @@
+-- What was taken is a duplicate.
+use Rattle.std.proofs.Common.{◌≡◌, ℕ, Bool, true, cond, List, Option, Some, None, Ok, Err, refl, ap, sym, subst, ◌∙◌}
+use Rattle.ebl_base.specs.declared.chain.ChainLink.{ChainLink}
+use Rattle.ebl_base.specs.declared.checksum.Checksum.{Checksum}
+use Rattle.ebl_base.specs.declared.party.Party.{Party}
+use Rattle.ebl_base.specs.declared.platform_code.PlatformCode.{PlatformCode}
+use Rattle.ebl_base.proofs.SameLemmas.{code_eq-Decides}
+use Rattle.envelope_manifest.specs.declared.manifest.Manifest.{Manifest}
+use Rattle.party_roster.specs.RosterRecord.{RosterRecord}
+use Rattle.title_fold.specs.Title.{possessor}
+use Rattle.title_fold.specs.Fold.{Folded}
+use Rattle.bill_chain.specs.Chain.{destination, last_of, platform_with, title_after_chain}
+use Rattle.bill_diary.specs.declared.record.Record.{Record}
+use Rattle.bill_diary.specs.declared.frame.Frame.{Frame}
+use Rattle.bill_diary.specs.History.{newest_first, of_bill}
+use Rattle.bill_diary.specs.Receiving.{is_taken, last_declined}
+use Rattle.bill_diary.specs.Sound.{IsSound}
+use Rattle.ebl_base.specs.declared.reference.Reference.{Reference}
+use Rattle.signed_envelope.specs.KeyRing.{Keys}
+use Rattle.platform_machine.specs.declared.step.Step.{Step}
+use Rattle.platform_machine.specs.declared.subject.Subject.{Subject}
+use Rattle.platform_machine.specs.Preface.{ShownRecord, Shows}
+use Rattle.platform_machine.specs.Answer.{IsAnswer, subject_of}
+use Rattle.platform_machine.specs.Judged.{frame_for, response_for}
+use Rattle.platform_machine.specs.Receiving.{BegunRecord, IsFinished, IsJudged, IsLastBegun, SaysAtStart, frame_at_start, judgement_at_finish, judgement_at_start}
+use Rattle.platform_machine.proofs.FoundLemmas.{found_whole}
+use Rattle.transfer_judge.specs.declared.judgement.Judgement.{Judgement}
+use Rattle.transfer_judge.specs.declared.judgement.Judgement.TheVariants as judgements
+use Rattle.transfer_judge.specs.Judgement.{judgement_at_place, judgement_by, judgement_here, judgement_of, on_declined, on_last, on_receiver_here, on_taken, receiver_of, receiver_with}
+
+-- a chain that goes to a platform gives a party there possession
+record HasReceiver (me : PlatformCode) (o : Option Party) : Type 0 where
+  receiver : Party
+  receiver_is : o ≡ Some receiver
+  here : receiver.platform ≡ me
+
+receiver_on : (me : PlatformCode) (folded : Folded) → platform_with folded ≡ Some me
+    → HasReceiver me (receiver_with folded)
+receiver_on me (Err at) goes = cc goes
+receiver_on me (Ok None) goes = cc goes
+receiver_on me (Ok (Some title)) goes = record { receiver = possessor title; receiver_is = refl; here = cc goes }
+
+pub taken_is_duplicate : (roster : RosterRecord) (me : PlatformCode) (all : List Record) (chain : List ChainLink)
+    (manifest : Manifest) (last : ChainLink) → last_of chain ≡ Some last → destination chain ≡ Some me
+    → is_taken last.name all ≡ true → judgement_by roster me all chain manifest ≡ judgements.Duplicate
+taken_is_duplicate roster me all chain manifest last last_is goes taken =
+    let has = receiver_on me (title_after_chain chain) goes in
+    let rest : Party → Judgement =
+    λ party. judgement_here roster last.entry.bill all last.name party chain manifest in
+    let on_party : judgement_by roster me all chain manifest ≡ on_receiver_here me (receiver_of chain) rest =
+    ap (λ (o : Option ChainLink). on_last o (λ (l : ChainLink). judgement_of roster me l.entry.bill all chain manifest)) last_is
+    ∙ ap (λ (o : Option ChainLink). on_last o (λ (l : ChainLink).
+    on_receiver_here me (receiver_of chain) (λ (party : Party).
+    judgement_here roster last.entry.bill all l.name party chain manifest))) last_is in
+    let here : on_receiver_here me (receiver_of chain) rest ≡ rest has.receiver =
+    ap (λ (o : Option Party). on_receiver_here me o rest) has.receiver_is
+    ∙ ap (λ (b : Bool). cond b (rest has.receiver) judgements.Elsewhere) ((code_eq-Decides has.receiver.platform me).1 has.here) in
+    on_party ∙ here
+    ∙ ap (λ (b : Bool). on_taken b (on_declined (last_declined last.name all)
+    (judgement_at_place roster (of_bill last.entry.bill all) has.receiver chain manifest))) taken
+
+-- ---- the steps of what was taken
+
+-- nothing is written, and the reply says so
+pub record IsDuplicate (keys : Keys) (me : PlatformCode) (subject : Subject) (step : Step) : Type 0 where
+  pub nothing_written : step.frame ≡ None
+  pub says : IsAnswer keys me (response_for subject judgements.Duplicate) step.reply
+
+pub start_of_taken : (roster : RosterRecord) (keys : Keys) (me : PlatformCode) (diary : List Frame) (bytes : List ℕ)
+    (s : ShownRecord) (step : Step) → Shows roster keys bytes s → destination s.chain ≡ Some me
+    → is_taken s.manifest.last (newest_first diary) ≡ true → IsJudged roster keys me diary s step
+    → IsDuplicate keys me (subject_of s.manifest) step
+start_of_taken roster keys me diary bytes s step shows goes taken judged =
+    let envelops = shows.shows.envelops in
+    let is : judgement_at_start roster me diary s ≡ judgements.Duplicate =
+    taken_is_duplicate roster me (newest_first diary) s.chain s.manifest envelops.end envelops.end_is goes
+    (ap (λ (n : Checksum). is_taken n (newest_first diary)) (sym envelops.manifests.names.1) ∙ taken) in
+    record {
+      nothing_written = judged.frame_is ∙ ap (λ (j : Judgement). frame_at_start diary s j) is;
+      says = subst (λ (j : Judgement). SaysAtStart keys me (subject_of s.manifest) j step.reply) is judged.says;
+    }
+
+pub finish_of_taken : (roster : RosterRecord) (keys : Keys) (me : PlatformCode) (diary : List Frame)
+    (reference : Reference) (b : BegunRecord) (step : Step) → IsSound me diary → IsLastBegun reference diary b
+    → destination b.chain ≡ Some me → is_taken b.manifest.last (newest_first diary) ≡ true
+    → IsFinished roster keys me diary b step → IsDuplicate keys me (subject_of b.manifest) step
+finish_of_taken roster keys me diary reference b step sound last_begun goes taken finished =
+    let whole = found_whole me diary reference b sound last_begun in
+    let is : judgement_at_finish roster me diary b ≡ judgements.Duplicate =
+    taken_is_duplicate roster me (newest_first diary) b.chain b.manifest whole.last whole.last_is goes
+    (ap (λ (n : Checksum). is_taken n (newest_first diary)) (sym whole.names_last) ∙ taken) in
+    record {
+      nothing_written = finished.frame_is ∙ ap (λ (j : Judgement). frame_for None (subject_of b.manifest) j) is;
+      says = subst (λ (j : Judgement). IsAnswer keys me (response_for (subject_of b.manifest) j) step.reply) is finished.says;
+    }

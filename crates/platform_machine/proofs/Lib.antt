@@ -1,0 +1,11 @@
+pub mod FoundLemmas
+pub mod SealLemmas
+pub mod EntryLemmas
+pub mod TransferLemmas
+pub mod DocumentLemmas
+pub mod BegunLemmas
+pub mod JudgedLemmas
+pub mod JudgedFrames
+pub mod StepFrames
+pub mod StepLaws
+pub mod DuplicateLemmas

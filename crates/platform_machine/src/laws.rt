@@ -1,0 +1,95 @@
+//! Laws of the machine. Each function does nothing: its contract is the law.
+ghost use Rattle.std.specs.Prelude.{◌≡◌, ◌≤◌, ℕ, List, [], ◌∷◌, ◌++◌, Some, None, true};
+ghost use Rattle.canonical_json.specs.Value.{Value};
+ghost use Rattle.signed_envelope.specs.KeyRing.{Keys};
+ghost use Rattle.party_roster.specs.RosterRecord.{RosterRecord};
+ghost use Rattle.pint_responses.specs.Response.{IsSealable};
+ghost use Rattle.bill_chain.specs.Chain.{destination};
+ghost use Rattle.bill_diary.specs.declared.frame.Frame.TheVariants.{One};
+ghost use Rattle.bill_diary.specs.declared.bill_place.BillPlace.TheVariants.{Parting};
+ghost use Rattle.bill_diary.specs.History.{history, newest_first};
+ghost use Rattle.bill_diary.specs.Place.{place_of};
+ghost use Rattle.bill_diary.specs.Receiving.{is_taken};
+ghost use Rattle.bill_diary.specs.Sound.{IsSound};
+ghost use Rattle.transfer_judge.specs.Legal.{IsLegal};
+ghost use Rattle.transfer_judge.specs.declared.judgement.Judgement.TheVariants.{Duplicate};
+ghost use Rattle.platform_machine.specs.Preface.{ShownRecord, Shows};
+ghost use Rattle.platform_machine.specs.Answer.{IsAnswer, subject_of};
+ghost use Rattle.platform_machine.specs.Judged.{response_for};
+ghost use Rattle.platform_machine.specs.Receiving.{BegunRecord, IsFinished, IsJudged, IsLastBegun, StepsAtFinish, StepsAtPut, StepsAtStart, judgement_at_finish, judgement_at_start};
+ghost use Rattle.platform_machine.specs.Hearing.{StepsAtFinishReply, StepsAtStartReply};
+ghost use Rattle.platform_machine.specs.Step.{entries_at, with_frame};
+ghost use Rattle.platform_machine.specs.Transfer.{TransferRecord, IsUnderWay, document_in};
+
+use crate::step::Step;
+use bill_diary::{Frame, Record};
+use ebl_base::{ChainLink, Checksum, PlatformCode, Reference};
+use envelope_manifest::written_bodies_read_back;
+use transport_document::document_texts_read_back;
+
+/// What a sound diary judges, at a start and at a finish, is answered by a response that can be sealed.
+pub fn judgements_have_answers_that_can_be_sealed()
+    ensures start { (roster : RosterRecord) (keys : Keys) (me : PlatformCode) (diary : List Frame) (body : List ℕ)
+        → (s : ShownRecord) → IsSound me diary → Shows roster keys body s
+        → IsSealable (response_for (subject_of s.manifest) (judgement_at_start roster me diary s)) }
+    ensures finish { (roster : RosterRecord) (me : PlatformCode) (diary : List Frame) (reference : Reference)
+        → (b : BegunRecord) → IsSound me diary → IsLastBegun reference diary b
+        → IsSealable (response_for (subject_of b.manifest) (judgement_at_finish roster me diary b)) }
+{}
+
+/// The known chain of a bill has at most 64 entries in a sound diary, and still where one record more is written.
+pub fn known_chains_have_at_most_64_entries()
+    ensures now { (me : PlatformCode) (diary : List Frame) (bill : Checksum) → IsSound me diary
+        → entries_at (place_of (history bill diary)) ≤ 64 }
+    ensures then { (me : PlatformCode) (diary : List Frame) (bill : Checksum) (r : Record) → IsSound me diary
+        → entries_at (place_of (history bill (diary ++ One r ∷ []))) ≤ 64 }
+{}
+
+/// In a sound diary a bill that is parting has its transfer under way: its last Parted is of the entry, which moves
+/// possession to some platform. And its document is there.
+pub fn parting_bill_is_under_way()
+    ensures transfer { (me : PlatformCode) (diary : List Frame) (bill : Checksum) (known : List ChainLink)
+        → (entry : ChainLink) → IsSound me diary → place_of (history bill diary) ≡ Parting known entry
+        → (t : TransferRecord) × IsUnderWay bill (history bill diary) t }
+    ensures document { (me : PlatformCode) (diary : List Frame) (bill : Checksum) (known : List ChainLink)
+        → (entry : ChainLink) → IsSound me diary → place_of (history bill diary) ≡ Parting known entry
+        → (v : Value) × (document_in (history bill diary) ≡ Some v) }
+{
+    document_texts_read_back();
+}
+
+/// What the messages of other platforms write keeps a legal diary legal.
+pub fn messages_keep_a_diary_legal()
+    ensures start { (roster : RosterRecord) (keys : Keys) (me : PlatformCode) (diary : List Frame) (body : List ℕ)
+        → (step : Step) → IsLegal roster keys me diary → StepsAtStart roster keys me diary body step
+        → IsLegal roster keys me (with_frame diary step.frame) }
+    ensures put { (roster : RosterRecord) (keys : Keys) (me : PlatformCode) (diary : List Frame)
+        → (reference : Reference) (checksum : Checksum) (bytes : List ℕ) (step : Step)
+        → IsLegal roster keys me diary → StepsAtPut keys me diary reference checksum bytes step
+        → IsLegal roster keys me (with_frame diary step.frame) }
+    ensures finish { (roster : RosterRecord) (keys : Keys) (me : PlatformCode) (diary : List Frame)
+        → (reference : Reference) (step : Step) → IsLegal roster keys me diary
+        → StepsAtFinish roster keys me diary reference step
+        → IsLegal roster keys me (with_frame diary step.frame) }
+    ensures start_reply { (roster : RosterRecord) (keys : Keys) (me : PlatformCode) (diary : List Frame)
+        → (bill : Checksum) (bytes : List ℕ) (step : Step) → IsLegal roster keys me diary
+        → StepsAtStartReply keys diary bill bytes step → IsLegal roster keys me (with_frame diary step.frame) }
+    ensures finish_reply { (roster : RosterRecord) (keys : Keys) (me : PlatformCode) (diary : List Frame)
+        → (bill : Checksum) (bytes : List ℕ) (step : Step) → IsLegal roster keys me diary
+        → StepsAtFinishReply keys diary bill bytes step → IsLegal roster keys me (with_frame diary step.frame) }
+{
+    written_bodies_read_back();
+}
+
+/// What was taken here is a duplicate, at a start and at a finish: nothing is written, and DUPE is answered.
+pub fn taken_entry_is_answered_as_a_duplicate()
+    ensures start { (roster : RosterRecord) (keys : Keys) (me : PlatformCode) (diary : List Frame) (body : List ℕ)
+        → (s : ShownRecord) (step : Step) → Shows roster keys body s → destination s.chain ≡ Some me
+        → is_taken s.manifest.last (newest_first diary) ≡ true → IsJudged roster keys me diary s step
+        → (step.frame ≡ None) × IsAnswer keys me (response_for (subject_of s.manifest) Duplicate) step.reply }
+    ensures finish { (roster : RosterRecord) (keys : Keys) (me : PlatformCode) (diary : List Frame)
+        → (reference : Reference) (b : BegunRecord) (step : Step) → IsSound me diary
+        → IsLastBegun reference diary b → destination b.chain ≡ Some me
+        → is_taken b.manifest.last (newest_first diary) ≡ true → IsFinished roster keys me diary b step
+        → (step.frame ≡ None) × IsAnswer keys me (response_for (subject_of b.manifest) Duplicate) step.reply }
+{}
