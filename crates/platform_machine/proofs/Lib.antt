@@ -9,3 +9,6 @@ pub mod JudgedFrames
 pub mod StepFrames
 pub mod StepLaws
 pub mod DuplicateLemmas
+pub mod ExclusionLemmas
+pub mod CompleteLemmas
+pub mod OutcomeLemmas

@@ -6,3 +6,4 @@ pub mod Receiving
 pub mod Transfer
 pub mod Hearing
 pub mod Machine
+pub mod Complete

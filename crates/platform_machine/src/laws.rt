@@ -12,19 +12,23 @@ ghost use Rattle.bill_diary.specs.Place.{place_of};
 ghost use Rattle.bill_diary.specs.Receiving.{is_taken};
 ghost use Rattle.bill_diary.specs.Sound.{IsSound};
 ghost use Rattle.transfer_judge.specs.Legal.{IsLegal};
-ghost use Rattle.transfer_judge.specs.declared.judgement.Judgement.TheVariants.{Duplicate};
-ghost use Rattle.platform_machine.specs.Preface.{ShownRecord, Shows};
-ghost use Rattle.platform_machine.specs.Answer.{IsAnswer, subject_of};
-ghost use Rattle.platform_machine.specs.Judged.{response_for};
-ghost use Rattle.platform_machine.specs.Receiving.{BegunRecord, IsFinished, IsJudged, IsLastBegun, StepsAtFinish, StepsAtPut, StepsAtStart, judgement_at_finish, judgement_at_start};
+ghost use Rattle.transfer_judge.specs.declared.judgement.Judgement.TheVariants.{Accept, Duplicate};
+ghost use Rattle.platform_machine.specs.Preface.{IsRefused, ShownRecord, Shows};
+ghost use Rattle.platform_machine.specs.Complete.{HasNoObjection};
+ghost use Rattle.platform_machine.specs.Answer.{subject_of};
+ghost use Rattle.platform_machine.specs.Judged.{response_for, taken_with};
+ghost use Rattle.platform_machine.specs.Receiving.{BegunRecord, IsLastBegun, StepsAtFinish, StepsAtPut, StepsAtStart, judgement_at_finish, judgement_at_start, news_of};
 ghost use Rattle.platform_machine.specs.Hearing.{StepsAtFinishReply, StepsAtStartReply};
-ghost use Rattle.platform_machine.specs.Step.{entries_at, with_frame};
+ghost use Rattle.platform_machine.specs.Step.{Answers, entries_at, with_frame};
 ghost use Rattle.platform_machine.specs.Transfer.{TransferRecord, IsUnderWay, document_in};
 
+use crate::refusal::Refusal;
 use crate::step::Step;
 use bill_diary::{Frame, Record};
 use ebl_base::{ChainLink, Checksum, PlatformCode, Reference};
 use envelope_manifest::written_bodies_read_back;
+use signed_envelope::{refused_text_is_not_signed, signed_text_has_one_reading};
+use transfer_chain::{refused_texts_are_no_good_chain, refused_texts_have_one_refusal};
 use transport_document::document_texts_read_back;
 
 /// What a sound diary judges, at a start and at a finish, is answered by a response that can be sealed.
@@ -81,15 +85,50 @@ pub fn messages_keep_a_diary_legal()
     written_bodies_read_back();
 }
 
+/// A body shows one thing at most, or has one refusal at most, and never both: so what a start comes to is fixed, but
+/// for the signature.
+pub fn body_shows_one_thing_or_is_refused()
+    ensures shown { (roster : RosterRecord) (keys : Keys) (body : List ℕ) (a b : ShownRecord)
+        → Shows roster keys body a → Shows roster keys body b → a ≡ b }
+    ensures refused { (roster : RosterRecord) (keys : Keys) (body : List ℕ) (a b : Refusal)
+        → IsRefused roster keys body a → IsRefused roster keys body b → a ≡ b }
+    ensures never_both { (roster : RosterRecord) (keys : Keys) (body : List ℕ) (s : ShownRecord) (refusal : Refusal)
+        → Shows roster keys body s → IsRefused roster keys body refusal → ⊥ }
+{
+    signed_text_has_one_reading();
+    refused_text_is_not_signed();
+    refused_texts_are_no_good_chain();
+    refused_texts_have_one_refusal();
+}
+
 /// What was taken here is a duplicate, at a start and at a finish: nothing is written, and DUPE is answered.
 pub fn taken_entry_is_answered_as_a_duplicate()
     ensures start { (roster : RosterRecord) (keys : Keys) (me : PlatformCode) (diary : List Frame) (body : List ℕ)
         → (s : ShownRecord) (step : Step) → Shows roster keys body s → destination s.chain ≡ Some me
-        → is_taken s.manifest.last (newest_first diary) ≡ true → IsJudged roster keys me diary s step
-        → (step.frame ≡ None) × IsAnswer keys me (response_for (subject_of s.manifest) Duplicate) step.reply }
+        → is_taken s.manifest.last (newest_first diary) ≡ true → StepsAtStart roster keys me diary body step
+        → Answers keys me None (response_for (subject_of s.manifest) Duplicate) step }
     ensures finish { (roster : RosterRecord) (keys : Keys) (me : PlatformCode) (diary : List Frame)
         → (reference : Reference) (b : BegunRecord) (step : Step) → IsSound me diary
         → IsLastBegun reference diary b → destination b.chain ≡ Some me
-        → is_taken b.manifest.last (newest_first diary) ≡ true → IsFinished roster keys me diary b step
-        → (step.frame ≡ None) × IsAnswer keys me (response_for (subject_of b.manifest) Duplicate) step.reply }
-{}
+        → is_taken b.manifest.last (newest_first diary) ≡ true → StepsAtFinish roster keys me diary reference step
+        → Answers keys me None (response_for (subject_of b.manifest) Duplicate) step }
+{
+    body_shows_one_thing_or_is_refused();
+}
+
+/// What nothing speaks against is received, at a start and at a finish: a Taken is written, with the Begun where that is
+/// new, and RECE is answered.
+pub fn body_without_objection_is_received()
+    ensures start { (roster : RosterRecord) (keys : Keys) (me : PlatformCode) (diary : List Frame) (body : List ℕ)
+        → (s : ShownRecord) (step : Step) → Shows roster keys body s
+        → HasNoObjection roster me diary s.chain s.manifest → StepsAtStart roster keys me diary body step
+        → Answers keys me (Some (taken_with (news_of diary s) (subject_of s.manifest)))
+        (response_for (subject_of s.manifest) Accept) step }
+    ensures finish { (roster : RosterRecord) (keys : Keys) (me : PlatformCode) (diary : List Frame)
+        → (reference : Reference) (b : BegunRecord) (step : Step) → IsLastBegun reference diary b
+        → HasNoObjection roster me diary b.chain b.manifest → StepsAtFinish roster keys me diary reference step
+        → Answers keys me (Some (taken_with None (subject_of b.manifest)))
+        (response_for (subject_of b.manifest) Accept) step }
+{
+    body_shows_one_thing_or_is_refused();
+}

@@ -1,14 +1,12 @@
-use Rattle.platform_machine.proofs.DuplicateLemmas.{finish_of_taken, start_of_taken}
+use Rattle.platform_machine.proofs.OutcomeLemmas.{finish_of_taken, start_of_taken}
 use Rattle.platform_machine.proofs.laws.taken_entry_is_answered_as_a_duplicate.Goals as goal
 
 pub returns-clause-start : goal.returns-clause-start
 returns-clause-start c =
-    λ roster keys me diary body s step shows goes taken judged.
-    let so = start_of_taken roster keys me diary body s step shows goes taken judged in
-    (so.nothing_written, so.says)
+    λ roster keys me diary body s step shows goes taken steps.
+    start_of_taken roster keys me diary body s step
+    (c.body_shows_one_thing_or_is_refused.ensures.shown roster keys body)
+    (c.body_shows_one_thing_or_is_refused.ensures.never_both roster keys body) shows goes taken steps
 
 pub returns-clause-finish : goal.returns-clause-finish
-returns-clause-finish c =
-    λ roster keys me diary reference b step sound begun goes taken finished.
-    let so = finish_of_taken roster keys me diary reference b step sound begun goes taken finished in
-    (so.nothing_written, so.says)
+returns-clause-finish c = finish_of_taken
