@@ -32,7 +32,7 @@ use Rattle.platform_machine.specs.Receiving.{BegunRecord, IsLastBegun, judgement
 
 optional : (text : Option SignedText) → IfSome text IsCompactText → IsOptionalEvidence text
 optional None is = tt
-optional (Some text) is = (is.parts, is.compact)
+optional (Some text) is = is
 
 sealable_with : (s : Subject) (j : Judgement) → CanBeSealed j → IsSealable (response_for s j)
 sealable_with s judgements.Elsewhere fine = record { missing = omega arith; own = tt; theirs = tt }

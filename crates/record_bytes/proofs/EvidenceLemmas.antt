@@ -8,7 +8,7 @@ use Rattle.record_bytes.specs.Reading.{BeginsWithText, IsText, IsCompactOf, IsCo
 use Rattle.record_bytes.proofs.FieldLemmas.{same_text, same_front, same_whole}
 
 pub compact_short : (text : SignedText) → IsCompactText text → IsShort text.0
-compact_short text is = let fits = is.compact.fits in omega (arith, fits)
+compact_short text is = let fits = is.1.fits in omega (arith, fits)
 
 pub signed : List ℕ → SignedText
 signed bytes = record { 0 = bytes }
