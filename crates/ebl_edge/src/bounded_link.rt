@@ -87,13 +87,15 @@ impl Link for BoundedLink {
 
     fn put(&mut self, piece: &[u8]) -> Result<(), Failed>
         ensures ok { OnOk result (Appends (Some self.old.sink.written) (Some self.new.sink.written) piece.now) }
-        ensures failed { OnErr result (AppendsFirst (Some self.old.sink.written) (Some self.new.sink.written) piece.now) }
+        ensures failed { OnErr result (AppendsFirst (Some self.old.sink.written)
+            (Some self.new.sink.written) piece.now) }
         ensures left { Some self.new.left ≡ Some self.old.left }
         ensures cause { HasCause self.old.sink.faults self.new.sink.faults result }
         ensures fits { IsOk result ↔ (length self.old.sink.written + length piece.now ≤ self.old.sink.room) }
         ensures kept { OnErr result (self.new.sink.written ≡ self.old.sink.written) }
         ensures room { self.new.sink.room ≡ self.old.sink.room }
-        ensures counted { self.new.sink.faults ≡ (if is_err result then risen self.old.sink.faults else self.old.sink.faults) }
+        ensures counted { self.new.sink.faults ≡
+            (if is_err result then risen self.old.sink.faults else self.old.sink.faults) }
     {
         self.sink.put(piece)
     }

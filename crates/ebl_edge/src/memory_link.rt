@@ -47,7 +47,8 @@ impl MemoryLink {
     pub fn new(alloc: Global, bytes: ByteList, fails: CallList) -> Self
         ensures left { result.left ≡ bytes }
         ensures pieces { result.pieces ≡ [] }
-        ensures sink { result.sink ≡ record { written = []; tears = false; calls = record { fails = fails; number = 0; faults = 0 } } }
+        ensures sink { result.sink ≡ record { written = []; tears = false; calls = record { fails = fails; number = 0;
+            faults = 0 } } }
     {
         MemoryLink::over(bytes, PieceList::new(alloc), MemorySink::new(alloc, fails))
     }
@@ -57,17 +58,19 @@ impl MemoryLink {
     pub fn in_pieces(alloc: Global, bytes: ByteList, pieces: PieceList, fails: CallList) -> Self
         ensures left { result.left ≡ bytes }
         ensures pieces { result.pieces ≡ pieces }
-        ensures sink { result.sink ≡ record { written = []; tears = false; calls = record { fails = fails; number = 0; faults = 0 } } }
+        ensures sink { result.sink ≡ record { written = []; tears = false; calls = record { fails = fails; number = 0;
+            faults = 0 } } }
     {
         MemoryLink::over(bytes, pieces, MemorySink::new(alloc, fails))
     }
 
-    /// The same as [`MemoryLink::in_pieces`], but for a put whose number is listed: it writes the first half of its piece,
-    /// rounded down.
+    /// The same as [`MemoryLink::in_pieces`], but for a put whose number is listed: it writes the first half of its
+    /// piece, rounded down.
     pub fn tearing(alloc: Global, bytes: ByteList, pieces: PieceList, fails: CallList) -> Self
         ensures left { result.left ≡ bytes }
         ensures pieces { result.pieces ≡ pieces }
-        ensures sink { result.sink ≡ record { written = []; tears = true; calls = record { fails = fails; number = 0; faults = 0 } } }
+        ensures sink { result.sink ≡ record { written = []; tears = true; calls = record { fails = fails; number = 0;
+            faults = 0 } } }
     {
         MemoryLink::over(bytes, pieces, MemorySink::tearing(alloc, fails))
     }
@@ -135,7 +138,8 @@ impl Link for MemoryLink {
         ensures written { Some self.new.sink.written ≡ Some self.old.sink.written }
         ensures cause { HasCause self.old.sink.calls.faults self.new.sink.calls.faults result }
         // As much as there is and as the piece and the room allow.
-        ensures most { IfOk result (λ n. n ≡ min (length self.old.left) (piece_room self.old.pieces (length into.old))) }
+        ensures most { IfOk result (λ n. n ≡ min (length self.old.left) (piece_room self.old.pieces
+            (length into.old))) }
         ensures listed { IsErr result ↔ Contains self.old.sink.calls.fails self.old.sink.calls.number }
         ensures counted { self.new.sink.calls ≡ after_call (is_err result) self.old.sink.calls }
     {
@@ -148,11 +152,13 @@ impl Link for MemoryLink {
 
     fn put(&mut self, piece: &[u8]) -> Result<(), Failed>
         ensures ok { OnOk result (Appends (Some self.old.sink.written) (Some self.new.sink.written) piece.now) }
-        ensures failed { OnErr result (AppendsFirst (Some self.old.sink.written) (Some self.new.sink.written) piece.now) }
+        ensures failed { OnErr result (AppendsFirst (Some self.old.sink.written)
+            (Some self.new.sink.written) piece.now) }
         ensures left { Some self.new.left ≡ Some self.old.left }
         ensures cause { HasCause self.old.sink.calls.faults self.new.sink.calls.faults result }
         ensures listed { Contains self.old.sink.calls.fails self.old.sink.calls.number → IsErr result }
-        ensures unlisted { OnErr result (¬ Contains self.old.sink.calls.fails self.old.sink.calls.number → self.new.sink.written ≡ self.old.sink.written) }
+        ensures unlisted { OnErr result (¬ Contains self.old.sink.calls.fails self.old.sink.calls.number
+            → self.new.sink.written ≡ self.old.sink.written) }
         ensures whole { OnErr result (self.old.sink.tears ≡ false → self.new.sink.written ≡ self.old.sink.written) }
         ensures counted { self.new.sink.calls ≡ after_call (is_err result) self.old.sink.calls }
     {

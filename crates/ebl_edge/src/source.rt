@@ -17,8 +17,7 @@ pub trait Source {
     /// Hands out the next bytes, at the front of `into`, and answers how many: at most as many as `into` has room for.
     ///
     /// For an `into` that isn't empty, `Ok(0)` comes if and only if nothing is left. `Failed` hands out nothing, and
-    /// comes
-    /// only if the count of faults rose.
+    /// comes only if the count of faults rose.
     fn read(&mut self, into: &mut [u8]) -> Result<usize, Failed>
         ensures within { ReadsAtMost result into.new }
         ensures bytes { ReadConsumes (left self.old) (left self.new) result into.new }
