@@ -49,11 +49,3 @@ scan-within n m s [] h = grind arith
 scan-within n m s (x ∷ a) h =
     let rest : scan (n + 1) (step s x) a ≡ Ok m → m ≤ n + length (x ∷ a) = λ g. let i = scan-within (n + 1) m (step s x) a g in omega (arith, i) in
     on-within (n + 1) m (n + length (x ∷ a)) (step s x) _ (omega arith) rest h
-
-pub scan_on-other : (k : ℕ) (t : Scan) (r : Result ℕ Scan) → t ≢ End → scan_on k t r ≡ r
-scan_on-other k End r other = absurd (other refl)
-scan_on-other k Blank r other = refl
-scan_on-other k BlankReturn r other = refl
-scan_on-other k Text r other = refl
-scan_on-other k Start r other = refl
-scan_on-other k Return r other = refl

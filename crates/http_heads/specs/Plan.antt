@@ -39,7 +39,8 @@ IsHead piece h = ReadsRequest piece h [] × (length h.fields ≤ 64)
 
 -- what a piece up to its first empty line asks for: as its head says, or 400 where it is no head
 pub data IsPlan (piece : List ℕ) : Plan → Type 0 where
-  head : (h : RequestHead) → IsHead piece h → IsPlan piece (plan h.method h.target h.minor (map name_and_value h.fields))
+  head : (h : RequestHead) → IsHead piece h
+      → IsPlan piece (plan h.method h.target h.minor (map name_and_value h.fields))
   none : ((h : RequestHead) → IsHead piece h → ⊥) → IsPlan piece (Refuse BadRequest)
 
 -- a body that is awaited has at most 4,194,304 bytes

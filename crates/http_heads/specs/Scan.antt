@@ -1,4 +1,5 @@
--- Where the head of a request ends: behind the first empty line after a line that isn't empty. A line ends in LF; it is empty where nothing or one CR stands before that.
+-- Where the head of a request ends: behind the first empty line after a line that isn't empty. A line ends in LF; it is
+-- empty where nothing or one CR stands before that.
 use Rattle.std.specs.Prelude.{ℕ, ◌+◌, ◌==◌, List, [], ◌∷◌, take, if◌then◌else◌, Result, Ok, Err}
 use Rattle.http_heads.specs.declared.scan.Scan.{Scan}
 use Rattle.http_heads.specs.declared.scan.Scan.TheVariants.{Blank, BlankReturn, Text, Start, Return, End}

@@ -64,7 +64,8 @@ impl Plans {
 // The head that the whole piece is.
 fn whole_head(piece: &[u8], headers: &mut [HeaderSpan]) -> Option<RequestSpans>
     requires { length headers.old ≡ 64 }
-    ensures some { IfSome result (λ spans. (h : RequestHead) × IsHead piece.now h × IsRequestAt piece.now headers.new spans h) }
+    ensures some { IfSome result (λ spans. (h : RequestHead) × IsHead piece.now h
+        × IsRequestAt piece.now headers.new spans h) }
     ensures within { IfSome result (λ spans. IsRequestWithin piece.now headers.new spans) }
     ensures text { IfSome result (λ spans. IsUtf8 (span_bytes piece.now spans.path)) }
     ensures none { IfNone result ((h : RequestHead) → IsHead piece.now h → ⊥) }

@@ -64,7 +64,8 @@ impl Scan {
         }
     }
 
-    /// Goes over the bytes, `before` many behind the start. `Ok` is how many there are up to the end of the head, `Err` where the scan stands after all of them.
+    /// Goes over the bytes, `before` many behind the start. `Ok` is how many there are up to the end of the head, `Err`
+    /// where the scan stands after all of them.
     pub fn over(self, before: usize, bytes: &[u8]) -> Result<usize, Scan>
         requires { before + length bytes.now < 2 ^ 64 }
         ensures { result ≡ scan before self bytes.now }
