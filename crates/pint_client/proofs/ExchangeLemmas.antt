@@ -1,14 +1,14 @@
 -- One exchange: what was written, what was read, and what all the bytes say.
-use Rattle.std.proofs.Common.{◌≡◌, ℕ, ◌≤◌, List, [], ◌++◌, refl, ap, sym, ◌∙◌, subst, length, Option, Some, None, Result, append_assoc, append-nil, inl, inr}
-use Rattle.std.specs.Prelude.{◌≢◌, ◌⊎◌, Ok, Err, IfSome}
-use Rattle.std.specs.Io.KnownBytes.{Appends, Consumes, IsAtEnd}
+use Rattle.std.proofs.Common.{◌≡◌, ℕ, List, [], ◌++◌, refl, ap, sym, ◌∙◌, subst, Option, Some, None, Result, append_assoc, append-nil, inl, inr}
+use Rattle.std.specs.Prelude.{◌≢◌, Ok, Err, IfSome}
+use Rattle.std.specs.Io.KnownBytes.{Appends, Consumes}
 use Rattle.std.proofs.KnownBytes.{Appends-trans, Consumes-nil}
 use Rattle.ebl_edge.specs.Sink.{AppendsFirst}
 use Rattle.pint_client.specs.declared.client_fault.ClientFault.{ClientFault}
 use Rattle.pint_client.specs.declared.client_fault.ClientFault.TheVariants.{Fault, BadReply, NoMemory}
 use Rattle.pint_client.specs.declared.incoming.Incoming.{Incoming}
 use Rattle.pint_client.specs.declared.head_scan.HeadScan.TheVariants.{Blank}
-use Rattle.pint_client.specs.Reply.{IsReply, HasNoReply, NeverHasReply}
+use Rattle.pint_client.specs.Reply.{IsReply}
 use Rattle.pint_client.specs.Exchange.{Decides, IsAnswerTo, ReadsReply, Wrote}
 use Rattle.httparse.proofs.GrammarLemmas.{ReadsResponse-append}
 use Rattle.pint_client.proofs.ReceiveLemmas.{no_reply}

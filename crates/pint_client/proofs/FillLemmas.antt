@@ -1,5 +1,5 @@
 -- A buffer whose front was read, after one read more.
-use Rattle.std.proofs.Common.{◌≡◌, ℕ, ◌+◌, ◌-◌, ◌≤◌, List, [], ◌++◌, refl, ap, sym, ◌∙◌, subst, length, take, drop, slice_range, Option, Result, arith, length-append, length-take, length-drop, length-take-le, drop_at, append-nil}
+use Rattle.std.proofs.Common.{◌≡◌, ℕ, ◌+◌, ◌-◌, ◌≤◌, List, [], ◌++◌, ap, sym, ◌∙◌, subst, length, take, drop, slice_range, Option, Result, arith, length-append, length-take, length-drop, length-take-le, drop_at, append-nil}
 use Rattle.std.specs.Prelude.{min, Ok, Err, OnOk}
 use Rattle.std.specs.Io.KnownBytes.{Consumes}
 use Rattle.std.proofs.KnownBytes.{Consumes-trans}

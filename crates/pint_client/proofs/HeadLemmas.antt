@@ -1,14 +1,14 @@
 -- The scan finds the end of each head of the grammar.
-use Rattle.std.proofs.Common.{◌≡◌, ℕ, suc, zero, ◌+◌, ◌≤◌, ◌<◌, Bool, true, false, List, [], ◌∷◌, ◌++◌, Option, Some, None, refl, ap, sym, ◌∙◌, subst, length, arith, append_assoc, length-append}
-use Rattle.std.specs.Prelude.{◌≢◌, ◌⊎◌, Result, Ok, Err, IsTrue, All, codes, if◌then◌else◌, ◌==◌}
+use Rattle.std.proofs.Common.{◌≡◌, ℕ, suc, zero, ◌+◌, ◌≤◌, Bool, List, [], ◌∷◌, ◌++◌, Option, Some, None, refl, ap, sym, ◌∙◌, subst, length, arith, append_assoc, length-append}
+use Rattle.std.specs.Prelude.{◌≢◌, Ok, Err, IsTrue, All, codes}
 use Rattle.std.specs.List.{flat_map}
 use Rattle.std.specs.Char.{is_ascii_digit}
 use Rattle.std.proofs.lemmas.Bool.{ne_eqb}
-use Rattle.httparse.specs.Ascii.{space, colon, line_feed, carriage_return, crlf_bytes, digit_zero}
-use Rattle.httparse.specs.Grammar.{AllPass, is_token_byte, is_value_byte, IsToken, LineEnd, crlf, lf, print_end, print_blank, print_version, Field, print_field, IsField, print_section, ResponseHead, print_reason, reason_phrase, print_response, IsResponseHead, ReadsResponse}
+use Rattle.httparse.specs.Ascii.{space, colon, digit_zero}
+use Rattle.httparse.specs.Grammar.{AllPass, is_token_byte, is_value_byte, IsToken, LineEnd, crlf, lf, print_end, print_blank, print_version, Field, print_field, IsField, ResponseHead, print_reason, reason_phrase, print_response, IsResponseHead, ReadsResponse}
 use Rattle.pint_client.specs.declared.head_scan.HeadScan.{HeadScan}
-use Rattle.pint_client.specs.declared.head_scan.HeadScan.TheVariants.{Blank, BlankReturn, Text, Start, Return, End}
-use Rattle.pint_client.specs.HeadScan.{step, scan, scan_on}
+use Rattle.pint_client.specs.declared.head_scan.HeadScan.TheVariants.{Blank, Text, Start}
+use Rattle.pint_client.specs.HeadScan.{step, scan}
 use Rattle.pint_client.proofs.ScanLemmas.{scan-found, scan-goes_on}
 
 -- over these bytes the scan comes from `s` to `t`, without an end

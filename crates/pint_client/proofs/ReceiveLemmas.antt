@@ -1,5 +1,5 @@
 -- What was read, and what the answer is.
-use Rattle.std.proofs.Common.{◌≡◌, ℕ, zero, suc, ◌+◌, ◌-◌, ◌≤◌, ◌<◌, List, [], ◌∷◌, ◌++◌, refl, ap, sym, ◌∙◌, subst, length, take, drop, Option, Some, None, Result, arith, inl, inr, append_assoc, append-nil, length-append, length-take, length-drop, length-take-le, take-append-drop}
+use Rattle.std.proofs.Common.{◌≡◌, ℕ, zero, suc, ◌+◌, ◌-◌, ◌≤◌, ◌<◌, List, [], ◌∷◌, ◌++◌, refl, ap, sym, ◌∙◌, subst, length, take, drop, Option, Some, Result, arith, inl, inr, append_assoc, append-nil, length-append, length-take, length-take-le, take-append-drop}
 use Rattle.std.specs.Prelude.{◌⊎◌, Ok, Err, slice_range}
 use Rattle.std.specs.Io.KnownBytes.{Consumes, Keeps, IsAtEnd}
 use Rattle.std.proofs.KnownBytes.{Consumes-trans, Consumes-kept}

@@ -1,6 +1,6 @@
 -- A scan that goes on, and the scan of a whole head.
-use Rattle.std.proofs.Common.{◌≡◌, ℕ, ◌+◌, ◌≤◌, List, [], ◌∷◌, ◌++◌, refl, ap, sym, ◌∙◌, length, arith}
-use Rattle.std.specs.Prelude.{◌≢◌, ◌<◌, Result, Ok, Err}
+use Rattle.std.proofs.Common.{◌≡◌, ℕ, ◌+◌, ◌≤◌, List, [], ◌∷◌, ◌++◌, refl, sym, length, arith}
+use Rattle.std.specs.Prelude.{◌<◌, Result, Ok, Err}
 use Rattle.pint_client.specs.declared.head_scan.HeadScan.{HeadScan}
 use Rattle.pint_client.specs.declared.head_scan.HeadScan.TheVariants.{Blank, BlankReturn, Text, Start, Return, End}
 use Rattle.pint_client.specs.HeadScan.{step, scan, scan_on}
@@ -65,11 +65,3 @@ scan-past n m s [] h = grind arith
 scan-past n m s (x ∷ a) h =
     let rest : scan (n + 1) (step s x) a ≡ Ok m → n < m = λ g. let i = scan-past (n + 1) m (step s x) a g in omega (arith, i) in
     on-past (n + 1) m n (step s x) _ (omega arith) rest h
-
-pub scan_on-other : (k : ℕ) (t : HeadScan) (r : Result ℕ HeadScan) → t ≢ End → scan_on k t r ≡ r
-scan_on-other k End r other = absurd (other refl)
-scan_on-other k Blank r other = refl
-scan_on-other k BlankReturn r other = refl
-scan_on-other k Text r other = refl
-scan_on-other k Start r other = refl
-scan_on-other k Return r other = refl

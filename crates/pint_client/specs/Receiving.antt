@@ -2,7 +2,7 @@
 use Rattle.std.specs.Prelude.{◌≡◌, ◌≢◌, ℕ, ◌<◌, ◌≤◌, List, ◌++◌, length, take, Option, Ok}
 use Rattle.std.specs.Io.KnownBytes.{Consumes, IsAtEnd}
 use Rattle.pint_client.specs.declared.client_fault.ClientFault.{ClientFault}
-use Rattle.pint_client.specs.declared.client_fault.ClientFault.TheVariants.{Fault, BadReply, NoMemory}
+use Rattle.pint_client.specs.declared.client_fault.ClientFault.TheVariants.{BadReply, NoMemory}
 use Rattle.pint_client.specs.declared.head_scan.HeadScan.TheVariants.{Blank}
 use Rattle.pint_client.specs.HeadScan.{scan}
 

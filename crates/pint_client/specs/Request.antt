@@ -1,7 +1,6 @@
 -- The one request that carries a message to another platform: its head (RFC 9112, sections 3 and 5) and its body.
 use Rattle.std.specs.Prelude.{ℕ, List, [], ◌++◌, codes, decimal, length}
 use Rattle.document_checksum.specs.Text.{checksum_text}
-use Rattle.ebl_base.specs.declared.checksum.Checksum.{Checksum}
 use Rattle.ebl_base.specs.declared.reference.Reference.{Reference}
 use Rattle.platform_requests.specs.declared.message.Message.{Message}
 use Rattle.platform_requests.specs.declared.message.Message.TheVariants.{Start, Put, Finish}

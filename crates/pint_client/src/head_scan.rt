@@ -36,8 +36,8 @@ impl HeadScan {
         }
     }
 
-    /// Goes on over the bytes, behind `before` others. `Ok` is how many bytes there are up to the end of the head, `Err`
-    /// how far the scan has come after all of them.
+    /// Goes on over the bytes, behind `before` others. `Ok` is how many bytes there are up to the end of the head,
+    /// `Err` how far the scan has come after all of them.
     pub fn over(self, before: usize, bytes: &[u8]) -> Result<usize, HeadScan>
         requires { before + length bytes.now < 2 ^ 64 }
         ensures { result ≡ scan before self bytes.now }

@@ -125,7 +125,8 @@ fn read_body<L: Link>(
 // Fills the body with the bytes that came behind the head, and with what is read.
 fn fill_behind<L: Link>(link: &mut L, behind: &[u8], body: &mut [u8]) -> Result<(), ClientFault>
     ensures ok { OnOk result (HoldsBody body.new behind.now (length body.old) (L.left link.old) (L.left link.new)) }
-    ensures err { IfErr result (λ e. LacksBytes e (length body.old - length behind.now) (L.left link.old) (L.left link.new)) }
+    ensures err { IfErr result (λ e. LacksBytes e (length body.old - length behind.now)
+        (L.left link.old) (L.left link.new)) }
     ensures fault { IsErrOf result ClientFault.Fault → Rose (L.faults link.old) (L.faults link.new) }
     ensures later { L.faults link.old ≤ L.faults link.new }
     ensures written { L.written link.new ≡ L.written link.old }

@@ -282,7 +282,7 @@ fn each_call_of_the_link_failed(rt: HostRuntime) -> Result<(), Fail> {
         assert_eq!(rt; link.faults(), if last { 0 } else { 1 });
         let sent = match call {
             0 => 0,
-            1 => whole.len() - 3,
+            1 => whole.len().saturating_sub(3),
             _ => whole.len(),
         };
         assert_eq!(rt; link.written().len(), sent);

@@ -1,4 +1,4 @@
-use Rattle.std.proofs.Common.{◌≡◌, ◌+◌, ◌≤◌, ◌∙◌, sym, length, take, arith, length-take}
+use Rattle.std.proofs.Common.{◌+◌, ◌≤◌, ◌∙◌, sym, length, take, arith, length-take}
 use Rattle.pint_client.proofs.FillLemmas.{Consumes-filled, length-put_mid, length-room, scan-filled}
 use Rattle.pint_client.proofs.ReceiveLemmas.{ended, failed, overlong, head_in_front}
 use Rattle.pint_client.proofs.receiving.await_head.Goals as goal

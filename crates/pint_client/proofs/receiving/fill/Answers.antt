@@ -1,4 +1,4 @@
-use Rattle.std.proofs.Common.{◌≡◌, ◌≤◌, ◌∙◌, length, arith}
+use Rattle.std.proofs.Common.{◌∙◌, arith}
 use Rattle.pint_client.proofs.FillLemmas.{Consumes-filled, length-put_mid, length-room}
 use Rattle.pint_client.proofs.receiving.fill.Goals as goal
 

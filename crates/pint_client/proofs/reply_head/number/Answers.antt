@@ -1,4 +1,4 @@
-use Rattle.std.proofs.Common.{◌≡◌, arith, sym, ◌∙◌}
+use Rattle.std.proofs.Common.{arith}
 use Rattle.pint_client.proofs.NumberLemmas.{next_digit}
 use Rattle.pint_client.proofs.reply_head.number.Goals as goal
 

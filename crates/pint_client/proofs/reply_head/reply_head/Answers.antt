@@ -1,4 +1,4 @@
-use Rattle.std.proofs.Common.{◌≡◌, Some, sym, ◌∙◌, arith}
+use Rattle.std.proofs.Common.{arith}
 use Rattle.pint_client.proofs.ReplyLemmas.{stated_by_parts, none_is_some, one_some}
 use Rattle.pint_client.proofs.reply_head.reply_head.Goals as goal
 

@@ -1,4 +1,4 @@
-use Rattle.pint_client.proofs.ExchangeLemmas.{both_wrote, only_head, head_part, body_part}
+use Rattle.pint_client.proofs.ExchangeLemmas.{both_wrote, head_part, body_part}
 use Rattle.pint_client.proofs.request.put_both.Goals as goal
 
 pub returns-in-Err-clause-err : goal.returns-in-Err-clause-err
