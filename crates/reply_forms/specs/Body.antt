@@ -67,7 +67,8 @@ said (Some v) = bodies.Json (canon v)
 
 abbrev pub body_of : Reply → ReplyBody
 body_of (Done v) = bodies.Json (canon (view_value v))
-body_of (Started reference missing) = bodies.Json (canon (started_value (record { reference = reference; missing = missing })))
+body_of (Started reference missing) = bodies.Json (canon (started_value
+    (record { reference = reference; missing = missing })))
 body_of Stored = bodies.Nothing
 body_of (Answer response signed) = bodies.Signed signed
 body_of UnknownReference = bodies.Nothing
