@@ -24,9 +24,6 @@ use Rattle.http_requests.specs.declared.front.Front.TheVariants.{Whole}
 use Rattle.http_requests.specs.declared.end.LinkEnd.{LinkEnd}
 use Rattle.http_requests.specs.declared.end.LinkEnd.TheVariants.{Closed, Cut, ReadFault, WriteFault, Limit, NoMemory}
 
-pub Fills-nothing : (a : Option (List ℕ)) (x : List ℕ) → Fills a a x x
-Fills-nothing a x = record { piece = []; consumed = Consumes-nil a; added = sym (append-nil x) }
-
 regroup : (x y z p q : List ℕ) → y ≡ x ++ p → z ≡ y ++ q → z ≡ x ++ (p ++ q)
 regroup x y z p q first second = second ∙ ap (λ l. l ++ q) first ∙ append_assoc x p q
 
@@ -104,9 +101,6 @@ head_end-all b s few h =
 pub short_without_head : (b : List ℕ) (s : Scan) → head_end b ≡ Err s → length b < 16384 → IsNext b short
 short_without_head b s ends few = rw (ends) (rw (lt-leb 16384 (length b) few) refl)
 
-pub refused_without_head : (b : List ℕ) (s : Scan) → head_end b ≡ Err s → 16384 ≤ length b → IsNext b (refused BadRequest)
-refused_without_head b s ends many = rw (ends) (rw (le-leb 16384 (length b) many) refl)
-
 -- with a head the body decides
 pub short_without_body : (b : List ℕ) (len n : ℕ) (route : Route) (keeps : Bool) → head_end b ≡ Ok len → IsPlan (take len b) (Await route n keeps)
     → len ≤ length b → length b < len + n → IsNext b short
@@ -163,10 +157,6 @@ pub whole_in_buffer : (b now piece : List ℕ) (len n : ℕ) (route : Route) (ke
 whole_in_buffer b now piece len n route keeps found added enough =
     let f = IsFound-more b now piece len (Await route n keeps) found added in
     whole_with_body now len n route keeps f.ends f.plan enough
-
--- a plan that refuses
-pub refused_by_plan : (b : List ℕ) (len : ℕ) (s : Status) → IsFound b len (Refuse s) → IsNext b (refused s)
-refused_by_plan b len s found = let e = found.ends in rw e (Refuse s, found.plan, refl)
 
 -- the input ends, or a read fails, before a head
 pub stops_in_head : (e : LinkEnd) (b : List ℕ) (s : Scan) (left : Option (List ℕ)) → head_end b ≡ Err s → length b < 16384

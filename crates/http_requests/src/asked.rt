@@ -110,7 +110,8 @@ fn commanded(alloc: Global, party: Party, json: &Json) -> Result<Option<Asked>, 
     requires lawful { IsLawful (view json.now) }
     requires texts { HasTexts (view json.now) }
     requires nests { depth (view json.now) ≤ 127 }
-    ensures value { IfOk result (λ asked. option_map asked_view asked ≡ commanded (Some party) (command_of (view json.now))) }
+    ensures value { IfOk result (λ asked. option_map asked_view asked ≡ commanded (Some party) (command_of
+        (view json.now))) }
     ensures may { IfOk result (λ asked. IfSome asked MayBeAsked) }
 {
     match Command::read(alloc, json) {

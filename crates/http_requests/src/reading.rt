@@ -17,7 +17,8 @@ fn read_more<L: Link>(link: &mut L, buffer: &mut Vec<u8>) -> Result<bool, LinkEn
     ensures filled { OnOk result (Fills (L.left link.old) (L.left link.new) buffer.old.items buffer.new.items) }
     ensures read { IfErr result (λ e. Read e (L.left link.old) (L.left link.new) buffer.old.items buffer.new.items) }
     ensures more { IfOk result (λ more. IsTrue more → length buffer.old.items < length buffer.new.items) }
-    ensures end { IfOk result (λ more. IsFalse more → (buffer.new.items ≡ buffer.old.items) × IsAtEnd (L.left link.new)) }
+    ensures end { IfOk result (λ more. IsFalse more
+        → (buffer.new.items ≡ buffer.old.items) × IsAtEnd (L.left link.new)) }
     ensures kept { OnErr result (buffer.new.items ≡ buffer.old.items) }
     ensures err { IfErr result (λ e. (e ≡ LinkEnd.ReadFault) ⊎ (e ≡ LinkEnd.NoMemory)) }
     ensures fault { IsErrOf result LinkEnd.ReadFault → Rose (L.faults link.old) (L.faults link.new) }
@@ -38,7 +39,8 @@ fn read_more<L: Link>(link: &mut L, buffer: &mut Vec<u8>) -> Result<bool, LinkEn
     }
 }
 
-// Reads until the head of a request stands in the buffer: its length, or `None` where it is none within the most bytes of a head.
+// Reads until the head of a request stands in the buffer: its length, or `None` where it is none within the most bytes
+// of a head.
 fn await_head<L: Link>(link: &mut L, buffer: &mut Vec<u8>) -> Result<Option<usize>, LinkEnd>
     ensures filled { OnOk result (Fills (L.left link.old) (L.left link.new) buffer.old.items buffer.new.items) }
     ensures read { IfErr result (λ e. Read e (L.left link.old) (L.left link.new) buffer.old.items buffer.new.items) }
