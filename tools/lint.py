@@ -124,6 +124,7 @@ def uncited(texts):
 
 PLACEHOLDER = re.compile(r"[*<>=$]|\.\.|\bNAME\b|\bFILE\b|\bFOLDER\b|\bDIR\b")
 PARTY = re.compile(r"[A-Z0-9]{4}/[A-Z0-9_-]+")
+MEDIA = re.compile(r"(?:application|text|HTTP)/[\w.+-]+")
 PATH = re.compile(r"[\w.-]+(?:/[\w.-]+)+/?|[\w-]+\.(?:rt|antt|md|py|sh|c|edit|jsonl|out|txt)")
 DOTTED = re.compile(r"Rattle\.(\w+)\.(specs|proofs)\.(\w+)")
 IDENTIFIER = re.compile(r"[a-z][a-z0-9]*(?:_[a-z0-9]+)+|[A-Z][a-z0-9]+(?:[A-Z][a-z0-9]+)+")
@@ -170,7 +171,7 @@ def missing_in(page, quoted, paths, known):
             yield quoted
     else:
         for word in (it.strip("(),;").rstrip("/") for it in quoted.split()):
-            is_path = PATH.fullmatch(word) and not PARTY.fullmatch(word) and "out" not in word.split("/")
+            is_path = PATH.fullmatch(word) and not PARTY.fullmatch(word) and not MEDIA.fullmatch(word) and "out" not in word.split("/")
             if is_path and not is_there(page, word, paths):
                 yield word
 
