@@ -25,4 +25,4 @@ pub use plan_laws::{
     planned_record_may_follow,
 };
 pub use planned::{PlanRefusal, Planned};
-pub use planning::plan;
+pub use planning::{has_attempts, plan};

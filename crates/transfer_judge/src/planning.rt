@@ -1,5 +1,5 @@
 //! Planning: what a party's command comes to, by a diary.
-ghost use Rattle.std.specs.Prelude.{◌≡◌, ◌+◌, ◌≤◌, ◌<◌, IfOk, IfErr, Ok, count_by, length, nat_le};
+ghost use Rattle.std.specs.Prelude.{◌≡◌, ◌+◌, ◌≤◌, ◌<◌, IsTrue, IfOk, IfErr, Ok, count_by, length, nat_le};
 ghost use Rattle.canonical_json.specs.View.{view};
 ghost use Rattle.envelope_manifest.specs.Manifest.{total_size};
 ghost use Rattle.bill_chain.specs.Chain.{last_name};
@@ -26,12 +26,23 @@ use std::alloc::Global;
 use title_fold::{FoldRefusal, Title, apply, moves, possessor};
 use transport_document::{Document, DocumentFault};
 
+/// Whether one attempt more can be counted, where a command may make one: what [`plan`] needs. It goes over the diary
+/// once.
+pub fn has_attempts(d: &Diary, command: &Command) -> bool
+    ensures { IsTrue result → HasAttempts (command_view command.now) (newest_first d.now) }
+{
+    match command {
+        Command::Act { bill, .. } => count_parted(d, *bill) < u32::MAX as usize,
+        Command::Sign { .. } | Command::Attach { .. } => true,
+    }
+}
+
 /// What a party's command comes to at a moment, by the platform's diary: the first of the refusals of [`PlanRefusal`]
 /// that applies, in their order; or one record, an entry that moves the bill to another platform, or nothing.
 ///
 /// `me` is the platform. A SIGN adds a Signed, any other transaction that stays here an Acted, an attachment an
 /// Attached; one whose bytes are listed for the bill already comes to nothing. A transaction on a bill needs that it
-/// was parted fewer than 4,294,967,295 times.
+/// was parted fewer than 4,294,967,295 times ([`has_attempts`]).
 ///
 /// It finds the bill's place once, which copies the known chain ([`place`]), and folds the bill's transactions once,
 /// from the first on. The bytes of an attachment are hashed once, and copied where they are added.

@@ -3,7 +3,7 @@ use super::acts::{
     Act, DOCUMENT, NARROW, NO_DOCUMENT, WIDE, acts_here, attaches, attachment, bill, command,
     document, held_here, moment, parts, party, piece, received, regains, roster, settles,
 };
-use crate::{PlanRefusal, Planned, plan};
+use crate::{PlanRefusal, Planned, has_attempts, plan};
 use bill_diary::Diary;
 use document_checksum::checksum;
 use ebl_base::{Checksum, Copied, Entry, Items, Kind, LimitKind, PlaceTag, PlatformCode};
@@ -73,6 +73,9 @@ fn outcome(
     let (me, listed) = at;
     let roster = roster(alloc, listed)?;
     let (me, by, now) = (platform(me)?, party(by)?, moment()?);
+    if !has_attempts(diary, command) {
+        return Err("too many attempts".into());
+    }
     Ok(plan(alloc, diary, &roster, me, by, command, now))
 }
 
