@@ -47,8 +47,15 @@ impl MemoryLink {
     pub fn new(alloc: Global, bytes: ByteList, fails: CallList) -> Self
         ensures left { result.left ≡ bytes }
         ensures pieces { result.pieces ≡ [] }
-        ensures sink { result.sink ≡ record { written = []; tears = false; calls = record { fails = fails; number = 0;
-            faults = 0 } } }
+        ensures sink { result.sink ≡ record {
+          written = [];
+          tears = false;
+          calls = record {
+            fails = fails;
+            number = 0;
+            faults = 0;
+          };
+        } }
     {
         MemoryLink::over(bytes, PieceList::new(alloc), MemorySink::new(alloc, fails))
     }
@@ -58,8 +65,15 @@ impl MemoryLink {
     pub fn in_pieces(alloc: Global, bytes: ByteList, pieces: PieceList, fails: CallList) -> Self
         ensures left { result.left ≡ bytes }
         ensures pieces { result.pieces ≡ pieces }
-        ensures sink { result.sink ≡ record { written = []; tears = false; calls = record { fails = fails; number = 0;
-            faults = 0 } } }
+        ensures sink { result.sink ≡ record {
+          written = [];
+          tears = false;
+          calls = record {
+            fails = fails;
+            number = 0;
+            faults = 0;
+          };
+        } }
     {
         MemoryLink::over(bytes, pieces, MemorySink::new(alloc, fails))
     }
@@ -69,8 +83,15 @@ impl MemoryLink {
     pub fn tearing(alloc: Global, bytes: ByteList, pieces: PieceList, fails: CallList) -> Self
         ensures left { result.left ≡ bytes }
         ensures pieces { result.pieces ≡ pieces }
-        ensures sink { result.sink ≡ record { written = []; tears = true; calls = record { fails = fails; number = 0;
-            faults = 0 } } }
+        ensures sink { result.sink ≡ record {
+          written = [];
+          tears = true;
+          calls = record {
+            fails = fails;
+            number = 0;
+            faults = 0;
+          };
+        } }
     {
         MemoryLink::over(bytes, pieces, MemorySink::tearing(alloc, fails))
     }

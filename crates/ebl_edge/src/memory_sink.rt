@@ -30,8 +30,16 @@ impl Model for MemorySink {
 impl MemorySink {
     /// An empty sink whose calls of these numbers fail and write nothing.
     pub fn new(alloc: Global, fails: CallList) -> Self
-        ensures { result ≡ record { written = []; tears = false; calls = record { fails = fails; number = 0; faults =
-            0 } } }
+        ensures { result ≡ record {
+          written = [];
+          tears = false;
+          calls = record {
+            fails = fails;
+            number = 0;
+            faults =
+                0;
+          };
+        } }
     {
         MemorySink {
             bytes: ByteList::new(alloc),
@@ -42,8 +50,15 @@ impl MemorySink {
 
     /// An empty sink whose calls of these numbers fail and write the first half of the piece, rounded down.
     pub fn tearing(alloc: Global, fails: CallList) -> Self
-        ensures { result ≡ record { written = []; tears = true; calls = record { fails = fails; number = 0; faults = 0
-            } } }
+        ensures { result ≡ record {
+          written = [];
+          tears = true;
+          calls = record {
+            fails = fails;
+            number = 0;
+            faults = 0;
+          };
+        } }
     {
         MemorySink {
             bytes: ByteList::new(alloc),
@@ -105,16 +120,24 @@ impl MemorySink {
     // Counts a call of the link that the sink is part of, and answers whether it is to fail.
     pub(crate) fn next_call_fails(&mut self) -> bool
         ensures listed { IsTrue result ↔ Contains self.old.calls.fails self.old.calls.number }
-        ensures counted { self.new ≡ record self.old { calls = record self.old.calls { number = risen
-            self.old.calls.number } } }
+        ensures counted { self.new ≡ record self.old {
+          calls = record self.old.calls {
+            number = risen
+                self.old.calls.number;
+          };
+        } }
     {
         self.calls.next_fails()
     }
 
     // Counts a fault and answers it.
     pub(crate) fn fail(&mut self) -> Failed
-        ensures counted { self.new ≡ record self.old { calls = record self.old.calls { faults = risen
-            self.old.calls.faults } } }
+        ensures counted { self.new ≡ record self.old {
+          calls = record self.old.calls {
+            faults = risen
+                self.old.calls.faults;
+          };
+        } }
         ensures later { self.old.calls.faults ≤ self.new.calls.faults }
     {
         self.calls.fail()

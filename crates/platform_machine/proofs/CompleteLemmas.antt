@@ -48,12 +48,12 @@ is_accepted roster me diary chain manifest free =
     let platform : receiver.platform ≡ me =
     here_on me (title_after_chain chain) receiver free.ends_here free.receiver_is in
     let first : judgement_by roster me all chain manifest
-        ≡ on_receiver_here me (receiver_of chain) (λ (party : Party). judgement_here roster bill all last.name party chain manifest) =
+    ≡ on_receiver_here me (receiver_of chain) (λ (party : Party). judgement_here roster bill all last.name party chain manifest) =
     ap (λ (o : Option ChainLink). on_last o (λ (l : ChainLink). judgement_of roster me l.entry.bill all chain manifest)) free.last_is
     ∙ ap (λ (o : Option ChainLink). on_last o (λ (l : ChainLink).
     on_receiver_here me (receiver_of chain) (λ (party : Party). judgement_here roster bill all l.name party chain manifest))) free.last_is in
     let second : on_receiver_here me (receiver_of chain) (λ (party : Party). judgement_here roster bill all last.name party chain manifest)
-        ≡ judgement_here roster bill all last.name receiver chain manifest =
+    ≡ judgement_here roster bill all last.name receiver chain manifest =
     ap (λ (o : Option Party). on_receiver_here me o (λ (party : Party). judgement_here roster bill all last.name party chain manifest)) free.receiver_is
     ∙ ap (λ (b : Bool). cond b (judgement_here roster bill all last.name receiver chain manifest) judgements.Elsewhere)
     ((code_eq-Decides receiver.platform me).1 platform) in

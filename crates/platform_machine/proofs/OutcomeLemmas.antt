@@ -106,7 +106,7 @@ finished_so roster keys me diary reference b step is (inl (unknown, only)) =
     cc both
 finished_so roster keys me diary reference b step is (inr (other, also, finished)) =
     let both : Some (records.Begun other.bill other.chain other.manifest other.body)
-        ≡ Some (records.Begun b.bill b.chain b.manifest b.body) = sym also ∙ is in
+    ≡ Some (records.Begun b.bill b.chain b.manifest b.body) = sym also ∙ is in
     let same : other ≡ b = same_begun other b (cc both) in
     subst (λ (x : BegunRecord). IsFinished roster keys me diary x step) same finished
 

@@ -39,7 +39,7 @@ pub fn entries_of_good_chain_hand_over()
         (front : List ChainLink) (a : ChainLink) (rest : List ChainLink)
         → IsGoodChain roster keys document texts (front ++ a ∷ rest)
         → (value : Value) × IsSigned keys MAX_SIGNED_TEXT a.text.0 a.entry.platform value
-            × (entry_of value ≡ Ok a.entry) }
+        × (entry_of value ≡ Ok a.entry) }
     ensures moves { (roster : RosterRecord) (keys : Keys) (document : DocumentRecord) (texts : List SignedText)
         (front : List ChainLink) (a : ChainLink) (rest : List ChainLink)
         → IsGoodChain roster keys document texts (front ++ a ∷ rest)
