@@ -1,27 +1,23 @@
 -- What nothing speaks against is received.
-use Rattle.std.proofs.Common.{◌≡◌, ℕ, Bool, true, false, cond, List, [], Option, Some, None, Ok, Err, refl, ap, sym, subst, ◌∙◌}
-use Rattle.ebl_base.specs.PlatformCode.{code_eq}
+use Rattle.std.proofs.Common.{◌≡◌, Bool, cond, List, Option, Some, None, Ok, Err, ap, sym, ◌∙◌}
 use Rattle.ebl_base.specs.declared.chain.ChainLink.{ChainLink}
-use Rattle.ebl_base.specs.declared.checksum.Checksum.{Checksum}
-use Rattle.ebl_base.specs.declared.evidence.Evidence.{Evidence}
 use Rattle.ebl_base.specs.declared.party.Party.{Party}
 use Rattle.ebl_base.specs.declared.platform_code.PlatformCode.{PlatformCode}
 use Rattle.ebl_base.proofs.SameLemmas.{code_eq-Decides}
-use Rattle.signed_envelope.specs.KeyRing.{Keys}
 use Rattle.envelope_manifest.specs.declared.manifest.Manifest.{Manifest}
-use Rattle.party_roster.specs.RosterRecord.{RosterRecord, knows}
+use Rattle.party_roster.specs.RosterRecord.{RosterRecord}
 use Rattle.title_fold.specs.Title.{possessor}
 use Rattle.title_fold.specs.Fold.{Folded}
-use Rattle.bill_chain.specs.Chain.{destination, last_of, platform_with, title_after_chain}
+use Rattle.bill_chain.specs.Chain.{platform_with, title_after_chain}
 use Rattle.bill_diary.specs.declared.frame.Frame.{Frame}
 use Rattle.bill_diary.specs.History.{history, newest_first}
 use Rattle.bill_diary.specs.Pieces.{missing_of}
 use Rattle.bill_diary.specs.Place.{chain_at, place_of}
-use Rattle.bill_diary.specs.Receiving.{Declination, continues, is_taken, last_declined}
+use Rattle.bill_diary.specs.Receiving.{Declination, continues, last_declined}
 use Rattle.transfer_judge.specs.declared.judgement.Judgement.{Judgement}
 use Rattle.transfer_judge.specs.declared.judgement.Judgement.TheVariants as judgements
 use Rattle.transfer_judge.specs.Dispute.{evidence_of}
-use Rattle.transfer_judge.specs.Judgement.{judgement_at_place, judgement_by, judgement_here, judgement_of, on_declined, on_dispute, on_last, on_missing, on_receiver, on_receiver_here, on_taken, receiver_of, receiver_with}
+use Rattle.transfer_judge.specs.Judgement.{judgement_by, judgement_here, judgement_of, on_declined, on_dispute, on_last, on_missing, on_receiver, on_receiver_here, on_taken, receiver_of, receiver_with}
 use Rattle.platform_machine.specs.Complete.{HasNoObjection}
 
 here_on : (me : PlatformCode) (folded : Folded) (receiver : Party) → platform_with folded ≡ Some me

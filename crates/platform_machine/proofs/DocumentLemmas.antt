@@ -4,6 +4,7 @@ use Rattle.std.specs.Prelude.{option_map}
 use Rattle.ebl_base.specs.declared.checksum.Checksum.{Checksum}
 use Rattle.ebl_base.specs.declared.chain.ChainLink.{ChainLink}
 use Rattle.ebl_base.specs.declared.platform_code.PlatformCode.{PlatformCode}
+use Rattle.ebl_base.specs.declared.transaction.Transaction.{Transaction}
 use Rattle.canonical_json.specs.Value.{Value, depth}
 use Rattle.canonical_json.specs.Lawful.{IsLawful, HasTexts}
 use Rattle.canonical_json.specs.Reading.{Reads, value_in}
@@ -14,13 +15,13 @@ use Rattle.transport_document.specs.DocumentRecord.{DocumentRecord}
 use Rattle.transport_document.specs.Reading.{document_of}
 use Rattle.bill_diary.specs.declared.record.Record.{Record}
 use Rattle.bill_diary.specs.declared.record.Record.TheVariants.{Signed, Acted, Attached, Parted, Settled, Regained, Begun, Stored, Taken, Declined}
-use Rattle.bill_diary.specs.declared.bill_place.BillPlace.TheVariants.{Parting}
+use Rattle.bill_diary.specs.declared.bill_place.BillPlace.TheVariants.{Held, Parting}
 use Rattle.bill_diary.specs.Known.{Received, known, last_begun, longest, told}
 use Rattle.bill_diary.specs.Place.{place_of}
 use Rattle.bill_diary.specs.Searches.{last_body, signed_text}
 use Rattle.bill_diary.specs.Sound.{IsSoundHistory}
 use Rattle.bill_diary.specs.Texts.{IsBodyOf}
-use Rattle.bill_diary.proofs.PlaceLemmas.{stands, WhereParting}
+use Rattle.bill_diary.proofs.PlaceLemmas.{stands, WhereHeld, WhereParting}
 use Rattle.platform_machine.specs.Transfer.{document_in, document_with, if_body, if_read}
 
 -- the texts of documents are read as what they were
@@ -152,3 +153,9 @@ pub document_there : (me : PlatformCode) (h : List Record) (chain : List ChainLi
     → AreReadBack → IsSoundHistory me h → place_of h ≡ Parting chain entry → IsThere (document_in h)
 document_there me h chain entry back sound is =
     there_on (document_in h) (parting_has_document me h chain entry back sound is)
+
+pub held_document : (me : PlatformCode) (h : List Record) (chain : List ChainLink) (since : List Transaction)
+    → AreReadBack → IsSoundHistory me h → place_of h ≡ Held chain since → IsThere (document_in h)
+held_document me h chain since back sound is =
+    let where1 : WhereHeld h chain since = stands h (Held chain since) is in
+    there_on (document_in h) (known_has_document me h chain back sound where1.known_is)

@@ -1,7 +1,6 @@
 -- What was taken is a duplicate.
-use Rattle.std.proofs.Common.{◌≡◌, ℕ, Bool, true, cond, List, Option, Some, None, Ok, Err, refl, ap, sym, subst, ◌∙◌}
+use Rattle.std.proofs.Common.{◌≡◌, Bool, true, cond, List, Option, Some, None, Ok, Err, refl, ap, ◌∙◌}
 use Rattle.ebl_base.specs.declared.chain.ChainLink.{ChainLink}
-use Rattle.ebl_base.specs.declared.checksum.Checksum.{Checksum}
 use Rattle.ebl_base.specs.declared.party.Party.{Party}
 use Rattle.ebl_base.specs.declared.platform_code.PlatformCode.{PlatformCode}
 use Rattle.ebl_base.proofs.SameLemmas.{code_eq-Decides}
@@ -11,19 +10,8 @@ use Rattle.title_fold.specs.Title.{possessor}
 use Rattle.title_fold.specs.Fold.{Folded}
 use Rattle.bill_chain.specs.Chain.{destination, last_of, platform_with, title_after_chain}
 use Rattle.bill_diary.specs.declared.record.Record.{Record}
-use Rattle.bill_diary.specs.declared.frame.Frame.{Frame}
-use Rattle.bill_diary.specs.History.{newest_first, of_bill}
+use Rattle.bill_diary.specs.History.{of_bill}
 use Rattle.bill_diary.specs.Receiving.{is_taken, last_declined}
-use Rattle.bill_diary.specs.Sound.{IsSound}
-use Rattle.ebl_base.specs.declared.reference.Reference.{Reference}
-use Rattle.signed_envelope.specs.KeyRing.{Keys}
-use Rattle.platform_machine.specs.declared.step.Step.{Step}
-use Rattle.platform_machine.specs.declared.subject.Subject.{Subject}
-use Rattle.platform_machine.specs.Preface.{ShownRecord, Shows}
-use Rattle.platform_machine.specs.Answer.{IsAnswer, subject_of}
-use Rattle.platform_machine.specs.Judged.{frame_for, response_for}
-use Rattle.platform_machine.specs.Receiving.{BegunRecord, IsFinished, IsJudged, IsLastBegun, SaysAtStart, frame_at_start, judgement_at_finish, judgement_at_start}
-use Rattle.platform_machine.proofs.FoundLemmas.{found_whole}
 use Rattle.transfer_judge.specs.declared.judgement.Judgement.{Judgement}
 use Rattle.transfer_judge.specs.declared.judgement.Judgement.TheVariants as judgements
 use Rattle.transfer_judge.specs.Judgement.{judgement_at_place, judgement_by, judgement_here, judgement_of, on_declined, on_last, on_receiver_here, on_taken, receiver_of, receiver_with}

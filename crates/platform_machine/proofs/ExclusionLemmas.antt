@@ -1,6 +1,5 @@
 -- A body shows one thing at most, or has one refusal at most, and never both.
-use Rattle.std.proofs.Common.{◌≡◌, ◌≢◌, ◌⊎◌, inl, inr, ℕ, true, List, Option, Some, None, Result, Ok, Err, refl, ap, sym, subst, ◌∙◌}
-use Rattle.ebl_base.specs.PlatformCode.{code_eq}
+use Rattle.std.proofs.Common.{◌≡◌, ◌≢◌, ◌⊎◌, inl, inr, ℕ, true, List, Option, Some, None, Ok, Err, refl, ap, sym, subst, ◌∙◌}
 use Rattle.ebl_base.specs.declared.chain.ChainLink.{ChainLink}
 use Rattle.ebl_base.specs.declared.checksum.Checksum.{Checksum}
 use Rattle.ebl_base.specs.declared.platform_code.PlatformCode.{PlatformCode}
@@ -29,7 +28,7 @@ use Rattle.transfer_chain.specs.Refusal as chains
 use Rattle.transfer_chain.specs.declared.fault.ChainRefusal.{ChainRefusal}
 use Rattle.transfer_chain.specs.declared.fault.ChainRefusal.TheVariants as stops
 use Rattle.platform_machine.specs.declared.refusal.Refusal.{Refusal}
-use Rattle.platform_machine.specs.Preface.{AreNames, ArePartsRefused, Envelops, IsEndRefused, IsEnvelopeRefused, IsManifestRefused, IsOtherForm, IsRefused, IsUnsigned, Manifests, NamesOthers, ShownRecord, Shows, ShowsIn, reason_for, refusal_of}
+use Rattle.platform_machine.specs.Preface.{AreNames, ArePartsRefused, Envelops, IsEnvelopeRefused, IsManifestRefused, IsOtherForm, IsRefused, IsUnsigned, Manifests, NamesOthers, ShownRecord, Shows, ShowsIn, reason_for, refusal_of}
 
 -- what is known of signed texts and of chains
 pub record Exclusions : Type 0 where

@@ -12,3 +12,9 @@ pub mod DuplicateLemmas
 pub mod ExclusionLemmas
 pub mod CompleteLemmas
 pub mod OutcomeLemmas
+pub mod PlanLemmas
+pub mod FailureLemmas
+pub mod RefusalLemmas
+pub mod CommandLemmas
+pub mod DoneLemmas
+pub mod MachineLaws

@@ -1,4 +1,4 @@
--- What other platforms' messages write keeps a legal diary legal.
+-- What other platforms' messages write keeps a legal diary legal, and so does what an operator asks.
 use Rattle.std.proofs.Common.{◌≡◌, ℕ, List, inl, inr, Option, Some, None, sym, subst}
 use Rattle.std.proofs.lemmas.List.{append-nil}
 use Rattle.ebl_base.specs.declared.checksum.Checksum.{Checksum}
@@ -12,6 +12,7 @@ use Rattle.transfer_judge.proofs.FrameLemmas.{one_more_is_legal}
 use Rattle.platform_machine.specs.declared.step.Step.{Step}
 use Rattle.platform_machine.specs.Step.{with_frame}
 use Rattle.platform_machine.specs.Receiving.{StepsAtFinish, StepsAtPut, StepsAtStart}
+use Rattle.platform_machine.specs.Machine.{StepsAtAsk, StepsAtResend}
 use Rattle.platform_machine.specs.Hearing.{StepsAtAnswer, StepsAtRequest, StepsAtStartReply}
 use Rattle.platform_machine.proofs.BegunLemmas.{AreBodiesReadBack}
 use Rattle.platform_machine.proofs.JudgedFrames.{MayFollowIfAny, start_may}
@@ -25,7 +26,7 @@ legal_with roster keys me diary None legal may = subst (IsLegal roster keys me) 
 legal_with roster keys me diary (Some frame) legal may = one_more_is_legal roster keys me diary frame legal may
 
 -- a step that writes nothing
-nothing_may : (roster : RosterRecord) (keys : Keys) (me : PlatformCode) (diary : List Frame) (frame : Option Frame)
+pub nothing_may : (roster : RosterRecord) (keys : Keys) (me : PlatformCode) (diary : List Frame) (frame : Option Frame)
     → frame ≡ None → MayFollowIfAny roster keys me diary frame
 nothing_may roster keys me diary frame none = subst (MayFollowIfAny roster keys me diary) (sym none) tt
 
@@ -88,3 +89,17 @@ start_reply_keeps roster keys me diary bill bytes step legal (inl (begins, reque
     request_keeps roster keys me diary bill bytes step legal request
 start_reply_keeps roster keys me diary bill bytes step legal (inr (begins, answer)) =
     answer_keeps roster keys me diary bill bytes step legal answer
+
+pub resend_keeps : (roster : RosterRecord) (keys : Keys) (me : PlatformCode) (diary : List Frame) (bill : Checksum)
+    (step : Step) → IsLegal roster keys me diary → StepsAtResend diary bill step
+    → IsLegal roster keys me (with_frame diary step.frame)
+resend_keeps roster keys me diary bill step legal (inl (nothing, only)) =
+    legal_with roster keys me diary step.frame legal (nothing_may roster keys me diary step.frame only.nothing_written)
+resend_keeps roster keys me diary bill step legal (inr (sent, resent, done)) =
+    legal_with roster keys me diary step.frame legal (nothing_may roster keys me diary step.frame done.frame_is)
+
+pub ask_keeps : (roster : RosterRecord) (keys : Keys) (me : PlatformCode) (diary : List Frame) (bill : Checksum)
+    (step : Step) → IsLegal roster keys me diary → StepsAtAsk diary bill step
+    → IsLegal roster keys me (with_frame diary step.frame)
+ask_keeps roster keys me diary bill step legal done =
+    legal_with roster keys me diary step.frame legal (nothing_may roster keys me diary step.frame done.frame_is)

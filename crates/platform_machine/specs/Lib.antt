@@ -5,5 +5,6 @@ pub mod Judged
 pub mod Receiving
 pub mod Transfer
 pub mod Hearing
+pub mod Commanding
 pub mod Machine
 pub mod Complete

@@ -1,20 +1,26 @@
 //! Laws of the machine. Each function does nothing: its contract is the law.
-ghost use Rattle.std.specs.Prelude.{◌≡◌, ◌≤◌, ℕ, List, [], ◌∷◌, ◌++◌, Some, None, true};
+ghost use Rattle.std.specs.Prelude.{◌≡◌, ◌≤◌, ℕ, List, [], ◌∷◌, ◌++◌, Some, None, true, false};
 ghost use Rattle.canonical_json.specs.Value.{Value};
+ghost use Rattle.holder_commands.specs.Command.{CommandRecord};
 ghost use Rattle.signed_envelope.specs.KeyRing.{Keys};
+ghost use Rattle.party_roster.specs.RosterForm.{IsRoster};
 ghost use Rattle.party_roster.specs.RosterRecord.{RosterRecord};
+ghost use Rattle.platform_requests.specs.Request.{RequestRecord};
 ghost use Rattle.pint_responses.specs.Response.{IsSealable};
 ghost use Rattle.bill_chain.specs.Chain.{destination};
 ghost use Rattle.bill_diary.specs.declared.frame.Frame.TheVariants.{One};
-ghost use Rattle.bill_diary.specs.declared.bill_place.BillPlace.TheVariants.{Parting};
+ghost use Rattle.bill_diary.specs.declared.bill_place.BillPlace.TheVariants.{Held, Parting};
 ghost use Rattle.bill_diary.specs.History.{history, newest_first};
 ghost use Rattle.bill_diary.specs.Place.{place_of};
 ghost use Rattle.bill_diary.specs.Receiving.{is_taken};
 ghost use Rattle.bill_diary.specs.Sound.{IsSound};
 ghost use Rattle.transfer_judge.specs.Legal.{IsLegal};
+ghost use Rattle.transfer_judge.specs.Plan.{plan_of};
 ghost use Rattle.transfer_judge.specs.declared.judgement.Judgement.TheVariants.{Accept, Duplicate};
 ghost use Rattle.platform_machine.specs.Preface.{IsRefused, ShownRecord, Shows};
-ghost use Rattle.platform_machine.specs.Complete.{HasNoObjection};
+ghost use Rattle.platform_machine.specs.Commanding.{StepsAtCommand};
+ghost use Rattle.platform_machine.specs.Complete.{HasNoObjection, IsFulfilled, IsNotRefused, is_failure, is_refusal};
+ghost use Rattle.platform_machine.specs.Machine.{MayBeAsked, Steps};
 ghost use Rattle.platform_machine.specs.Answer.{subject_of};
 ghost use Rattle.platform_machine.specs.Judged.{response_for, taken_with};
 ghost use Rattle.platform_machine.specs.Receiving.{BegunRecord, IsLastBegun, StepsAtFinish, StepsAtPut, StepsAtStart, judgement_at_finish, judgement_at_start, news_of};
@@ -25,9 +31,12 @@ ghost use Rattle.platform_machine.specs.Transfer.{TransferRecord, IsUnderWay, do
 use crate::refusal::Refusal;
 use crate::step::Step;
 use bill_diary::{Frame, Record};
-use ebl_base::{ChainLink, Checksum, PlatformCode, Reference};
-use envelope_manifest::written_bodies_read_back;
-use signed_envelope::{refused_text_is_not_signed, signed_text_has_one_reading};
+use chain_entry::written_entries_are_lawful;
+use ebl_base::{ChainLink, Checksum, Moment, Party, PlatformCode, Reference, Transaction};
+use envelope_manifest::{written_bodies_read_back, written_manifests_read_back};
+use signed_envelope::{
+    composed_text_is_signed, refused_text_is_not_signed, signed_text_has_one_reading,
+};
 use transfer_chain::{refused_texts_are_no_good_chain, refused_texts_have_one_refusal};
 use transport_document::document_texts_read_back;
 
@@ -61,6 +70,51 @@ pub fn parting_bill_is_under_way()
 {
     document_texts_read_back();
 }
+
+/// In a sound diary a bill that is held has its document there.
+pub fn held_bill_has_its_document()
+    ensures { (me : PlatformCode) (diary : List Frame) (bill : Checksum) (known : List ChainLink)
+        → (since : List Transaction) → IsSound me diary → place_of (history bill diary) ≡ Held known since
+        → (v : Value) × (document_in (history bill diary) ≡ Some v) }
+{
+    document_texts_read_back();
+}
+
+/// Whatever may be asked, what comes of it keeps a legal diary legal. A command is to be well-formed, by a well-formed
+/// party, and one attempt more of its bill must have a number; any other request may be any bytes.
+pub fn steps_keep_a_diary_legal()
+    ensures { (roster : RosterRecord) (keys : Keys) (me : PlatformCode) (diary : List Frame) (now : Moment)
+        → (request : RequestRecord) (step : Step) → IsRoster roster → IsLegal roster keys me diary
+        → MayBeAsked diary now request → Steps roster keys me diary now request step
+        → IsLegal roster keys me (with_frame diary step.frame) }
+{
+    composed_text_is_signed();
+    written_bodies_read_back();
+    written_entries_are_lawful();
+    written_manifests_read_back();
+}
+
+/// No step replies with a failure: the ring of keys, room, disks and memory are no matter of the machine.
+pub fn steps_reply_no_failure()
+    ensures { (roster : RosterRecord) (keys : Keys) (me : PlatformCode) (diary : List Frame) (now : Moment)
+        → (request : RequestRecord) (step : Step) → Steps roster keys me diary now request step
+        → is_failure step.reply ≡ false }
+{}
+
+/// A refusal changes nothing: where a step replies with one, it writes and sends nothing.
+pub fn refusals_change_nothing()
+    ensures { (roster : RosterRecord) (keys : Keys) (me : PlatformCode) (diary : List Frame) (now : Moment)
+        → (request : RequestRecord) (step : Step) → Steps roster keys me diary now request step
+        → is_refusal step.reply ≡ true → (step.frame ≡ None) × (step.messages ≡ []) }
+{}
+
+/// A command that no refusal meets is done: the reply shows its bill as it is then.
+pub fn command_without_objection_is_done()
+    ensures { (roster : RosterRecord) (keys : Keys) (me : PlatformCode) (diary : List Frame) (now : Moment)
+        → (party : Party) (command : CommandRecord) (step : Step)
+        → IsNotRefused (plan_of roster me (newest_first diary) party command now)
+        → StepsAtCommand roster keys me diary now party command step → IsFulfilled diary command step }
+{}
 
 /// What the messages of other platforms write keeps a legal diary legal.
 pub fn messages_keep_a_diary_legal()
