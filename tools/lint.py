@@ -49,11 +49,12 @@ def widths(texts):
         if name.endswith(CODE + SCRIPTS):
             if "/proofs/" in name:
                 continue
+            # A raw text may go over several lines.
+            text = re.sub(r'r#".*?"#', lambda it: '""' + "\n" * it.group().count("\n"), text, flags=re.S)
             for number, line in enumerate(text.split("\n"), 1):
-                bare = re.sub(r'r#".*?"#', '""', line)
-                bare = re.sub(r'"(\\.|[^"\\])*"', '""', bare)
+                bare = re.sub(r'"(\\.|[^"\\])*"', '""', line)
                 if len(bare) > WIDTH and not re.match(r"\s*(pub |ghost )?use ", line):
-                    yield "%s:%d" % (name, number), "is %d columns wide" % len(line)
+                    yield "%s:%d" % (name, number), "is %d columns wide" % len(bare)
 
 
 def crates_named(texts):
@@ -171,8 +172,8 @@ def missing_in(page, quoted, paths, known):
             yield quoted
     else:
         for word in (it.strip("(),;").rstrip("/") for it in quoted.split()):
-            is_path = PATH.fullmatch(word) and not PARTY.fullmatch(word) and not MEDIA.fullmatch(word) and "out" not in word.split("/")
-            if is_path and not is_there(page, word, paths):
+            is_other = PARTY.fullmatch(word) or MEDIA.fullmatch(word) or "out" in word.split("/")
+            if PATH.fullmatch(word) and not is_other and not is_there(page, word, paths):
                 yield word
 
 
