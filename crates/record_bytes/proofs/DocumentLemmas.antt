@@ -85,16 +85,3 @@ bill_differs text v document reads said differs bill is =
     let both : Ok document ≡ Ok is.document = sym said ∙ document_said bill text v reads is in
     let same : document ≡ is.document = cc both in
     differs (ap (λ (d : DocumentRecord). d.text) same ∙ is.text_is)
-
-pub bill_found : (text : List ℕ) (v : Value) (document : DocumentRecord) → IsLawful v → HasTexts v → depth v ≤ 126
-    → document_of v ≡ Ok document → document.text ≡ text → IsDocumentOf (bill_of document) text
-bill_found text v document lawful texts flat said same = record {
-  value = v;
-  lawful = lawful;
-  texts = texts;
-  nests = flat;
-  document = document;
-  reads = said;
-  text_is = same;
-  names = refl;
-}

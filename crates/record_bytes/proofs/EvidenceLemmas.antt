@@ -25,73 +25,6 @@ tail_same m n x y same = cc same
 head_same : (m n : ℕ) (x y : List ℕ) → m ∷ x ≡ n ∷ y → m ≡ n
 head_same m n x y same = cc same
 
-pub none_there : (bytes : List ℕ) (evidence : Evidence) → IsMarked 0 bytes evidence → bytes ≡ []
-none_there bytes evidence is = by evidence.own evidence.theirs is.count_is is.bytes_are
-  where
-    by : (own theirs : Option SignedText) → 0 ≡ count_of own + count_of theirs
-        → bytes ≡ marked 1 own ++ marked 2 theirs → bytes ≡ []
-    by None None e same = same
-    by None (Some t) e same = absurd (omega (arith, e))
-    by (Some t) None e same = absurd (omega (arith, e))
-    by (Some t) (Some u) e same = absurd (omega (arith, e))
-
--- one text behind its byte
-pub record OneText (bytes : List ℕ) : Type 0 where
-  pub mark : ℕ
-  pub rest : List ℕ
-  pub text : SignedText
-  pub which : (mark ≡ 1) ⊎ (mark ≡ 2)
-  pub split : bytes ≡ mark ∷ rest
-  pub field : IsCompactField rest text
-
-pub one_there : (bytes : List ℕ) (evidence : Evidence) → IsMarked 1 bytes evidence → OneText bytes
-one_there bytes evidence is = by evidence.own evidence.theirs is.form.own is.form.theirs is.count_is is.bytes_are
-  where
-    by : (own theirs : Option SignedText) → IfSome own IsCompactText → IfSome theirs IsCompactText
-        → 1 ≡ count_of own + count_of theirs → bytes ≡ marked 1 own ++ marked 2 theirs → OneText bytes
-    by None None p q e same = absurd (omega (arith, e))
-    by None (Some t) p q e same = record {
-      mark = 2;
-      rest = text_bytes t.0;
-      text = t;
-      which = inr refl;
-      split = same;
-      field = record { compact = q; bytes_are = refl };
-    }
-    by (Some t) None p q e same = record {
-      mark = 1;
-      rest = text_bytes t.0;
-      text = t;
-      which = inl refl;
-      split = same ∙ append-nil (1 ∷ text_bytes t.0);
-      field = record { compact = p; bytes_are = refl };
-    }
-    by (Some t) (Some u) p q e same = absurd (omega (arith, e))
-
--- so where what follows a byte is no text, nothing is
-pub field_missing : (mark : ℕ) (rest : List ℕ) → ((text : SignedText) → ¬ IsCompactField rest text)
-    → (evidence : Evidence) → ¬ IsMarked 1 (mark ∷ rest) evidence
-field_missing mark rest none evidence is =
-    let one = one_there (mark ∷ rest) evidence is in
-    let same : rest ≡ one.rest = tail_same mark one.mark rest one.rest one.split in
-    none one.text (record { compact = one.field.compact; bytes_are = same ∙ one.field.bytes_are })
-
-pub own_found : (rest : List ℕ) (text : SignedText) → IsCompactField rest text
-    → IsMarked 1 (1 ∷ rest) (record { own = Some text; theirs = None })
-own_found rest text is = record {
-  form = record { own = is.compact; theirs = tt };
-  count_is = refl;
-  bytes_are = ap (λ (l : List ℕ). 1 ∷ l) is.bytes_are ∙ sym (append-nil (1 ∷ text_bytes text.0));
-}
-
-pub theirs_found : (rest : List ℕ) (text : SignedText) → IsCompactField rest text
-    → IsMarked 1 (2 ∷ rest) (record { own = None; theirs = Some text })
-theirs_found rest text is = record {
-  form = record { own = tt; theirs = is.compact };
-  count_is = refl;
-  bytes_are = ap (λ (l : List ℕ). 2 ∷ l) is.bytes_are;
-}
-
 -- both texts
 pub record BothTexts (bytes : List ℕ) : Type 0 where
   pub own : SignedText
@@ -133,21 +66,6 @@ theirs_missing rest x behind begins none evidence is =
     let same = same_front rest x both.own.0 behind (2 ∷ text_bytes both.theirs.0) begins (own_begins rest both) in
     none both.theirs (record { compact = both.theirs_is; bytes_are = same.1 })
 
-pub text_missing_there : (rest : List ℕ) → ((text behind : List ℕ) → ¬ BeginsWithText rest text behind)
-    → (evidence : Evidence) → ¬ IsMarked 2 (1 ∷ rest) evidence
-text_missing_there rest none evidence is =
-    let both = both_there (1 ∷ rest) evidence is in none both.own.0 (2 ∷ text_bytes both.theirs.0) (own_begins rest both)
-
-pub both_found : (rest x behind : List ℕ) (own theirs : SignedText) → BeginsWithText rest x behind → IsCompactOf x own
-    → IsTheirs behind theirs → IsMarked 2 (1 ∷ rest) (record { own = Some own; theirs = Some theirs })
-both_found rest x behind own theirs begins is behind_is = record {
-  form = record { own = is.compact; theirs = behind_is.compact };
-  count_is = refl;
-  bytes_are = ap (λ (l : List ℕ). 1 ∷ l)
-      (begins.bytes_are ∙ ap (λ (l : List ℕ). text_bytes l ++ behind) (sym is.bytes_are)
-      ∙ ap (λ (l : List ℕ). text_bytes own.0 ++ l) behind_is.bytes_are);
-}
-
 pub compact_here : (bytes x : List ℕ) → IsText bytes x → (text : SignedText) → IsCompactOf x text
     → IsCompactField bytes text
 compact_here bytes x is text of = record {
@@ -162,36 +80,6 @@ compact_there bytes x is text field = record {
       (record { short = compact_short text field.compact; bytes_are = field.bytes_are }) is;
   compact = field.compact;
 }
-
--- ---- the count in front
-
-pub evidence_found : (bytes rest : List ℕ) (count : ℕ) → bytes ≡ count ∷ rest → (evidence : Evidence)
-    → IsMarked count rest evidence → IsEvidenceText bytes evidence
-evidence_found bytes rest count split evidence is = record {
-  form = is.form;
-  bytes_are = split ∙ ap (λ (n : ℕ). n ∷ rest) is.count_is
-      ∙ ap (λ (l : List ℕ). (count_of evidence.own + count_of evidence.theirs) ∷ l) is.bytes_are;
-}
-
-pub evidence_marked : (bytes rest : List ℕ) (count : ℕ) → bytes ≡ count ∷ rest → (evidence : Evidence)
-    → IsEvidenceText bytes evidence → IsMarked count rest evidence
-evidence_marked bytes rest count split evidence is =
-    let whole = sym split ∙ is.bytes_are in
-    let texts = marked 1 evidence.own ++ marked 2 evidence.theirs in
-    record {
-      form = is.form;
-      count_is = head_same count (count_of evidence.own + count_of evidence.theirs) rest texts whole;
-      bytes_are = tail_same count (count_of evidence.own + count_of evidence.theirs) rest texts whole;
-    }
-
-at_most_one : (text : Option SignedText) → count_of text ≤ 1
-at_most_one None = omega arith
-at_most_one (Some t) = omega arith
-
-pub too_many : (rest : List ℕ) (count : ℕ) → 2 < count → (evidence : Evidence) → ¬ IsMarked count rest evidence
-too_many rest count many evidence is =
-    let count_is = is.count_is in
-    omega (arith, many, count_is, at_most_one evidence.own, at_most_one evidence.theirs)
 
 -- ---- one spelling
 

@@ -38,18 +38,6 @@ same_text x y t u short_x short_y same =
     let contents = sym (take_at x t (length y) long) ∙ ap (take (length y)) behind ∙ take_at y u (length y) refl in
     (contents, sym (drop_at x t (length y) long) ∙ ap (drop (length y)) behind ∙ drop_at y u (length y) refl)
 
--- the text behind its length
-pub text_found : (bytes four rest text behind : List ℕ) (n : ℕ) → four ≡ take 4 bytes → rest ≡ drop 4 bytes
-    → four_bytes n ≡ four → n < 2 ^ 32 → length text ≡ n → rest ≡ text ++ behind → BeginsWithText bytes text behind
-text_found bytes four rest text behind n fours rests told short size split =
-    record {
-      short = omega (arith, size, short);
-      bytes_are = sym (take-append-drop 4 bytes)
-          ∙ ap (λ (l : List ℕ). l ++ drop 4 bytes) (sym fours ∙ sym told ∙ ap four_bytes (sym size))
-          ∙ ap (λ (l : List ℕ). four_bytes (length text) ++ l) (sym rests ∙ split)
-          ∙ sym (append_assoc (four_bytes (length text)) text behind);
-    }
-
 -- fewer bytes than the length tells
 pub text_missing : (bytes four rest : List ℕ) (n : ℕ) → four ≡ take 4 bytes → rest ≡ drop 4 bytes
     → four_bytes n ≡ four → n < 2 ^ 32 → length rest < n → (text behind : List ℕ) → ¬ BeginsWithText bytes text behind
@@ -77,13 +65,6 @@ no_text bytes few text behind begins =
 pub one_text : (bytes text : List ℕ) → IsText bytes text → BeginsWithText bytes text []
 one_text bytes text is = record { short = is.short; bytes_are = is.bytes_are ∙ sym (append-nil (text_bytes text)) }
 
--- the bytes are the text at their front, where nothing follows
-pub text_alone : (bytes text rest : List ℕ) → BeginsWithText bytes text rest → rest ≡ [] → IsText bytes text
-text_alone bytes text rest begins none = record {
-  short = begins.short;
-  bytes_are = begins.bytes_are ∙ ap (λ (l : List ℕ). text_bytes text ++ l) none ∙ append-nil (text_bytes text);
-}
-
 -- one text at the front
 pub same_front : (bytes x y t u : List ℕ) → BeginsWithText bytes x t → BeginsWithText bytes y u → (x ≡ y) × (t ≡ u)
 same_front bytes x y t u a b = same_text x y t u a.short b.short (sym a.bytes_are ∙ b.bytes_are)
@@ -105,14 +86,6 @@ pub second_of : (bytes x rest first second : List ℕ) → BeginsWithText bytes 
 second_of bytes x rest first second begins are = record {
   short = are.second_short;
   bytes_are = (same_front bytes x first rest (text_bytes second) begins (first_of bytes first second are)).1;
-}
-
-pub two_found : (bytes first rest second : List ℕ) → BeginsWithText bytes first rest → IsText rest second
-    → AreTexts bytes first second
-two_found bytes first rest second begins is = record {
-  first_short = begins.short;
-  second_short = is.short;
-  bytes_are = begins.bytes_are ∙ ap (λ (l : List ℕ). text_bytes first ++ l) is.bytes_are;
 }
 
 pub same_texts : (bytes a b c d : List ℕ) → AreTexts bytes a b → AreTexts bytes c d → (a ≡ c) × (b ≡ d)
@@ -155,10 +128,6 @@ name_found bytes name rest are names rests long =
       bytes_are = whole;
     }
 
-pub no_name : (bytes : List ℕ) → length bytes < 32 → (name : Checksum) (rest : List ℕ) → ¬ BeginsWithName bytes name rest
-no_name bytes few name rest begins =
-    omega (arith, few, ap length begins.bytes_are, length-append name.0 rest, begins.form.size)
-
 pub same_begin : (bytes : List ℕ) (a b : Checksum) (t u : List ℕ) → BeginsWithName bytes a t → BeginsWithName bytes b u
     → (a ≡ b) × (t ≡ u)
 same_begin bytes a b t u p q = same_name a b t u p.form q.form (sym p.bytes_are ∙ q.bytes_are)
@@ -175,13 +144,6 @@ entry_of_names bytes a t bill entry rest begins is = record {
   bytes_are = (same_begin bytes a bill t (entry.0 ++ rest) begins (bill_of_names bytes bill entry rest is)).1;
 }
 
-pub names_found : (bytes : List ℕ) (bill : Checksum) (t : List ℕ) (entry : Checksum) (rest : List ℕ)
-    → BeginsWithName bytes bill t → BeginsWithName t entry rest → BeginsWithNames bytes bill entry rest
-names_found bytes bill t entry rest p q = record {
-  names = record { bill_is = p.form; entry_is = q.form };
-  bytes_are = p.bytes_are ∙ ap (λ (l : List ℕ). bill.0 ++ l) q.bytes_are;
-}
-
 pub same_names : (bytes : List ℕ) (a b c d : Checksum) (t u : List ℕ) → BeginsWithNames bytes a b t
     → BeginsWithNames bytes c d u → (a ≡ c) × (b ≡ d) × (t ≡ u)
 same_names bytes a b c d t u p q =
@@ -194,12 +156,4 @@ pub two_names : (bytes : List ℕ) (bill entry : Checksum) → AreTwoNames bytes
 two_names bytes bill entry is = record {
   names = is.names;
   bytes_are = is.bytes_are ∙ ap (λ (l : List ℕ). bill.0 ++ l) (sym (append-nil entry.0));
-}
-
-pub names_alone : (bytes : List ℕ) (bill entry : Checksum) (rest : List ℕ) → BeginsWithNames bytes bill entry rest
-    → rest ≡ [] → AreTwoNames bytes bill entry
-names_alone bytes bill entry rest is none = record {
-  names = is.names;
-  bytes_are = is.bytes_are ∙ ap (λ (l : List ℕ). bill.0 ++ (entry.0 ++ l)) none
-      ∙ ap (λ (l : List ℕ). bill.0 ++ l) (append-nil entry.0);
 }

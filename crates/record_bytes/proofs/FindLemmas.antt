@@ -50,8 +50,3 @@ none_found P o is found = let here : Finds P None = subst (Finds P) is found in 
 -- what was found passes
 pub found_is : {T : Type 0} (P : T → Type 0) (o : Option T) (x : T) → o ≡ Some x → Finds P o → P x
 found_is P o x is found = let here : Finds P (Some x) = subst (Finds P) is found in here
-
--- a list of no items is empty
-pub none_left : (xs : List ℕ) → (length xs == 0) ≡ true → xs ≡ []
-none_left [] e = refl
-none_left (x ∷ xs) e = absurd (grind (arith, nat_tests, e))

@@ -90,34 +90,6 @@ no_frame_begun fields body rest begins none frame is =
     let same = same_front fields b.body body (behind frame) rest b.begins begins in
     none (kept frame) (subst (λ (t : List ℕ). AreFields 7 (text_bytes t) (kept frame)) same.0 b.are)
 
--- a Begun alone
-pub begun_spells : (fields body rest : List ℕ) (r : Record) → BeginsWithText fields body rest
-    → AreFields 7 (text_bytes body) r → rest ≡ [] → Spells (7 ∷ fields) (One r)
-begun_spells fields body rest r begins are none = record {
-  is_frame = tt;
-  form = are.form;
-  bytes_are = ap (λ (l : List ℕ). 7 ∷ l) (begins.bytes_are ∙ ap (λ (l : List ℕ). text_bytes body ++ l) none)
-      ∙ ap (λ (l : List ℕ). 7 ∷ (l ++ [])) are.fields_are ∙ ap (λ (n : ℕ). n ∷ (fields_of r ++ [])) (sym are.kind);
-}
-
--- what has the kind of a Begun is one
-is_begun : (r : Record) → tag_of r ≡ 7 → IsFrame (BegunTaken r)
-is_begun (Begun bill chain manifest body) tag = tt
-is_begun r tag = absurd (omega (arith, tag))
-
--- a Begun with its Taken
-pub taken_spells : (fields body rest taken : List ℕ) (r : Record) → BeginsWithText fields body rest
-    → AreFields 7 (text_bytes body) r → taken ≡ flat_map record_bytes (option_to_list (taken_after r)) → taken ≡ rest
-    → Spells (7 ∷ fields) (BegunTaken r)
-taken_spells fields body rest taken r begins are written same = record {
-  is_frame = is_begun r are.kind;
-  form = are.form;
-  bytes_are = ap (λ (l : List ℕ). 7 ∷ l)
-      (begins.bytes_are ∙ ap (λ (l : List ℕ). text_bytes body ++ l) (sym same ∙ written))
-      ∙ ap (λ (l : List ℕ). 7 ∷ (l ++ behind (BegunTaken r))) are.fields_are
-      ∙ ap (λ (n : ℕ). n ∷ (fields_of r ++ behind (BegunTaken r))) (sym are.kind);
-}
-
 -- nothing else follows a Begun
 pub no_frame_behind : (fields body rest taken : List ℕ) (r : Record) → ((s : Record) → AreFields 7 (text_bytes body) s → r ≡ s)
     → BeginsWithText fields body rest → taken ≡ flat_map record_bytes (option_to_list (taken_after r)) → rest ≢ []

@@ -116,27 +116,6 @@ parted_parts fields (Parted bill link manifest text) are = record {
 }
 parted_parts fields r are = absurd (omega (arith, are.kind))
 
--- a record of two names alone
-pub record NamedParts (fields : List ℕ) : Type 0 where
-  pub bill : Checksum
-  pub entry : Checksum
-  pub names : AreTwoNames fields bill entry
-
-pub settled_parts : (fields : List ℕ) (r : Record) → AreFields 5 fields r → NamedParts fields
-settled_parts fields (Settled bill entry) are =
-    record { bill = bill; entry = entry; names = record { names = are.form; bytes_are = are.fields_are } }
-settled_parts fields r are = absurd (omega (arith, are.kind))
-
-pub regained_parts : (fields : List ℕ) (r : Record) → AreFields 6 fields r → NamedParts fields
-regained_parts fields (Regained bill entry) are =
-    record { bill = bill; entry = entry; names = record { names = are.form; bytes_are = are.fields_are } }
-regained_parts fields r are = absurd (omega (arith, are.kind))
-
-pub taken_parts : (fields : List ℕ) (r : Record) → AreFields 9 fields r → NamedParts fields
-taken_parts fields (Taken bill entry) are =
-    record { bill = bill; entry = entry; names = record { names = are.form; bytes_are = are.fields_are } }
-taken_parts fields r are = absurd (omega (arith, are.kind))
-
 pub record BegunParts (fields : List ℕ) : Type 0 where
   pub bill : Checksum
   pub chain : List ChainLink

@@ -259,10 +259,6 @@ abbrev pub behind : Frame → List ℕ
 behind (One r) = []
 behind (BegunTaken begun) = flat_map record_bytes (option_to_list (taken_after begun))
 
-pub frame_bytes-kept : (frame : Frame) → frame_bytes frame ≡ record_bytes (kept frame) ++ behind frame
-frame_bytes-kept (One r) = refl
-frame_bytes-kept (BegunTaken begun) = refl
-
 -- a chain with an entry has a last one
 pub has_last : (links : List ChainLink) → 1 ≤ length links → (link : ChainLink) × (last_of links ≡ Some link)
 has_last [] some = absurd (omega (arith, some))

@@ -89,10 +89,6 @@ piece_differs text v piece reads said differs other is =
     let same : piece ≡ other = cc both in
     differs (ap (λ (x : Piece). canon (piece_value x)) same ∙ sym is.text_is)
 
-pub piece_found : (text : List ℕ) (piece : Piece) → IsPiece piece → canon (piece_value piece) ≡ text
-    → IsPieceText text piece
-piece_found text piece form same = record { form = form; text_is = sym same }
-
 -- ---- payloads
 
 pub one_payload : (text : SignedText) (v w : Value) → HasPayload text v → HasPayload text w → v ≡ w
@@ -106,11 +102,6 @@ pub payload_found : (text : SignedText) (parts : Parts) (v : Value) → IsCompac
 payload_found text parts v compact has =
     let same : has.parts ≡ parts = same_parts 16384 text.0 has.parts parts has.compact compact in
     subst (λ (p : Parts). Reads p.payload v) same has.reads
-
--- a text that isn't compact, or whose payload doesn't read, has none
-pub no_payload_compact : (text : SignedText) → ((parts : Parts) → ¬ IsCompact 16384 text.0 parts) → (v : Value)
-    → ¬ HasPayload text v
-no_payload_compact text none v has = none has.parts has.compact
 
 pub no_payload_read : (text : SignedText) (parts : Parts) → IsCompact 16384 text.0 parts → IsUnread parts.payload
     → (v : Value) → ¬ HasPayload text v
@@ -152,18 +143,6 @@ link_says text link is =
       has_payload = is.link_is.has_payload;
       reads_as = is.link_is.reads_as;
     })
-
-pub link_found : (text : SignedText) (name : Checksum) (entry : Entry) → name ≡ checksum_of text.0
-    → SaysEntry text entry → IsLinkOf text (record { text = text; name = name; entry = entry })
-link_found text name entry named says = record {
-  text_is = refl;
-  link_is = record {
-    name = named;
-    payload = says.payload;
-    has_payload = says.has_payload;
-    reads_as = says.reads_as;
-  };
-}
 
 pub no_link : (text : SignedText) → ((entry : Entry) → ¬ SaysEntry text entry) → (link : ChainLink)
     → ¬ IsLinkOf text link
@@ -224,9 +203,6 @@ pub record MadeSoFar (texts : List SignedText) (links : List ChainLink) (rest : 
   pub split : texts ≡ front ++ rest
   pub are : AreLinksOf front links
 
-pub none_made : (texts : List SignedText) → MadeSoFar texts [] texts
-none_made texts = record { front = []; split = refl; are = record { texts_are = refl; links_are = tt } }
-
 pub one_more_made : (texts rest : List SignedText) (text : SignedText) (links after : List ChainLink) (link : ChainLink)
     → MadeSoFar texts links (text ∷ rest) → IsLinkOf text link → after ≡ links ++ link ∷ [] → MadeSoFar texts after rest
 one_more_made texts rest text links after link made is same = record {
@@ -234,10 +210,6 @@ one_more_made texts rest text links after link made is same = record {
   split = made.split ∙ sym (append_assoc made.front (text ∷ []) rest);
   are = links_more made.front links after text link made.are is same;
 }
-
-pub all_made : (texts : List SignedText) (links : List ChainLink) → MadeSoFar texts links [] → AreLinksOf texts links
-all_made texts links made =
-    subst (λ (ts : List SignedText). AreLinksOf ts links) (sym (made.split ∙ append-nil made.front)) made.are
 
 pub not_made : (texts rest : List SignedText) (text : SignedText) (links : List ChainLink)
     → MadeSoFar texts links (text ∷ rest) → ((link : ChainLink) → ¬ IsLinkOf text link) → (chain : List ChainLink)

@@ -1,5 +1,6 @@
 //! Frames and their bytes, and bytes that spell none.
 mod frames;
+mod near_misses;
 
 use crate::{FrameFault, frame_read, frame_write};
 use bill_diary::{Frame, Record};

@@ -7,7 +7,6 @@ ghost use Rattle.document_checksum.specs.Digest.{IsChecksum};
 ghost use Rattle.canonical_json.specs.Canon.{canon};
 ghost use Rattle.chain_entry.specs.Writing.{transaction_value};
 ghost use Rattle.envelope_manifest.specs.Piece.{piece_value};
-ghost use Rattle.bill_chain.specs.Chain.{last_of};
 ghost use Rattle.bill_diary.specs.declared.record.Record.TheVariants.{Taken};
 ghost use Rattle.bill_diary.specs.History.{taken_after};
 ghost use Rattle.record_bytes.specs.Fields.{count_of, evidence_bytes, four_bytes, marked, text_bytes};
@@ -15,9 +14,10 @@ ghost use Rattle.record_bytes.specs.Forms.{AreNames, HasNames};
 ghost use Rattle.record_bytes.specs.Grammar.{cause_byte, frame_bytes, kept, record_bytes};
 
 use crate::canonical::{piece_text, transaction_text};
+use bill_chain::last_link;
 use bill_diary::{Frame, Record};
 use ebl_base::{
-    ByteList, Chain, ChainLink, Checksum, Evidence, NoMemory, Reason, SignedText, Transaction,
+    ByteList, ChainLink, Checksum, Evidence, NoMemory, Reason, SignedText, Transaction,
 };
 use envelope_manifest::Piece;
 use std::alloc::Global;
@@ -48,7 +48,7 @@ pub(crate) fn push_taken_after(out: &mut ByteList, begun: &Record) -> Result<(),
     let Record::Begun { bill, chain, .. } = begun else {
         return Ok(());
     };
-    push_taken(out, *bill, last_of(chain))
+    push_taken(out, *bill, last_link(chain.as_slice()))
 }
 
 fn push_taken(out: &mut ByteList, bill: Checksum, last: Option<&ChainLink>) -> Result<(), NoMemory>
@@ -59,12 +59,6 @@ fn push_taken(out: &mut ByteList, bill: Checksum, last: Option<&ChainLink>) -> R
         Some(link) => push_named(out, 9, bill, link.name),
         None => Ok(()),
     }
-}
-
-fn last_of(chain: &Chain) -> Option<&ChainLink>
-    ensures { option_copied result ≡ last_of chain.now }
-{
-    chain.as_slice().last()
 }
 
 fn push_record(alloc: Global, out: &mut ByteList, kept: &Record) -> Result<(), NoMemory>

@@ -1,5 +1,5 @@
 use Rattle.record_bytes.proofs.FindLemmas.{if_none}
-use Rattle.record_bytes.proofs.FieldLemmas.{two_names, names_alone, same_names}
+use Rattle.record_bytes.proofs.FieldLemmas.{two_names, same_names}
 use Rattle.std.proofs.Common.{◌≡◌, ◌==◌, ℕ, List, length, true, ap}
 use Rattle.record_bytes.proofs.records.two_names.Goals as goal
 
