@@ -10,6 +10,8 @@ mod routes;
 mod scan;
 mod segments;
 mod status;
+#[cfg(test)]
+mod tests;
 
 pub use fields::MAX_BODY;
 pub use head::{MAX_FIELDS, Plans};
