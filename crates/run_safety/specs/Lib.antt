@@ -1,0 +1,6 @@
+pub mod Network
+pub mod Steady
+pub mod Honest
+pub mod Sending
+pub mod Run
+pub mod BillLine

@@ -1,0 +1,9 @@
+//! Runs of several platforms, and why each stays safe.
+#![tactic(auto)]
+
+mod laws;
+
+pub use laws::{
+    bill_lines_of_a_run_have_one_end, every_run_is_steady, every_run_stays_safe,
+    no_chain_is_disputed_in_a_run,
+};
