@@ -1,0 +1,4 @@
+mod StartLemmas
+mod StepLemmas
+mod WayLemmas
+mod TakeLemmas

@@ -1,0 +1,4 @@
+pub mod Shown
+pub mod Begun
+pub mod Transfer
+pub mod Shard

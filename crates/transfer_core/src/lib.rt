@@ -1,0 +1,16 @@
+//! One shard of a platform as the machine that the platform is: a diary, and what each request makes of it.
+#![tactic(auto)]
+
+mod answering;
+mod hearing;
+mod preface;
+mod replying;
+mod showing;
+mod starting;
+mod transfer;
+mod uploading;
+
+pub use hearing::{finish_reply, start_reply};
+pub use showing::{ask, resend};
+pub use starting::start;
+pub use uploading::{finish, put};

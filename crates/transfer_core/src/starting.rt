@@ -1,0 +1,178 @@
+//! What the start of a transfer comes to, at the platform to which it is sent.
+ghost use Rattle.std.specs.Prelude.{◌≡◌, ◌≤◌, Err, IfOk, None, Some, if◌then◌else◌};
+ghost use Rattle.ebl_base.specs.Faults.{Rose};
+ghost use Rattle.bill_diary.specs.Sound.{IsSound};
+ghost use Rattle.bill_diary.specs.declared.record.Record.TheVariants.{Begun};
+ghost use Rattle.envelope_manifest.specs.Body.{body_view};
+ghost use Rattle.pint_responses.specs.Response.{IsSealable};
+ghost use Rattle.pint_responses.specs.declared.fault.SealFault.TheVariants.{Sign};
+ghost use Rattle.platform_machine.specs.Answer.{refusal_response, subject_of};
+ghost use Rattle.platform_machine.specs.Judged.{response_for};
+ghost use Rattle.platform_machine.specs.Receiving.{IsJudged, SaysAtStart, StepsAtStart, body_text, frame_at_start, has_body, is_again, judgement_at_start, news_of};
+ghost use Rattle.platform_machine.specs.Step.{Answers};
+ghost use Rattle.transfer_core.specs.Shown.{shown_view};
+
+use crate::answering::{
+    answer, answer_with, frame_for, reference_for, refusal_response, response_for, subject_of,
+};
+use crate::preface::{Shown, show};
+use bill_diary::{Diary, Frame, Record, last_with_reference};
+use ebl_base::{ByteList, Items, NoMemory, PlatformCode, Reference};
+use envelope_manifest::Body;
+use party_roster::Roster;
+use pint_responses::SealFault;
+use platform_machine::{Refusal, Step, Subject};
+use platform_requests::Reply;
+use signed_envelope::KeyRing;
+use std::alloc::Global;
+use transfer_judge::{Judgement, judge};
+
+/// What the start of a transfer with this body comes to. Nothing is written yet.
+///
+/// The body is read, hashed and checked once; its canonical text is written again where a Begun may be new.
+pub fn start<G: KeyRing>(
+    alloc: Global,
+    roster: &Roster,
+    ring: &mut G,
+    me: PlatformCode,
+    d: &Diary,
+    body: &[u8],
+) -> Result<Step, SealFault>
+    requires { IsSound me d.now }
+    ensures ok { IfOk result (StepsAtStart roster.now (G.keys ring.old) me d.now body.now) }
+    ensures sign { result ≡ Err Sign → Rose (G.faults ring.old) (G.faults ring.new) }
+    ensures later { G.faults ring.old ≤ G.faults ring.new }
+    ensures same { G.keys ring.new ≡ G.keys ring.old }
+{
+    match show(alloc, roster, &*ring, body)? {
+        Ok(shown) => start_shown(alloc, roster, ring, me, d, shown),
+        Err(refusal) => turn_away(alloc, ring, me, refusal),
+    }
+}
+
+// A body that is refused is answered so.
+fn turn_away<G: KeyRing>(
+    alloc: Global,
+    ring: &mut G,
+    me: PlatformCode,
+    refusal: Refusal,
+) -> Result<Step, SealFault>
+    ensures ok { IfOk result (Answers (G.keys ring.old) me None (refusal_response refusal)) }
+    ensures sign { result ≡ Err Sign → Rose (G.faults ring.old) (G.faults ring.new) }
+    ensures later { G.faults ring.old ≤ G.faults ring.new }
+    ensures same { G.keys ring.new ≡ G.keys ring.old }
+{
+    answer_with(alloc, ring, me, None, refusal_response(alloc, refusal))
+}
+
+// A body that shows something is judged.
+fn start_shown<G: KeyRing>(
+    alloc: Global,
+    roster: &Roster,
+    ring: &mut G,
+    me: PlatformCode,
+    d: &Diary,
+    shown: Shown,
+) -> Result<Step, SealFault>
+    requires { IsSealable (response_for (subject_of shown.manifest)
+        (judgement_at_start roster.now me d.now (shown_view shown))) }
+    ensures ok { IfOk result (IsJudged roster.now (G.keys ring.old) me d.now (shown_view shown)) }
+    ensures sign { result ≡ Err Sign → Rose (G.faults ring.old) (G.faults ring.new) }
+    ensures later { G.faults ring.old ≤ G.faults ring.new }
+    ensures same { G.keys ring.new ≡ G.keys ring.old }
+{
+    let subject = subject_of(&shown.manifest);
+    let judgement = judge(alloc, d, roster, me, &shown.chain, &shown.manifest)?;
+    let frame = frame_at_start(alloc, d, shown, &judgement)?;
+    let reply = say_at_start(alloc, ring, me, subject, judgement)?;
+    Ok(Step {
+        frame,
+        reply,
+        messages: Items::new(alloc),
+    })
+}
+
+fn frame_at_start(
+    alloc: Global,
+    d: &Diary,
+    shown: Shown,
+    judgement: &Judgement,
+) -> Result<Option<Frame>, NoMemory>
+    ensures { IfOk result (λ frame. frame ≡ frame_at_start d.now (shown_view shown) judgement.now) }
+{
+    let subject = subject_of(&shown.manifest);
+    match judgement {
+        Judgement::Missing(_) | Judgement::Accept => {
+            let begun = news(alloc, d, shown)?;
+            frame_for(alloc, begun, subject, judgement)
+        }
+        _ => frame_for(alloc, None, subject, judgement),
+    }
+}
+
+// The Begun of a body, unless the last one with its reference is of the same body.
+fn news(alloc: Global, d: &Diary, shown: Shown) -> Result<Option<Record>, NoMemory>
+    ensures { IfOk result (λ begun. begun ≡ news_of d.now (shown_view shown)) }
+{
+    let body = body_text(alloc, &shown.body)?;
+    let subject = subject_of(&shown.manifest);
+    let again = is_again(d, reference_for(subject), &body);
+    Ok(unless(again, begun_with(subject, shown, body)))
+}
+
+#[tactic(auto, unfolding(platform_machine::specs::Receiving::body_text))]
+fn body_text(alloc: Global, body: &Body) -> Result<ByteList, NoMemory>
+    ensures { IfOk result (λ text. text ≡ body_text (body_view body.now)) }
+{
+    body.write(alloc)
+}
+
+fn begun_with(subject: Subject, shown: Shown, body: ByteList) -> Record
+    ensures { result ≡ Begun subject.bill shown.chain shown.manifest body }
+{
+    Record::Begun {
+        bill: subject.bill,
+        chain: shown.chain,
+        manifest: shown.manifest,
+        body,
+    }
+}
+
+fn unless(test: bool, one: Record) -> Option<Record>
+    ensures { result ≡ (if test then None else Some one) }
+{
+    if test { None } else { Some(one) }
+}
+
+// Whether the last Begun with a reference is of this body.
+fn is_again(d: &Diary, reference: Reference, body: &ByteList) -> bool
+    ensures { result ≡ is_again reference body.now d.now }
+{
+    match last_with_reference(d, reference) {
+        Some(begun) => begun.body.as_slice() == body.as_slice(),
+        None => false,
+    }
+}
+
+// Where documents are missing they are asked for, and else the judgement is answered.
+fn say_at_start<G: KeyRing>(
+    alloc: Global,
+    ring: &mut G,
+    me: PlatformCode,
+    subject: Subject,
+    judgement: Judgement,
+) -> Result<Reply, SealFault>
+    requires { IsSealable (response_for subject judgement) }
+    ensures ok { IfOk result (SaysAtStart (G.keys ring.old) me subject judgement) }
+    ensures sign { result ≡ Err Sign → Rose (G.faults ring.old) (G.faults ring.new) }
+    ensures later { G.faults ring.old ≤ G.faults ring.new }
+    ensures same { G.keys ring.new ≡ G.keys ring.old }
+{
+    match judgement {
+        Judgement::Missing(missing) => Ok(Reply::Started {
+            reference: reference_for(subject),
+            missing,
+        }),
+        judgement => answer(alloc, ring, me, response_for(alloc, subject, judgement)),
+    }
+}
