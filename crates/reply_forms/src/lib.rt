@@ -7,3 +7,4 @@ mod views;
 mod words;
 
 pub use body::{ReplyBody, reply_body};
+pub use words::{field_name, limit_text, place_text, state_text};

@@ -6,7 +6,8 @@ use ebl_base::{LimitKind, PlaceTag};
 use title_fold::Title;
 use transport_document::DocumentField;
 
-pub(crate) fn place_text(place: PlaceTag) -> &'static str
+/// The word of a place in a reply, as `PARTING`.
+pub fn place_text(place: PlaceTag) -> &'static str
     ensures { result.now ≡ place_text place }
 {
     match place {
@@ -17,7 +18,8 @@ pub(crate) fn place_text(place: PlaceTag) -> &'static str
     }
 }
 
-pub(crate) fn state_text(title: Title) -> &'static str
+/// The word of the state that a title is in, as `LIVE`.
+pub fn state_text(title: Title) -> &'static str
     ensures { result.now ≡ state_text title }
 {
     match title {
@@ -28,7 +30,8 @@ pub(crate) fn state_text(title: Title) -> &'static str
     }
 }
 
-pub(crate) fn limit_text(which: LimitKind) -> &'static str
+/// The word of a limit, as `DOCUMENT_SIZE`.
+pub fn limit_text(which: LimitKind) -> &'static str
     ensures { result.now ≡ limit_text which }
 {
     match which {
@@ -41,7 +44,7 @@ pub(crate) fn limit_text(which: LimitKind) -> &'static str
 }
 
 /// The name of a member of a transport document.
-pub(crate) fn field_name(field: DocumentField) -> &'static str
+pub fn field_name(field: DocumentField) -> &'static str
     ensures { result.now ≡ field_name field }
 {
     match field {
