@@ -4,14 +4,19 @@ use Rattle.std.specs.Prelude.{ℕ, List, Option, Some, None, codes}
 use Rattle.canonical_json.specs.Value.{Value, text, object, Members, no_members, member}
 use Rattle.canonical_json.specs.Canon.{canon}
 use Rattle.json_forms.specs.Writing.{number_value, party_value, checksum_value}
+use Rattle.ebl_base.specs.declared.limit_kind.LimitKind.{LimitKind}
+use Rattle.ebl_base.specs.declared.party.Party.{Party}
 use Rattle.ebl_base.specs.declared.place_tag.PlaceTag.{PlaceTag}
 use Rattle.title_fold.specs.Title.{possessor, title_holder}
 use Rattle.title_fold.specs.Refusal.{refusal_text}
+use Rattle.title_fold.specs.declared.refusal.FoldRefusal.{FoldRefusal}
 use Rattle.title_fold.specs.declared.title.Title.{Title}
+use Rattle.transport_document.specs.declared.fault.DocumentField.{DocumentField}
 use Rattle.transport_document.specs.declared.fault.DocumentFault.{DocumentFault}
 use Rattle.transport_document.specs.declared.fault.DocumentFault.TheVariants as documents
 use Rattle.upload_state.specs.Started.{started_value}
 use Rattle.platform_requests.specs.Words.{ignore_text}
+use Rattle.platform_requests.specs.declared.ignore_reason.IgnoreReason.{IgnoreReason}
 use Rattle.platform_requests.specs.declared.reply.Reply.{Reply}
 use Rattle.platform_requests.specs.declared.reply.Reply.TheVariants.{Done, Started, Stored, Answer, UnknownReference, NotOurs, Document, NotCarrier, KnownBill, NotHere, NoParty, NotAllowed, Limit, Ignored, NotParting, Sign, Full, Disk, Damaged, NoMemory}
 use Rattle.platform_requests.specs.declared.view.View.{View}
@@ -30,7 +35,8 @@ with_holder (Some title) ms = member (codes "holder") (party_value (title_holder
 abbrev pub possession : Option Title → Members
 possession None = no_members
 possession (Some title) =
-    member (codes "possessor") (party_value (possessor title)) (member (codes "state") (text (state_text title)) no_members)
+    member (codes "possessor") (party_value (possessor title))
+    (member (codes "state") (text (state_text title)) no_members)
 
 abbrev pub view_value : View → Value
 view_value v =
@@ -46,17 +52,47 @@ word_value word = object (member (codes "reply") (text word) no_members)
 
 -- a refusal by the place of the bill
 abbrev pub place_value : List ℕ → PlaceTag → Value
-place_value word place = object (member (codes "place") (text (place_text place)) (member (codes "reply") (text word) no_members))
+place_value word place =
+    object (member (codes "place") (text (place_text place)) (member (codes "reply") (text word) no_members))
 
--- why a document gives no bill; want of memory isn't said
+-- a party that isn't one of this platform
+abbrev pub no_party_value : Party → Value
+no_party_value party =
+    object (member (codes "party") (party_value party) (member (codes "reply") (text (codes "NO_PARTY")) no_members))
+
+-- a rule of titles that the transaction breaks
+abbrev pub not_allowed_value : FoldRefusal → Value
+not_allowed_value rule =
+    object (member (codes "reply") (text (codes "NOT_ALLOWED"))
+    (member (codes "rule") (text (refusal_text rule)) no_members))
+
+abbrev pub limit_value : LimitKind → Value
+limit_value which =
+    object (member (codes "reply") (text (codes "LIMIT"))
+    (member (codes "which") (text (limit_text which)) no_members))
+
+-- a reply of another platform that changes nothing
+abbrev pub ignored_value : IgnoreReason → Value
+ignored_value reason =
+    object (member (codes "reason") (text (ignore_text reason))
+    (member (codes "reply") (text (codes "IGNORED")) no_members))
+
+-- a fault of a document that isn't in a member
+abbrev pub fault_value : List ℕ → Value
+fault_value fault =
+    object (member (codes "fault") (text fault) (member (codes "reply") (text (codes "DOCUMENT")) no_members))
+
+-- a malformed member of a document
+abbrev pub form_value : DocumentField → Value
+form_value field =
+    object (member (codes "fault") (text (codes "FORM"))
+    (member (codes "field") (text (field_name field)) (member (codes "reply") (text (codes "DOCUMENT")) no_members)))
+
+-- why a document gives no bill; out of memory isn't said
 abbrev pub document_value : DocumentFault → Option Value
-document_value (documents.DocumentForm field) =
-    Some (object (member (codes "fault") (text (codes "FORM"))
-    (member (codes "field") (text (field_name field)) (member (codes "reply") (text (codes "DOCUMENT")) no_members))))
-document_value documents.NotTitle =
-    Some (object (member (codes "fault") (text (codes "NOT_TITLE")) (member (codes "reply") (text (codes "DOCUMENT")) no_members)))
-document_value documents.TooLarge =
-    Some (object (member (codes "fault") (text (codes "TOO_LARGE")) (member (codes "reply") (text (codes "DOCUMENT")) no_members)))
+document_value (documents.DocumentForm field) = Some (form_value field)
+document_value documents.NotTitle = Some (fault_value (codes "NOT_TITLE"))
+document_value documents.TooLarge = Some (fault_value (codes "TOO_LARGE"))
 document_value documents.NoMemory = None
 
 -- ---- bodies
@@ -77,14 +113,10 @@ body_of (Document fault) = said (document_value fault)
 body_of NotCarrier = bodies.Json (canon (word_value (codes "NOT_CARRIER")))
 body_of KnownBill = bodies.Json (canon (word_value (codes "KNOWN_BILL")))
 body_of (NotHere place) = bodies.Json (canon (place_value (codes "NOT_HERE") place))
-body_of (NoParty party) =
-    bodies.Json (canon (object (member (codes "party") (party_value party) (member (codes "reply") (text (codes "NO_PARTY")) no_members))))
-body_of (NotAllowed rule) =
-    bodies.Json (canon (object (member (codes "reply") (text (codes "NOT_ALLOWED")) (member (codes "rule") (text (refusal_text rule)) no_members))))
-body_of (Limit which) =
-    bodies.Json (canon (object (member (codes "reply") (text (codes "LIMIT")) (member (codes "which") (text (limit_text which)) no_members))))
-body_of (Ignored reason) =
-    bodies.Json (canon (object (member (codes "reason") (text (ignore_text reason)) (member (codes "reply") (text (codes "IGNORED")) no_members))))
+body_of (NoParty party) = bodies.Json (canon (no_party_value party))
+body_of (NotAllowed rule) = bodies.Json (canon (not_allowed_value rule))
+body_of (Limit which) = bodies.Json (canon (limit_value which))
+body_of (Ignored reason) = bodies.Json (canon (ignored_value reason))
 body_of (NotParting place) = bodies.Json (canon (place_value (codes "NOT_PARTING") place))
 body_of Sign = bodies.Nothing
 body_of Full = bodies.Nothing

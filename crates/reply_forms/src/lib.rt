@@ -3,6 +3,8 @@
 
 mod body;
 mod refusals;
+#[cfg(test)]
+mod tests;
 mod views;
 mod words;
 

@@ -1,12 +1,8 @@
 //! Refusals as JSON, without the number of an event and the messages sent.
-ghost use Rattle.std.specs.Prelude.{◌≡◌, IfOk, codes, option_map};
+ghost use Rattle.std.specs.Prelude.{◌≡◌, IfOk, option_map};
 ghost use Rattle.canonical_json.specs.Value.{text, object, member as member_of, no_members};
 ghost use Rattle.canonical_json.specs.View.{view};
-ghost use Rattle.json_forms.specs.Writing.{party_value};
-ghost use Rattle.platform_requests.specs.Words.{ignore_text};
-ghost use Rattle.reply_forms.specs.Body.{document_value, place_value, word_value};
-ghost use Rattle.reply_forms.specs.Words.{field_name, limit_text};
-ghost use Rattle.title_fold.specs.Refusal.{refusal_text};
+ghost use Rattle.reply_forms.specs.Body.{document_value, fault_value, form_value, ignored_value, limit_value, no_party_value, not_allowed_value, place_value, word_value};
 
 use crate::words::{field_name, limit_text, place_text};
 use canonical_json::Json;
@@ -51,8 +47,7 @@ pub(crate) fn place_json(alloc: Global, word: &str, place: PlaceTag) -> Result<J
 }
 
 pub(crate) fn no_party_json(alloc: Global, party: Party) -> Result<Json, NoMemory>
-    ensures { IfOk result (λ json. view json
-        ≡ object (member_of (codes "party") (party_value party) (member_of (codes "reply") (text (codes "NO_PARTY")) no_members))) }
+    ensures { IfOk result (λ json. view json ≡ no_party_value party) }
 {
     let members = vec![in alloc;
         party_member(alloc, "party", party)?,
@@ -62,54 +57,43 @@ pub(crate) fn no_party_json(alloc: Global, party: Party) -> Result<Json, NoMemor
 }
 
 pub(crate) fn not_allowed_json(alloc: Global, rule: FoldRefusal) -> Result<Json, NoMemory>
-    ensures { IfOk result (λ json. view json
-        ≡ object (member_of (codes "reply") (text (codes "NOT_ALLOWED")) (member_of (codes "rule") (text (refusal_text rule)) no_members))) }
+    ensures { IfOk result (λ json. view json ≡ not_allowed_value rule) }
 {
     two_texts(alloc, "reply", "NOT_ALLOWED", "rule", rule.as_str())
 }
 
 pub(crate) fn limit_json(alloc: Global, which: LimitKind) -> Result<Json, NoMemory>
-    ensures { IfOk result (λ json. view json
-        ≡ object (member_of (codes "reply") (text (codes "LIMIT")) (member_of (codes "which") (text (limit_text which)) no_members))) }
+    ensures { IfOk result (λ json. view json ≡ limit_value which) }
 {
     two_texts(alloc, "reply", "LIMIT", "which", limit_text(which))
 }
 
 pub(crate) fn ignored_json(alloc: Global, reason: IgnoreReason) -> Result<Json, NoMemory>
-    ensures { IfOk result (λ json. view json
-        ≡ object (member_of (codes "reason") (text (ignore_text reason)) (member_of (codes "reply") (text (codes "IGNORED")) no_members))) }
+    ensures { IfOk result (λ json. view json ≡ ignored_value reason) }
 {
     two_texts(alloc, "reason", reason.as_str(), "reply", "IGNORED")
 }
 
-/// Why a document gives no bill; nothing for want of memory.
+/// Why a document gives no bill; nothing if memory ran out.
 pub(crate) fn document_json(alloc: Global, fault: DocumentFault) -> Result<Option<Json>, NoMemory>
     ensures { IfOk result (λ json. option_map view json ≡ document_value fault) }
 {
     match fault {
         DocumentFault::DocumentForm(field) => Ok(Some(form_json(alloc, field)?)),
-        DocumentFault::NotTitle => Ok(Some(two_texts(
-            alloc,
-            "fault",
-            "NOT_TITLE",
-            "reply",
-            "DOCUMENT",
-        )?)),
-        DocumentFault::TooLarge => Ok(Some(two_texts(
-            alloc,
-            "fault",
-            "TOO_LARGE",
-            "reply",
-            "DOCUMENT",
-        )?)),
+        DocumentFault::NotTitle => Ok(Some(fault_json(alloc, "NOT_TITLE")?)),
+        DocumentFault::TooLarge => Ok(Some(fault_json(alloc, "TOO_LARGE")?)),
         DocumentFault::NoMemory => Ok(None),
     }
 }
 
+fn fault_json(alloc: Global, fault: &str) -> Result<Json, NoMemory>
+    ensures { IfOk result (λ json. view json ≡ fault_value fault.now) }
+{
+    two_texts(alloc, "fault", fault, "reply", "DOCUMENT")
+}
+
 fn form_json(alloc: Global, field: DocumentField) -> Result<Json, NoMemory>
-    ensures { IfOk result (λ json. view json
-        ≡ object (member_of (codes "fault") (text (codes "FORM"))
-        (member_of (codes "field") (text (field_name field)) (member_of (codes "reply") (text (codes "DOCUMENT")) no_members)))) }
+    ensures { IfOk result (λ json. view json ≡ form_value field) }
 {
     let members = vec![in alloc;
         text_member(alloc, "fault", "FORM")?,

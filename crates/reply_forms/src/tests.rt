@@ -1,0 +1,298 @@
+//! Replies beside their bodies, which were written by hand from docs/script.md and docs/forms.md.
+use crate::{ReplyBody, reply_body};
+use ebl_base::{
+    ByteList, Checksum, ChecksumList, Code, Evidence, LimitKind, NoMemory, Party, PlaceTag,
+    Reference, SignedText,
+};
+use pint_responses::Response;
+use platform_requests::{IgnoreReason, Reply, View};
+use std::alloc::Global;
+use std::process::Abort;
+use std::test::Fail;
+use title_fold::{FoldRefusal, Title};
+use transport_document::{DocumentFault, DocumentField};
+
+const BILL: Checksum = Checksum([0x44; 32]);
+
+fn json_row(rt: &impl Abort, alloc: Global, reply: Reply, text: &str) -> Result<(), NoMemory> {
+    match reply_body(alloc, reply)? {
+        ReplyBody::Json(body) => assert_eq!(rt; body.as_slice(), text.as_bytes(), "{text}"),
+        _ => panic!(rt; "no JSON in place of {text}"),
+    }
+    Ok(())
+}
+
+fn nothing_row(rt: &impl Abort, alloc: Global, reply: Reply) -> Result<(), NoMemory> {
+    let body = reply_body(alloc, reply)?;
+    assert!(rt; matches!(&body, ReplyBody::Nothing), "{body:?}");
+    Ok(())
+}
+
+fn party(text: &str) -> Result<Party, Fail> {
+    Ok(Party::from_text(text.as_bytes()).ok_or("a party")?)
+}
+
+#[test]
+fn refusals_of_one_word(rt: HostRuntime) -> Result<(), Fail> {
+    let alloc = rt.alloc();
+    json_row(&rt, alloc, Reply::NotOurs, r#"{"reply":"NOT_OURS"}"#)?;
+    json_row(&rt, alloc, Reply::NotCarrier, r#"{"reply":"NOT_CARRIER"}"#)?;
+    json_row(&rt, alloc, Reply::KnownBill, r#"{"reply":"KNOWN_BILL"}"#)?;
+    Ok(())
+}
+
+#[test]
+fn refusals_by_a_place(rt: HostRuntime) -> Result<(), Fail> {
+    let alloc = rt.alloc();
+    let absent = Reply::NotHere(PlaceTag::Absent);
+    json_row(
+        &rt,
+        alloc,
+        absent,
+        r#"{"place":"ABSENT","reply":"NOT_HERE"}"#,
+    )?;
+    let parting = Reply::NotHere(PlaceTag::Parting);
+    json_row(
+        &rt,
+        alloc,
+        parting,
+        r#"{"place":"PARTING","reply":"NOT_HERE"}"#,
+    )?;
+    let held = Reply::NotParting(PlaceTag::Held);
+    json_row(
+        &rt,
+        alloc,
+        held,
+        r#"{"place":"HELD","reply":"NOT_PARTING"}"#,
+    )?;
+    let gone = Reply::NotParting(PlaceTag::Gone);
+    json_row(
+        &rt,
+        alloc,
+        gone,
+        r#"{"place":"GONE","reply":"NOT_PARTING"}"#,
+    )?;
+    Ok(())
+}
+
+#[test]
+fn refusals_by_a_party_and_a_rule(rt: HostRuntime) -> Result<(), Fail> {
+    let alloc = rt.alloc();
+    let unknown = Reply::NoParty(party("ALPH/EXPORT")?);
+    json_row(
+        &rt,
+        alloc,
+        unknown,
+        r#"{"party":"ALPH/EXPORT","reply":"NO_PARTY"}"#,
+    )?;
+    let refused = Reply::NotAllowed(FoldRefusal::F7);
+    json_row(
+        &rt,
+        alloc,
+        refused,
+        r#"{"reply":"NOT_ALLOWED","rule":"F7"}"#,
+    )?;
+    Ok(())
+}
+
+const LIMITS: [(LimitKind, &str); 5] = [
+    (LimitKind::Entries, r#"{"reply":"LIMIT","which":"ENTRIES"}"#),
+    (
+        LimitKind::Transactions,
+        r#"{"reply":"LIMIT","which":"TRANSACTIONS"}"#,
+    ),
+    (
+        LimitKind::DocumentSize,
+        r#"{"reply":"LIMIT","which":"DOCUMENT_SIZE"}"#,
+    ),
+    (
+        LimitKind::Documents,
+        r#"{"reply":"LIMIT","which":"DOCUMENTS"}"#,
+    ),
+    (
+        LimitKind::DocumentBytes,
+        r#"{"reply":"LIMIT","which":"DOCUMENT_BYTES"}"#,
+    ),
+];
+
+#[test]
+fn refusals_by_a_limit(rt: HostRuntime) -> Result<(), Fail> {
+    for (which, text) in LIMITS {
+        json_row(&rt, rt.alloc(), Reply::Limit(which), text)?;
+    }
+    Ok(())
+}
+
+const IGNORED: [(IgnoreReason, &str); 6] = [
+    (
+        IgnoreReason::NotParting,
+        r#"{"reason":"NOT_PARTING","reply":"IGNORED"}"#,
+    ),
+    (IgnoreReason::Form, r#"{"reason":"FORM","reply":"IGNORED"}"#),
+    (
+        IgnoreReason::Reference,
+        r#"{"reason":"REFERENCE","reply":"IGNORED"}"#,
+    ),
+    (
+        IgnoreReason::Signature,
+        r#"{"reason":"SIGNATURE","reply":"IGNORED"}"#,
+    ),
+    (
+        IgnoreReason::OtherEntry,
+        r#"{"reason":"OTHER_ENTRY","reply":"IGNORED"}"#,
+    ),
+    (
+        IgnoreReason::Passing,
+        r#"{"reason":"PASSING","reply":"IGNORED"}"#,
+    ),
+];
+
+#[test]
+fn ignored_replies(rt: HostRuntime) -> Result<(), Fail> {
+    for (reason, text) in IGNORED {
+        json_row(&rt, rt.alloc(), Reply::Ignored(reason), text)?;
+    }
+    Ok(())
+}
+
+const DOCUMENTS: [(DocumentFault, &str); 7] = [
+    (
+        DocumentFault::DocumentForm(DocumentField::TransportDocumentReference),
+        r#"{"fault":"FORM","field":"transportDocumentReference","reply":"DOCUMENT"}"#,
+    ),
+    (
+        DocumentFault::DocumentForm(DocumentField::CarrierCode),
+        r#"{"fault":"FORM","field":"carrierCode","reply":"DOCUMENT"}"#,
+    ),
+    (
+        DocumentFault::DocumentForm(DocumentField::CarrierCodeListProvider),
+        r#"{"fault":"FORM","field":"carrierCodeListProvider","reply":"DOCUMENT"}"#,
+    ),
+    (
+        DocumentFault::DocumentForm(DocumentField::TransportDocumentTypeCode),
+        r#"{"fault":"FORM","field":"transportDocumentTypeCode","reply":"DOCUMENT"}"#,
+    ),
+    (
+        DocumentFault::DocumentForm(DocumentField::IsToOrder),
+        r#"{"fault":"FORM","field":"isToOrder","reply":"DOCUMENT"}"#,
+    ),
+    (
+        DocumentFault::NotTitle,
+        r#"{"fault":"NOT_TITLE","reply":"DOCUMENT"}"#,
+    ),
+    (
+        DocumentFault::TooLarge,
+        r#"{"fault":"TOO_LARGE","reply":"DOCUMENT"}"#,
+    ),
+];
+
+#[test]
+fn faults_of_a_document(rt: HostRuntime) -> Result<(), Fail> {
+    let alloc = rt.alloc();
+    for (fault, text) in DOCUMENTS {
+        json_row(&rt, alloc, Reply::Document(fault), text)?;
+    }
+    nothing_row(&rt, alloc, Reply::Document(DocumentFault::NoMemory))?;
+    Ok(())
+}
+
+#[test]
+fn replies_without_a_body(rt: HostRuntime) -> Result<(), Fail> {
+    let alloc = rt.alloc();
+    nothing_row(&rt, alloc, Reply::Stored)?;
+    nothing_row(&rt, alloc, Reply::UnknownReference)?;
+    nothing_row(&rt, alloc, Reply::Sign)?;
+    nothing_row(&rt, alloc, Reply::Full)?;
+    nothing_row(&rt, alloc, Reply::Disk)?;
+    nothing_row(&rt, alloc, Reply::Damaged(7))?;
+    nothing_row(&rt, alloc, Reply::NoMemory)?;
+    Ok(())
+}
+
+fn shown(place: PlaceTag, entries: u32, title: Option<Title>) -> Reply {
+    Reply::Done(View {
+        bill: BILL,
+        place,
+        entries,
+        title,
+    })
+}
+
+#[test]
+fn a_bill_that_is_absent(rt: HostRuntime) -> Result<(), Fail> {
+    let text =
+        r#"{"bill":"4444444444444444444444444444444444444444444444444444444444444444","entries":0,"place":"ABSENT"}"#;
+    json_row(&rt, rt.alloc(), shown(PlaceTag::Absent, 0, None), text)?;
+    Ok(())
+}
+
+// The possessor and the holder are two parties.
+#[test]
+fn a_bill_that_is_held(rt: HostRuntime) -> Result<(), Fail> {
+    let title = Title::Live {
+        carrier: party("ALPH/CARRIER")?,
+        possessor: party("ALPH/EXPORT")?,
+        holder: party("BETA/BANK")?,
+    };
+    let text =
+        r#"{"bill":"4444444444444444444444444444444444444444444444444444444444444444","entries":64,"holder":"BETA/BANK","place":"HELD","possessor":"ALPH/EXPORT","state":"LIVE"}"#;
+    json_row(
+        &rt,
+        rt.alloc(),
+        shown(PlaceTag::Held, 64, Some(title)),
+        text,
+    )?;
+    Ok(())
+}
+
+// What was signed is the carrier's.
+#[test]
+fn a_bill_that_was_signed(rt: HostRuntime) -> Result<(), Fail> {
+    let carrier = party("ALPH/CARRIER")?;
+    let title = Title::Signed { carrier };
+    let text =
+        r#"{"bill":"4444444444444444444444444444444444444444444444444444444444444444","entries":1,"holder":"ALPH/CARRIER","place":"GONE","possessor":"ALPH/CARRIER","state":"SIGNED"}"#;
+    json_row(&rt, rt.alloc(), shown(PlaceTag::Gone, 1, Some(title)), text)?;
+    Ok(())
+}
+
+fn started(missing: ChecksumList) -> Reply {
+    Reply::Started {
+        reference: Reference([0x11; 16]),
+        missing,
+    }
+}
+
+#[test]
+fn a_transfer_that_starts(rt: HostRuntime) -> Result<(), Fail> {
+    let alloc = rt.alloc();
+    let mut one = ChecksumList::new(alloc);
+    one.push(BILL)?;
+    let text =
+        r#"{"missing":["4444444444444444444444444444444444444444444444444444444444444444"],"reference":"11111111-1111-1111-1111-111111111111"}"#;
+    json_row(&rt, alloc, started(one), text)?;
+    Ok(())
+}
+
+#[test]
+fn a_signed_answer(rt: HostRuntime) -> Result<(), Fail> {
+    let alloc = rt.alloc();
+    let response = Response {
+        code: Code::Received,
+        bill: None,
+        last: None,
+        standing: false,
+        reason: None,
+        missing: ChecksumList::new(alloc),
+        evidence: Evidence {
+            own: None,
+            theirs: None,
+        },
+    };
+    let text = SignedText(ByteList::from_slice(alloc, b"a.b.c")?);
+    match reply_body(alloc, Reply::Answer { response, text })? {
+        ReplyBody::Signed(text) => assert_eq!(rt; text.0.as_slice(), b"a.b.c".as_slice()),
+        _ => panic!(rt; "no signed text"),
+    }
+    Ok(())
+}
