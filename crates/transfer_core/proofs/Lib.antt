@@ -1,4 +1,5 @@
+mod PartLemmas
 mod StartLemmas
 mod StepLemmas
-mod WayLemmas
 mod TakeLemmas
+mod WayLemmas

@@ -1,4 +1,5 @@
 pub mod Shown
 pub mod Begun
 pub mod Transfer
+pub mod Held
 pub mod Shard

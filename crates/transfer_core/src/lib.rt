@@ -2,15 +2,21 @@
 #![tactic(auto)]
 
 mod answering;
+mod commanding;
+mod deciding;
 mod hearing;
 mod preface;
 mod replying;
+mod shard;
 mod showing;
 mod starting;
 mod transfer;
 mod uploading;
 
+pub use commanding::command;
+pub use deciding::decide;
 pub use hearing::{finish_reply, start_reply};
+pub use shard::Shard;
 pub use showing::{ask, resend};
 pub use starting::start;
 pub use uploading::{finish, put};
