@@ -1,0 +1,2 @@
+mod ChainLists
+mod DiaryLists

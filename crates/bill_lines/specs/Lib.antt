@@ -1,0 +1,3 @@
+pub mod Bills
+pub mod Lines
+pub mod Diaries

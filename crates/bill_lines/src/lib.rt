@@ -1,0 +1,13 @@
+//! The line of a bill, by the diaries of all platforms.
+#![tactic(auto)]
+
+mod accepted;
+mod diaries;
+mod ends;
+mod forks;
+mod lines;
+#[cfg(test)]
+mod tests;
+
+pub use diaries::PlatformDiary;
+pub use lines::bill_line;
