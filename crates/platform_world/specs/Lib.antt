@@ -1,0 +1,5 @@
+pub mod World
+pub mod Happening
+pub mod Step
+pub mod Script
+pub mod Run

@@ -1,0 +1,133 @@
+-- A run of a script: what happened, what it writes, and how it ends. It may stop before every line, where memory or the
+-- sink fails.
+use Rattle.std.specs.Prelude.{◌≡◌, ◌⊎◌, ℕ, ◌+◌, ◌-◌, List, [], ◌∷◌, ◌++◌, Option, Some, None, MatchBool, length, nat_le, if◌then◌else◌}
+use Rattle.std.specs.List.{range_with_len}
+use Rattle.ebl_base.specs.Checksum.{checksum_eq}
+use Rattle.ebl_base.specs.Parts.{parts_of}
+use Rattle.ebl_base.specs.declared.checksum.Checksum.{Checksum}
+use Rattle.signed_envelope.specs.KeyRing.{Keys}
+use Rattle.party_roster.specs.RosterRecord.{RosterRecord}
+use Rattle.platform_requests.specs.declared.reply.Reply.TheVariants.{Done}
+use Rattle.closed_family.specs.Family.{histories_of}
+use Rattle.world_script.specs.Event.{EventRecord}
+use Rattle.answer_lines.specs.declared.answer.Answer.{Answer}
+use Rattle.answer_lines.specs.declared.answer.Answer.TheVariants.{Replied}
+use Rattle.answer_lines.specs.Lines.{answer_line}
+use Rattle.bill_lines.specs.Lines.{bill_line}
+use Rattle.platform_world.specs.declared.fate.Fate.{Fate}
+use Rattle.platform_world.specs.World.{WorldRecord, opening, family_of, platforms_of, settled_for}
+use Rattle.platform_world.specs.Step.{IsStep}
+use Rattle.platform_world.specs.Script.{roster_in, event_in}
+
+-- ---- lines
+
+-- the numbers of what was sent by an event, where this many were sent before and so many afterwards
+abbrev pub numbers_sent : ℕ → ℕ → List ℕ
+numbers_sent before after = range_with_len (before + 1) (after - before)
+
+-- the number of a bill among those that the script signed, counted from this one
+abbrev pub number_from : ℕ → Checksum → List Checksum → Option ℕ
+number_from n bill [] = None
+number_from n bill (name ∷ names) = if checksum_eq name bill then Some n else number_from (n + 1) bill names
+
+-- the number of the bill that an answer shows, if the script signed it
+abbrev pub number_shown : List Checksum → Answer → Option ℕ
+number_shown signed (Replied (Done view)) = number_from 1 view.bill signed
+number_shown signed answer = None
+
+-- the line that answers the event of this number
+abbrev pub line_after : ℕ → WorldRecord → Answer → WorldRecord → List ℕ
+line_after n before answer after =
+    answer_line n (numbers_sent (length before.sent) (length after.sent)) (number_shown after.signed answer) answer
+
+-- the line of a bill of this number
+abbrev pub bill_line_in : WorldRecord → ℕ → Checksum → List ℕ
+bill_line_in w n bill = bill_line n (histories_of bill (family_of w)) (platforms_of w) (settled_for bill w)
+
+-- a line for each of these bills, numbered from here
+abbrev pub bill_lines_from : WorldRecord → ℕ → List Checksum → List ℕ
+bill_lines_from w n [] = []
+bill_lines_from w n (bill ∷ bills) = bill_line_in w n bill ++ bill_lines_from w (n + 1) bills
+
+-- a line for each bill that the script signed, in their order
+abbrev pub bill_lines : WorldRecord → List ℕ
+bill_lines w = bill_lines_from w 1 w.signed
+
+-- ---- runs
+
+-- an event that happened: the world before it, its fate, its answer, and the world after it
+pub record Happened : Type 0 where
+  pub before : WorldRecord
+  pub event : EventRecord
+  pub fate : Fate
+  pub answer : Answer
+  pub after : WorldRecord
+
+-- how a run ends
+pub data RunEnd : Type 0 where
+  -- each line was answered, and the bill lines stand
+  complete : RunEnd
+  -- the line of this number is the first outside the grammar
+  bad_line : ℕ → RunEnd
+  -- before a line
+  stopped : RunEnd
+
+-- what happened in a run, the lines that answer it, the bill lines, and how it ends
+pub record Run : Type 0 where
+  pub happened : List Happened
+  pub answers : List (List ℕ)
+  pub bills : List ℕ
+  pub end : RunEnd
+
+-- no event more, and these bill lines
+abbrev pub Ends : RunEnd → List ℕ → List Fate → Run → Type 0
+Ends end bills fates run =
+    (fates ≡ []) × (run ≡ record { happened = []; answers = []; bills = bills; end = end })
+
+-- a run with an event and its line in front
+abbrev pub after_event : Happened → List ℕ → Run → Run
+after_event h line run = record run { happened = h ∷ run.happened; answers = line ∷ run.answers }
+
+-- an event is answered by a line, and the rest of the run goes on from the world after it; no event is a bad line
+abbrev pub OnEvent : Option EventRecord → WorldRecord → ℕ → List Fate → Run → (WorldRecord → List Fate → Run → Type 0)
+    → Type 0
+OnEvent None w n fates run Rest = Ends (bad_line (n + 1)) [] fates run
+OnEvent (Some event) w n [] run Rest = ⊥
+OnEvent (Some event) w n (fate ∷ fates) run Rest =
+    (answer : Answer) × (after : WorldRecord) × (rest : Run)
+    × IsStep w event fate answer after
+    × (run ≡ after_event
+    (record { before = w; event = event; fate = fate; answer = answer; after = after })
+    (line_after n w answer after) rest)
+    × Rest after fates rest
+
+-- a script has at most 100,000 lines, so at most 99,999 events
+abbrev pub OnNumbered : RosterRecord → List ℕ → WorldRecord → ℕ → List Fate → Run
+    → (WorldRecord → List Fate → Run → Type 0) → Type 0
+OnNumbered roster line w n fates run Rest = MatchBool (nat_le 100000 n)
+    (Ends (bad_line (n + 1)) [] fates run)
+    (OnEvent (event_in roster line) w n fates run Rest)
+
+-- the events of these lines, from the world before the event n on
+abbrev pub Runs : RosterRecord → List (List ℕ) → WorldRecord → ℕ → List Fate → Run → Type 0
+Runs roster [] w n fates run = Ends stopped [] fates run ⊎ Ends complete (bill_lines w) fates run
+Runs roster (line ∷ lines) w n fates run =
+    Ends stopped [] fates run
+    ⊎ OnNumbered roster line w n fates run (λ after fs rest. Runs roster lines after (n + 1) fs rest)
+
+-- the first line gives the roster
+abbrev pub OnRoster : Option RosterRecord → List Keys → List (List ℕ) → List Fate → Run → Type 0
+OnRoster None rings lines fates run = Ends (bad_line 1) [] fates run
+OnRoster (Some roster) rings lines fates run = Runs roster lines (opening roster rings) 1 fates run
+
+abbrev pub RunsLines : List (List ℕ) → List Keys → List Fate → Run → Type 0
+RunsLines [] rings fates run = Ends stopped [] fates run ⊎ Ends (bad_line 1) [] fates run
+RunsLines (line ∷ lines) rings fates run = Ends stopped [] fates run ⊎ OnRoster (roster_in line) rings lines fates run
+
+-- a run of this script with these rings, sixteen for each platform in the roster's order, whose events have these fates
+abbrev pub RunsScript : List ℕ → List Keys → List Fate → Run → Type 0
+RunsScript script rings fates run = RunsLines (parts_of 10 script) rings fates run
+
+-- a run of this script, whatever the fates of its events
+abbrev pub IsRunOf : List ℕ → List Keys → Run → Type 0
+IsRunOf script rings run = (fates : List Fate) × RunsScript script rings fates run

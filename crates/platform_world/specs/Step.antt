@@ -1,0 +1,174 @@
+-- What an event is answered, and the world after it, by its fate.
+use Rattle.std.specs.Prelude.{◌≡◌, ◌⊎◌, ℕ, zero, suc, List, [], ◌∷◌, ◌++◌, Bool, Option, Some, None, Result, Ok, Err, map, option_map, unwrap_or}
+use Rattle.std.specs.Option.{option_or, option_to_list}
+use Rattle.ebl_base.specs.declared.checksum.Checksum.{Checksum}
+use Rattle.ebl_base.specs.declared.moment.Moment.{Moment}
+use Rattle.ebl_base.specs.declared.platform_code.PlatformCode.{PlatformCode}
+use Rattle.canonical_json.specs.Canon.{canon}
+use Rattle.transport_document.specs.DocumentRecord.{DocumentRecord, bill_of}
+use Rattle.transport_document.specs.Reading.{document_of}
+use Rattle.transport_document.specs.declared.fault.DocumentFault.{DocumentFault}
+use Rattle.envelope_manifest.specs.Body.{BodyRecord, body_in}
+use Rattle.envelope_manifest.specs.declared.fault.BodyField.{BodyField}
+use Rattle.holder_commands.specs.Command.{signs}
+use Rattle.upload_state.specs.Started.{started_value}
+use Rattle.platform_requests.specs.Request.{RequestRecord}
+use Rattle.platform_requests.specs.Request as requests
+use Rattle.platform_requests.specs.Shard.{shard_of}
+use Rattle.platform_requests.specs.declared.message.Message.{Message}
+use Rattle.platform_requests.specs.declared.message.Message.TheVariants as messages
+use Rattle.platform_requests.specs.declared.reply.Reply.{Reply}
+use Rattle.platform_requests.specs.declared.reply.Reply.TheVariants as replies
+use Rattle.platform_machine.specs.declared.step.Step.{Step}
+use Rattle.platform_machine.specs.Machine.{MayBeAsked, Steps}
+use Rattle.platform_machine.specs.Step.{with_frame}
+use Rattle.world_script.specs.Event.{EventRecord}
+use Rattle.answer_lines.specs.declared.answer.Answer.{Answer}
+use Rattle.answer_lines.specs.declared.answer.Answer.TheVariants.{Replied}
+use Rattle.answer_lines.specs.declared.parcel.Parcel.{Parcel}
+use Rattle.answer_lines.specs.declared.parcel.Content.{Content}
+use Rattle.answer_lines.specs.declared.parcel.Content.TheVariants as contents
+use Rattle.platform_world.specs.declared.fate.Fate.{Fate}
+use Rattle.platform_world.specs.declared.fate.FateEnd.TheVariants.{Whole, SignFault}
+use Rattle.platform_world.specs.World.{ShardState, WorldRecord, shard_at, with_shard}
+use Rattle.platform_world.specs.declared.happening.Sender.{Sender}
+use Rattle.platform_world.specs.declared.parcels.ReplyKind.{ReplyKind}
+use Rattle.platform_world.specs.declared.parcels.ReplyKind.TheVariants as kinds
+use Rattle.platform_world.specs.Happening.{Asking, Happening, answers, asks, comes_to}
+
+-- ---- what is sent
+
+-- a message of a platform's own
+abbrev pub message_parcel : PlatformCode → Message → Parcel
+message_parcel from (messages.Start to bill body) =
+    record { from = from; to = Some to; bill = bill; content = contents.Start body }
+message_parcel from (messages.Put to bill reference checksum bytes) =
+    record { from = from; to = Some to; bill = bill; content = contents.Put reference checksum bytes }
+message_parcel from (messages.Finish to bill reference) =
+    record { from = from; to = Some to; bill = bill; content = contents.Finish reference }
+
+-- which requests have a reply that is sent
+abbrev pub kind_of : RequestRecord → ReplyKind
+kind_of (requests.starts body) = kinds.Start
+kind_of (requests.puts reference checksum bytes) = kinds.Finish
+kind_of (requests.finishes reference) = kinds.Finish
+kind_of request = kinds.Unsent
+
+-- what is sent as the reply: of a START the Started, as canonical JSON, or the signed answer; of a PUT and a FINISH the
+-- signed answer
+abbrev pub reply_content : ReplyKind → Reply → Option Content
+reply_content kinds.Start (replies.Started reference missing) =
+    Some (contents.StartReply (canon (started_value (record { reference = reference; missing = missing }))))
+reply_content kinds.Start (replies.Answer response text) = Some (contents.StartReply text.0)
+reply_content kinds.Finish (replies.Answer response text) = Some (contents.FinishReply text.0)
+reply_content kind reply = None
+
+-- ---- the bill of an exchange
+
+-- where no bill was read, 32 zero bytes stand for it
+abbrev pub no_bill : Checksum
+no_bill = record {
+  0 =
+      0 ∷ 0 ∷ 0 ∷ 0 ∷ 0 ∷ 0 ∷ 0 ∷ 0 ∷ 0 ∷ 0 ∷ 0 ∷ 0 ∷ 0 ∷ 0 ∷ 0 ∷ 0
+      ∷ 0 ∷ 0 ∷ 0 ∷ 0 ∷ 0 ∷ 0 ∷ 0 ∷ 0 ∷ 0 ∷ 0 ∷ 0 ∷ 0 ∷ 0 ∷ 0 ∷ 0 ∷ 0 ∷ [];
+}
+
+-- the bill of a document, of a body's document
+abbrev pub document_bill : Result DocumentRecord DocumentFault → Option Checksum
+document_bill (Ok document) = Some (bill_of document)
+document_bill (Err fault) = None
+
+abbrev pub body_bill : Result BodyRecord BodyField → Option Checksum
+body_bill (Ok body) = document_bill (document_of body.document)
+body_bill (Err field) = None
+
+-- the bill that a reply names
+abbrev pub reply_bill : Reply → Option Checksum
+reply_bill (replies.Answer response text) = response.bill
+reply_bill reply = None
+
+-- the bill of the document that a START brings
+abbrev pub request_bill : RequestRecord → Option Checksum
+request_bill (requests.starts body) = body_bill (body_in body)
+request_bill request = None
+
+-- the bill that was read of bytes from outside: that of the document which they bring, or else the one that the reply
+-- names
+abbrev pub bill_read : RequestRecord → Reply → Option Checksum
+bill_read request reply = option_or (request_bill request) (reply_bill reply)
+
+-- a reply goes to the sender, for the bill of what was delivered; of bytes from outside it is for nobody, for the bill
+-- that was read
+abbrev pub reply_parcel : PlatformCode → Option Sender → Option Checksum → Content → Parcel
+reply_parcel from (Some sender) bill content =
+    record { from = from; to = Some sender.platform; bill = sender.bill; content = content }
+reply_parcel from None bill content =
+    record { from = from; to = None; bill = unwrap_or bill no_bill; content = content }
+
+abbrev pub reply_parcels : Asking → Reply → List Parcel
+reply_parcels a reply =
+    option_to_list (option_map (reply_parcel a.at a.sender (bill_read a.request reply))
+    (reply_content (kind_of a.request) reply))
+
+-- the messages of the platform's own in their order, then the reply
+abbrev pub parcels_of : Asking → Reply → List Message → List Parcel
+parcels_of a reply own = map (message_parcel a.at) own ++ reply_parcels a reply
+
+-- ---- bills that were signed
+
+-- a SIGN that is done signs its bill
+abbrev pub bills_signed : RequestRecord → Reply → List Checksum
+bills_signed (requests.commands party (signs document)) (replies.Done view) = view.bill ∷ []
+bills_signed request reply = []
+
+-- ---- steps
+
+-- the world after a step of a shard
+abbrev pub world_after : WorldRecord → Asking → ShardState → Step → WorldRecord
+world_after w a shard step = record {
+  roster = w.roster;
+  platforms = with_shard a.at (shard_of a.request)
+      (record shard { diary = with_frame shard.diary step.frame }) w.platforms;
+  sent = w.sent ++ parcels_of a step.reply step.messages;
+  signed = w.signed ++ bills_signed a.request step.reply;
+}
+
+-- at the moment of a command; what is no command may come at any
+abbrev pub IsAt : Option Moment → Moment → Type 0
+IsAt None now = Unit {0}
+IsAt (Some moment) now = now ≡ moment
+
+-- the shard of a request, which isn't loose and may be asked it, takes it by a step of the machine
+pub record Takes (w : WorldRecord) (a : Asking) (answer : Answer) (after : WorldRecord) : Type 0 where
+  pub shard : ShardState
+  pub is_asked : shard_at a.at (shard_of a.request) w.platforms ≡ Some shard
+  pub not_loose : shard.loose ≡ None
+  pub now : Moment
+  pub moment : IsAt a.now now
+  pub may : MayBeAsked shard.diary now a.request
+  pub step : Step
+  pub steps : Steps w.roster shard.keys a.at shard.diary now a.request step
+  pub answer_is : answer ≡ Replied step.reply
+  pub after_is : after ≡ world_after w a shard step
+
+-- the ring failed to sign, and nothing changed
+abbrev pub FailsToSign : WorldRecord → Answer → WorldRecord → Type 0
+FailsToSign w answer after = (answer ≡ Replied replies.Sign) × (after ≡ w)
+
+-- no loose frame was kept
+abbrev pub IsWhole : Fate → Type 0
+IsWhole fate = (fate.end ≡ Whole) × (fate.kept ≡ [])
+
+abbrev pub IsSignFault : Fate → Type 0
+IsSignFault fate = (fate.end ≡ SignFault) × (fate.kept ≡ [])
+
+-- what happens is answered so, with this world after it: at once, and nothing changes; by the shard that is asked; or the
+-- ring fails
+abbrev pub Happens : WorldRecord → Happening → Fate → Answer → WorldRecord → Type 0
+Happens w (answers said) fate answer after = IsWhole fate × (answer ≡ said) × (after ≡ w)
+Happens w (asks a) fate answer after =
+    (IsWhole fate × Takes w a answer after) ⊎ (IsSignFault fate × FailsToSign w answer after)
+
+-- an event of this fate
+abbrev pub IsStep : WorldRecord → EventRecord → Fate → Answer → WorldRecord → Type 0
+IsStep w event fate answer after = Happens w (comes_to w.signed w.sent event) fate answer after
