@@ -122,7 +122,7 @@ fn assert_no_transaction(
     rt: &impl Abort,
     alloc: Global,
     what: &str,
-    end: &str,
+    end: &'static str,
 ) -> Result<(), Fail> {
     let text = [ISSUE, end];
     let parts = [Bytes("02"), Bytes(BILL), Text(&text)];
@@ -144,17 +144,19 @@ fn assert_no_listed_document(
     rt: &impl Abort,
     alloc: Global,
     what: &str,
-    end: &str,
+    end: &'static str,
 ) -> Result<(), Fail> {
     let text = [PIECE, end];
-    let parts = [Bytes("03"), Bytes(BILL), Text(&text), Text(&["abc"])];
+    let bytes = ["abc"];
+    let parts = [Bytes("03"), Bytes(BILL), Text(&text), Text(&bytes)];
     assert_refused(rt, alloc, what, &parts)
 }
 
 #[test]
 fn other_listed_documents(rt: HostRuntime) -> Result<(), Fail> {
     let right = [PIECE, "}"];
-    let parts = [Bytes("03"), Bytes(BILL), Text(&right), Text(&["abc"])];
+    let bytes = ["abc"];
+    let parts = [Bytes("03"), Bytes(BILL), Text(&right), Text(&bytes)];
     assert_content(&rt, rt.alloc(), ATTACHED, &parts)?;
     assert_no_listed_document(&rt, rt.alloc(), "a further member", r#","zzz":1}"#)?;
     assert_no_listed_document(&rt, rt.alloc(), "a blank", " }")?;
@@ -166,16 +168,20 @@ fn assert_no_parting(
     rt: &impl Abort,
     alloc: Global,
     what: &str,
-    texts: (&str, &str),
+    texts: (&'static str, &'static str),
 ) -> Result<(), Fail> {
     let (entry, manifest) = texts;
-    let parts = [Bytes("04"), Bytes(BILL), Text(&[entry]), Text(&[manifest])];
+    let entries = [entry];
+    let manifests = [manifest];
+    let parts = [Bytes("04"), Bytes(BILL), Text(&entries), Text(&manifests)];
     assert_refused(rt, alloc, what, &parts)
 }
 
 #[test]
 fn other_signed_texts(rt: HostRuntime) -> Result<(), Fail> {
-    let parts = [Bytes("04"), Bytes(BILL), Text(&[ENTRY]), Text(&[MANIFEST])];
+    let entries = [ENTRY];
+    let manifests = [MANIFEST];
+    let parts = [Bytes("04"), Bytes(BILL), Text(&entries), Text(&manifests)];
     assert_content(&rt, rt.alloc(), PARTED, &parts)?;
     assert_no_parting(&rt, rt.alloc(), "two entries", (ENTRY, ENTRY))?;
     assert_no_parting(&rt, rt.alloc(), "two manifests", (MANIFEST, MANIFEST))?;
@@ -350,12 +356,14 @@ fn assert_no_evidence(
     rt: &impl Abort,
     alloc: Global,
     what: &str,
-    fronts: (&str, &str),
+    fronts: (&'static str, &'static str),
 ) -> Result<(), Fail> {
     let (first, second) = fronts;
     let names = [Bytes("0a"), Bytes(BILL), Bytes(FIRST), Bytes("02")];
     let mut bytes = content(alloc, &names)?;
-    let texts = [Bytes(first), Text(&[ENTRY]), Bytes(second), Text(&[RETURN])];
+    let entries = [ENTRY];
+    let returns = [RETURN];
+    let texts = [Bytes(first), Text(&entries), Bytes(second), Text(&returns)];
     bytes.extend_from_slice(&content(alloc, &texts)?)?;
     assert!(rt; is_refused(alloc, &bytes), "{what}");
     Ok(())
@@ -365,7 +373,9 @@ fn assert_no_evidence(
 fn other_evidence(rt: HostRuntime) -> Result<(), Fail> {
     let names = [Bytes("0a"), Bytes(BILL), Bytes(FIRST), Bytes("02")];
     let mut right = content(rt.alloc(), &names)?;
-    let texts = [Bytes("0201"), Text(&[ENTRY]), Bytes("02"), Text(&[RETURN])];
+    let entries = [ENTRY];
+    let returns = [RETURN];
+    let texts = [Bytes("0201"), Text(&entries), Bytes("02"), Text(&returns)];
     right.extend_from_slice(&content(rt.alloc(), &texts)?)?;
     assert_eq!(rt;
         right.as_slice(),
@@ -382,7 +392,8 @@ fn other_evidence(rt: HostRuntime) -> Result<(), Fail> {
 fn evidence_in_no_layout(rt: HostRuntime) -> Result<(), Fail> {
     let names = [Bytes("0a"), Bytes(BILL), Bytes(FIRST), Bytes("02")];
     let mut bytes = content(rt.alloc(), &names)?;
-    let text = [Bytes("0101"), Text(&["no text"])];
+    let none = ["no text"];
+    let text = [Bytes("0101"), Text(&none)];
     bytes.extend_from_slice(&content(rt.alloc(), &text)?)?;
     assert!(rt; is_refused(rt.alloc(), &bytes));
     Ok(())
