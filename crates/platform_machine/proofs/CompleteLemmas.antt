@@ -8,7 +8,7 @@ use Rattle.envelope_manifest.specs.declared.manifest.Manifest.{Manifest}
 use Rattle.party_roster.specs.RosterRecord.{RosterRecord}
 use Rattle.title_fold.specs.Title.{possessor}
 use Rattle.title_fold.specs.Fold.{Folded}
-use Rattle.bill_chain.specs.Chain.{platform_with, title_after_chain}
+use Rattle.bill_chain.specs.Chain.{platform_with, possessor_with, title_after_chain}
 use Rattle.bill_diary.specs.declared.frame.Frame.{Frame}
 use Rattle.bill_diary.specs.History.{history, newest_first}
 use Rattle.bill_diary.specs.Pieces.{missing_of}
@@ -17,11 +17,11 @@ use Rattle.bill_diary.specs.Receiving.{Declination, continues, last_declined}
 use Rattle.transfer_judge.specs.declared.judgement.Judgement.{Judgement}
 use Rattle.transfer_judge.specs.declared.judgement.Judgement.TheVariants as judgements
 use Rattle.transfer_judge.specs.Dispute.{evidence_of}
-use Rattle.transfer_judge.specs.Judgement.{judgement_by, judgement_here, judgement_of, on_declined, on_dispute, on_last, on_missing, on_receiver, on_receiver_here, on_taken, receiver_of, receiver_with}
+use Rattle.transfer_judge.specs.Judgement.{judgement_by, judgement_here, judgement_of, on_declined, on_dispute, on_last, on_missing, on_receiver, on_receiver_here, on_taken, receiver_of}
 use Rattle.platform_machine.specs.Complete.{HasNoObjection}
 
 here_on : (me : PlatformCode) (folded : Folded) (receiver : Party) → platform_with folded ≡ Some me
-    → receiver_with folded ≡ Some receiver → receiver.platform ≡ me
+    → possessor_with folded ≡ Some receiver → receiver.platform ≡ me
 here_on me (Err at) receiver goes is = cc goes
 here_on me (Ok None) receiver goes is = cc goes
 here_on me (Ok (Some title)) receiver goes is =

@@ -8,13 +8,13 @@ use Rattle.envelope_manifest.specs.declared.manifest.Manifest.{Manifest}
 use Rattle.party_roster.specs.RosterRecord.{RosterRecord}
 use Rattle.title_fold.specs.Title.{possessor}
 use Rattle.title_fold.specs.Fold.{Folded}
-use Rattle.bill_chain.specs.Chain.{destination, last_of, platform_with, title_after_chain}
+use Rattle.bill_chain.specs.Chain.{destination, last_of, platform_with, possessor_with, title_after_chain}
 use Rattle.bill_diary.specs.declared.record.Record.{Record}
 use Rattle.bill_diary.specs.History.{of_bill}
 use Rattle.bill_diary.specs.Receiving.{is_taken, last_declined}
 use Rattle.transfer_judge.specs.declared.judgement.Judgement.{Judgement}
 use Rattle.transfer_judge.specs.declared.judgement.Judgement.TheVariants as judgements
-use Rattle.transfer_judge.specs.Judgement.{judgement_at_place, judgement_by, judgement_here, judgement_of, on_declined, on_last, on_receiver_here, on_taken, receiver_of, receiver_with}
+use Rattle.transfer_judge.specs.Judgement.{judgement_at_place, judgement_by, judgement_here, judgement_of, on_declined, on_last, on_receiver_here, on_taken, receiver_of}
 
 -- a chain that goes to a platform gives a party there possession
 record HasReceiver (me : PlatformCode) (o : Option Party) : Type 0 where
@@ -23,7 +23,7 @@ record HasReceiver (me : PlatformCode) (o : Option Party) : Type 0 where
   here : receiver.platform ≡ me
 
 receiver_on : (me : PlatformCode) (folded : Folded) → platform_with folded ≡ Some me
-    → HasReceiver me (receiver_with folded)
+    → HasReceiver me (possessor_with folded)
 receiver_on me (Err at) goes = cc goes
 receiver_on me (Ok None) goes = cc goes
 receiver_on me (Ok (Some title)) goes = record { receiver = possessor title; receiver_is = refl; here = cc goes }

@@ -19,7 +19,7 @@ use Rattle.envelope_manifest.specs.declared.manifest.Manifest.{Manifest}
 use Rattle.party_roster.specs.RosterRecord.{RosterRecord, knows}
 use Rattle.title_fold.specs.Title.{possessor}
 use Rattle.title_fold.specs.Fold.{Folded}
-use Rattle.bill_chain.specs.Chain.{last_of, platform_with, title_after_chain, IsChainOfBill}
+use Rattle.bill_chain.specs.Chain.{last_of, platform_with, possessor_with, title_after_chain, IsChainOfBill}
 use Rattle.transfer_chain.specs.GoodChain.{IsLink, AreLinks}
 use Rattle.bill_diary.specs.declared.record.Record.{Record}
 use Rattle.bill_diary.specs.declared.record.Record.TheVariants.{Signed, Acted, Attached, Parted, Settled, Regained, Begun, Stored, Taken, Declined}
@@ -33,7 +33,7 @@ use Rattle.bill_diary.specs.Sound.{MayReceive, MayFollow, MayFollowEach, MayFoll
 use Rattle.transfer_judge.specs.declared.judgement.Judgement.{Judgement}
 use Rattle.transfer_judge.specs.declared.judgement.Judgement.TheVariants as judgements
 use Rattle.transfer_judge.specs.Dispute.{evidence_of}
-use Rattle.transfer_judge.specs.Judgement.{receiver_of, receiver_with, on_missing, on_receiver, on_dispute, on_declined, on_taken, on_receiver_here, on_last, judgement_of}
+use Rattle.transfer_judge.specs.Judgement.{receiver_of, on_missing, on_receiver, on_dispute, on_declined, on_taken, on_receiver_here, on_last, judgement_of}
 use Rattle.transfer_judge.specs.Legal.{IsReceivable, FollowsLegally, FollowEachLegally, FollowsDiaryLegally, AreLegal, IsLegal}
 
 -- ---- a chain that isn't refused
@@ -94,7 +94,7 @@ record NoRefusal (P : Judgement → Type 0) : Type 0 where
 -- ---- what it says
 
 -- the destination is the platform of the possessor
-destination_on : (folded : Folded) (receiver : Party) → receiver_with folded ≡ Some receiver
+destination_on : (folded : Folded) (receiver : Party) → possessor_with folded ≡ Some receiver
     → platform_with folded ≡ Some receiver.platform
 destination_on (Err at) receiver is = absurd (let no : None ≡ Some receiver = is in cc)
 destination_on (Ok None) receiver is = absurd (let no : None ≡ Some receiver = is in cc)

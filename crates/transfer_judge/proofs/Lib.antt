@@ -5,7 +5,6 @@ pub mod FrameLemmas
 pub mod SigningLemmas
 pub mod BegunLemmas
 pub mod SealLemmas
-pub mod ReceiverLemmas
 pub mod PlanLemmas
 pub mod ListedLemmas
 pub mod FormLemmas

@@ -12,7 +12,7 @@ use Rattle.ebl_base.specs.declared.platform_code.PlatformCode.{PlatformCode}
 use Rattle.envelope_manifest.specs.declared.manifest.Manifest.{Manifest}
 use Rattle.envelope_manifest.specs.declared.piece.Piece.{Piece}
 use Rattle.party_roster.specs.RosterRecord.{RosterRecord, knows}
-use Rattle.bill_chain.specs.Chain.{last_of}
+use Rattle.bill_chain.specs.Chain.{common_front, last_of}
 use Rattle.bill_diary.specs.declared.record.Record.{Record}
 use Rattle.bill_diary.specs.declared.record.Record.TheVariants.{Signed, Acted, Attached, Parted, Settled, Regained, Begun, Stored, Taken, Declined}
 use Rattle.bill_diary.specs.History.{of_bill}
@@ -25,7 +25,7 @@ use Rattle.bill_diary.proofs.HistoryLemmas.{sound_alone}
 use Rattle.bill_diary.proofs.TextLemmas.{chain_at_texts}
 use Rattle.transfer_judge.specs.declared.judgement.Judgement.{Judgement}
 use Rattle.transfer_judge.specs.declared.judgement.Judgement.TheVariants as judgements
-use Rattle.transfer_judge.specs.Dispute.{place_of_parting, text_at, evidence_of}
+use Rattle.transfer_judge.specs.Dispute.{text_at, evidence_of}
 use Rattle.transfer_judge.specs.Judgement.{receiver_of, on_missing, on_dispute, on_declined, on_receiver_here, on_last, judgement_here, judgement_at_place, judgement_of}
 use Rattle.transfer_judge.specs.Sealing.{CanBeSealed}
 
@@ -133,7 +133,7 @@ pub judged_can_be_sealed : (roster : RosterRecord) (me : PlatformCode) (bill : C
 judged_can_be_sealed roster me bill records chain manifest sound shown_are count =
     let h = of_bill bill records in
     let place = place_of h in
-    let at = place_of_parting (chain_at place) chain in
+    let at = common_front (chain_at place) chain in
     let own_are = chain_at_texts me h (sound_alone me bill records sound) in
     let missing = few (λ (c : Checksum). not (is_there h c)) manifest.documents 16 count in
     fine_last (last_of chain) (λ last. on_receiver_here me (receiver_of chain)

@@ -1,29 +1,23 @@
 -- The evidence of a dispute: the entries at which the chain that is known here and the one that was shown part.
 use Rattle.std.specs.Prelude.{ℕ, List, Option, Some, None, option_map, slice_get, if◌then◌else◌}
-use Rattle.std.specs.List.{common_prefix_len}
 use Rattle.std.specs.Option.{option_or}
-use Rattle.ebl_base.specs.Checksum.{checksum_eq}
 use Rattle.ebl_base.specs.declared.chain.ChainLink.{ChainLink}
 use Rattle.ebl_base.specs.declared.evidence.Evidence.{Evidence}
 use Rattle.ebl_base.specs.declared.signed_text.SignedText.{SignedText}
-use Rattle.bill_chain.specs.Chain.{last_of, names_of}
+use Rattle.bill_chain.specs.Chain.{common_front, last_of}
 use Rattle.bill_diary.specs.declared.bill_place.BillPlace.{BillPlace}
 use Rattle.bill_diary.specs.Place.{chain_at}
 use Rattle.bill_diary.specs.Receiving.{continues}
-
--- the first place at which two chains have entries of different names, or one of them has none
-abbrev pub place_of_parting : List ChainLink → List ChainLink → ℕ
-place_of_parting own shown = common_prefix_len checksum_eq (names_of own) (names_of shown)
 
 -- the text of a chain's entry at a place; of the last one where there is none; none where the chain is empty
 abbrev pub text_at : ℕ → List ChainLink → Option SignedText
 text_at place chain = option_map (λ link. link.text) (option_or (slice_get chain place) (last_of chain))
 
--- the texts of both chains there
+-- the texts of both chains at the first place where they have entries of different names, or one of them has none
 abbrev pub evidence_of : List ChainLink → List ChainLink → Evidence
 evidence_of own shown = record {
-  own = text_at (place_of_parting own shown) own;
-  theirs = text_at (place_of_parting own shown) shown;
+  own = text_at (common_front own shown) own;
+  theirs = text_at (common_front own shown) shown;
 }
 
 -- what disputes a chain that doesn't continue the place

@@ -1,5 +1,5 @@
 -- The judgement of a chain with its manifest, by a diary: seven cases, of which the first that applies is given.
-use Rattle.std.specs.Prelude.{Bool, List, [], ◌∷◌, Option, Some, None, Ok, Err, option_map, if◌then◌else◌}
+use Rattle.std.specs.Prelude.{Bool, List, [], ◌∷◌, Option, Some, None, if◌then◌else◌}
 use Rattle.ebl_base.specs.PlatformCode.{code_eq}
 use Rattle.ebl_base.specs.declared.chain.ChainLink.{ChainLink}
 use Rattle.ebl_base.specs.declared.checksum.Checksum.{Checksum}
@@ -8,9 +8,7 @@ use Rattle.ebl_base.specs.declared.party.Party.{Party}
 use Rattle.ebl_base.specs.declared.platform_code.PlatformCode.{PlatformCode}
 use Rattle.envelope_manifest.specs.declared.manifest.Manifest.{Manifest}
 use Rattle.party_roster.specs.RosterRecord.{RosterRecord, knows}
-use Rattle.title_fold.specs.Title.{possessor}
-use Rattle.title_fold.specs.Fold.{Folded}
-use Rattle.bill_chain.specs.Chain.{last_of, title_after_chain}
+use Rattle.bill_chain.specs.Chain.{last_of, possessor_after}
 use Rattle.bill_diary.specs.declared.record.Record.{Record}
 use Rattle.bill_diary.specs.History.{of_bill}
 use Rattle.bill_diary.specs.Place.{place_of}
@@ -22,13 +20,9 @@ use Rattle.transfer_judge.specs.Dispute.{dispute_of}
 
 -- ---- the party that is to have possession
 
-abbrev pub receiver_with : Folded → Option Party
-receiver_with (Ok title) = option_map possessor title
-receiver_with (Err at) = None
-
 -- the possessor after a chain, if there is one
 abbrev pub receiver_of : List ChainLink → Option Party
-receiver_of chain = receiver_with (title_after_chain chain)
+receiver_of chain = possessor_after chain
 
 -- ---- the cases
 

@@ -1,8 +1,9 @@
 //! Disputes: where the chain that is known here and the one that was shown part.
 ghost use Rattle.std.specs.Prelude.{◌≡◌, ◌∷◌, [], ◌++◌, IfOk, Some, None, if◌then◌else◌, option_copied, option_map};
 ghost use Rattle.bill_chain.specs.Chain.{goes_beyond};
-ghost use Rattle.transfer_judge.specs.Dispute.{dispute_of, evidence_of, place_of_parting, text_at};
+ghost use Rattle.transfer_judge.specs.Dispute.{dispute_of, evidence_of, text_at};
 
+use bill_chain::{common_front, goes_beyond, last_link};
 use bill_diary::BillPlace;
 use ebl_base::{Chain, ChainLink, Copied, Evidence, NoMemory, SignedText};
 use std::alloc::Global;
@@ -31,36 +32,19 @@ fn unless_beyond(alloc: Global, own: &Chain, shown: &Chain) -> Result<Option<Evi
     ensures { IfOk result (λ evidence. evidence
         ≡ (if goes_beyond own.now shown.now then None else Some (evidence_of own.now shown.now))) }
 {
-    if goes_beyond(own, shown) {
+    if goes_beyond(own.as_slice(), shown.as_slice()) {
         return Ok(None);
     }
     Ok(Some(evidence(alloc, own, shown)?))
 }
 
-fn goes_beyond(own: &Chain, shown: &Chain) -> bool
-    ensures { result ≡ goes_beyond own.now shown.now }
-{
-    place_of_parting(own.as_slice(), shown.as_slice()) == own.len() && own.len() < shown.len()
-}
-
 fn evidence(alloc: Global, own: &Chain, shown: &Chain) -> Result<Evidence, NoMemory>
     ensures { IfOk result (λ evidence. evidence ≡ evidence_of own.now shown.now) }
 {
-    let place = place_of_parting(own.as_slice(), shown.as_slice());
+    let place = common_front(own.as_slice(), shown.as_slice());
     let own = text_at(alloc, place, own.as_slice())?;
     let theirs = text_at(alloc, place, shown.as_slice())?;
     Ok(Evidence { own, theirs })
-}
-
-// How many entries of two chains have the same names, from the first on.
-fn place_of_parting(own: &[ChainLink], shown: &[ChainLink]) -> usize
-    ensures { result ≡ place_of_parting own.now shown.now }
-{
-    let mut place = 0;
-    while place < own.len() && place < shown.len() && own[place].name == shown[place].name {
-        place += 1;
-    }
-    place
 }
 
 // The text of the entry at a place, or of the last one.
@@ -78,6 +62,6 @@ fn link_at(place: usize, chain: &[ChainLink]) -> Option<&ChainLink>
 {
     match chain.get(place) {
         Some(link) => Some(link),
-        None => chain.last(),
+        None => last_link(chain),
     }
 }

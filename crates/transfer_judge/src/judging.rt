@@ -1,23 +1,20 @@
 //! Judging a chain by a diary.
-ghost use Rattle.std.specs.Prelude.{◌≡◌, IfOk, option_copied};
-ghost use Rattle.bill_chain.specs.Chain.{last_of};
+ghost use Rattle.std.specs.Prelude.{◌≡◌, IfOk};
 ghost use Rattle.bill_diary.specs.History.{history, newest_first};
 ghost use Rattle.bill_diary.specs.Pieces.{missing_of};
-ghost use Rattle.transfer_judge.specs.Judgement.{judgement_at_place, judgement_here, judgement_by, receiver_of};
+ghost use Rattle.transfer_judge.specs.Judgement.{judgement_at_place, judgement_here, judgement_by};
 ghost use Rattle.transfer_judge.specs.declared.judgement.Judgement.TheVariants.{Declined};
 
 use crate::dispute::dispute;
 use crate::judgement::Judgement;
-use bill_diary::{
-    Declination, Diary, has_bytes, is_taken, last_declined, place, title_after_chain,
-};
+use bill_chain::{last_link, possessor_after};
+use bill_diary::{Declination, Diary, has_bytes, is_taken, last_declined, place};
 use ebl_base::{
     Chain, ChainLink, Checksum, ChecksumList, Copied, Items, NoMemory, Party, PlatformCode,
 };
 use envelope_manifest::Manifest;
 use party_roster::Roster;
 use std::alloc::Global;
-use title_fold::possessor;
 
 /// What a platform makes of a chain with its manifest, by its diary: the first of the seven judgements that applies.
 ///
@@ -35,10 +32,10 @@ pub fn judge(
     ensures { IfOk result (λ judgement. judgement
         ≡ judgement_by roster.now me (newest_first d.now) c.now m.now) }
 {
-    let Some(last) = last_of(c) else {
+    let Some(last) = last_link(c.as_slice()) else {
         return Ok(Judgement::Elsewhere);
     };
-    let Some(receiver) = receiver(c) else {
+    let Some(receiver) = possessor_after(c.as_slice()) else {
         return Ok(Judgement::Elsewhere);
     };
     if receiver.platform != me {
@@ -66,24 +63,6 @@ fn judge_here(
     match last_declined(d, last.name) {
         Some(declined) => declined_again(alloc, declined),
         None => judge_at_place(alloc, d, roster, last.entry.bill, receiver, c, m),
-    }
-}
-
-// The last link of a chain.
-fn last_of(c: &Chain) -> Option<&ChainLink>
-    ensures { option_copied result ≡ last_of c.now }
-{
-    c.as_slice().last()
-}
-
-// The possessor after a chain.
-#[tactic(auto, using(crate::proofs::ReceiverLemmas::receivers))]
-fn receiver(c: &Chain) -> Option<Party>
-    ensures { result ≡ receiver_of c.now }
-{
-    match title_after_chain(c.as_slice()) {
-        Ok(Some(title)) => Some(possessor(title)),
-        _ => None,
     }
 }
 

@@ -7,5 +7,5 @@ use Rattle.transfer_judge.proofs.dispute.link_at.Goals as goal
 pub returns-in-None : goal.returns-in-None
 returns-in-None c =
     let past : length c.args.chain.now ≤ c.args.place = omega (arith, c.in-None.ensures.lookup.3) in
-    ap (option_map (λ (link : ChainLink). link.text)) c.last.ensures.value
+    ap (option_map (λ (link : ChainLink). link.text)) c.last_link.ensures
     ∙ text_past c.args.chain.now c.args.place past

@@ -1,6 +1,0 @@
-use Rattle.std.proofs.Common.{arith}
-use Rattle.bill_chain.proofs.ChainLemmas.{last_of-get}
-use Rattle.transfer_judge.proofs.judging.last_of.Goals as goal
-
-pub returns : goal.returns
-returns c = grind (arith, last_of-get c.args.c.now)
