@@ -22,4 +22,4 @@ pub mod Runs
 pub mod Rosters
 pub mod Undisputed
 pub mod Disputes
-pub mod BillLines
+pub mod Moments

@@ -3,4 +3,3 @@ pub mod Steady
 pub mod Honest
 pub mod Sending
 pub mod Run
-pub mod BillLine

@@ -88,3 +88,9 @@ pub data Reaches (roster : RosterRecord) (rings : Rings) : Network → Type 0 wh
   at_opening : Reaches roster rings (opening roster)
   after_event : (before after : Network) → Reaches roster rings before → Happens roster rings before after
       → Reaches roster rings after
+
+-- a later moment of the same run
+pub data LeadsTo (roster : RosterRecord) (rings : Rings) (n : Network) : Network → Type 0 where
+  at_once : LeadsTo roster rings n n
+  and_on : (before after : Network) → LeadsTo roster rings n before → Happens roster rings before after
+      → LeadsTo roster rings n after

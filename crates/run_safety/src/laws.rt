@@ -1,22 +1,24 @@
 //! Laws of runs. Each function does nothing: its contract is the law.
-ghost use Rattle.std.specs.Prelude.{◌≡◌, ◌≢◌, ℕ, false, List, Some, map};
+ghost use Rattle.std.specs.Prelude.{◌≡◌, ◌≢◌, ℕ, false, List, Some};
 ghost use Rattle.ebl_base.specs.declared.code.Code.TheVariants.{DisputedEnvelope};
-ghost use Rattle.ebl_base.specs.declared.reason.Reason.TheVariants.{Party};
+ghost use Rattle.ebl_base.specs.declared.reason.Reason.TheVariants as reasons;
 ghost use Rattle.party_roster.specs.RosterForm.{IsRoster};
 ghost use Rattle.party_roster.specs.RosterRecord.{RosterRecord};
 ghost use Rattle.platform_requests.specs.declared.reply.Reply.TheVariants.{Answer};
 ghost use Rattle.bill_diary.specs.History.{IsRecordOf};
 ghost use Rattle.bill_diary.specs.declared.record.Record.TheVariants.{Declined};
-ghost use Rattle.closed_family.specs.Chains.{IsAmong};
+ghost use Rattle.bill_diary.specs.Place.{may_act_by, place_of};
 ghost use Rattle.closed_family.specs.Family.{HasDistinctNames, IsClosedFamily, IsSafeFamily, IsSignedIn, IsSoundFamily, histories_of};
-ghost use Rattle.run_safety.specs.BillLine.{acting, end_of, is_forked};
+ghost use Rattle.closed_family.specs.Later.{IsEndedAt};
 ghost use Rattle.run_safety.specs.Network.{Network, diary_of};
-ghost use Rattle.run_safety.specs.Run.{Asked, Reaches};
+ghost use Rattle.run_safety.specs.Run.{Asked, LeadsTo, Reaches};
 ghost use Rattle.run_safety.specs.Steady.{IsSteady, Rings};
 
 use bill_diary::Frame;
-use closed_family::{closed_family_is_safe, line_of_a_safe_bill_is_known_at_its_end};
-use ebl_base::{Checksum, Code, Evidence, PlatformCode, Reason, SignedText};
+use closed_family::{
+    closed_family_is_safe, ended_bill_stays_in_later_families, nobody_acts_on_an_ended_bill,
+};
+use ebl_base::{Checksum, Code, Evidence, Party, PlatformCode, Reason, SignedText};
 use party_roster::{carriers_are_on_listed_platforms, platforms_are_apart};
 use pint_responses::{Response, sealed_response_is_unsealed};
 use platform_machine::steps_keep_a_diary_legal;
@@ -63,7 +65,7 @@ pub fn no_chain_is_disputed_in_a_run()
         → Reaches roster rings n → HasDistinctNames n.family → (p : PlatformCode) (i : ℕ) (diary : List Frame)
         → (bill entry : Checksum) (code : Code) (reason : Reason) (evidence : Evidence)
         → diary_of n.family p i ≡ Some diary
-        → IsRecordOf diary (Declined bill entry code reason evidence) → reason ≡ Party }
+        → IsRecordOf diary (Declined bill entry code reason evidence) → reason ≡ reasons.Party }
 {
     every_run_is_steady();
     carriers_are_on_listed_platforms();
@@ -72,18 +74,24 @@ pub fn no_chain_is_disputed_in_a_run()
     legal_diaries_sign_no_document_on_two_platforms();
 }
 
-/// What a bill line says of a bill that was signed: no two of its accepted chains part ways, and whoever may act on it,
-/// if anybody may, is on the one platform where it ends.
-pub fn bill_lines_of_a_run_have_one_end()
-    ensures forked { (roster : RosterRecord) (rings : Rings) (n : Network) → IsRoster roster → Reaches roster rings n
-        → HasDistinctNames n.family → (bill : Checksum) → IsSignedIn n.family bill
-        → (platforms : List PlatformCode) → is_forked (histories_of bill n.family) platforms ≡ false }
-    ensures acts { (roster : RosterRecord) (rings : Rings) (n : Network) → IsRoster roster → Reaches roster rings n
-        → HasDistinctNames n.family → (bill : Checksum) → IsSignedIn n.family bill
-        → (platforms : List PlatformCode) (p : PlatformCode)
-        → IsAmong p (acting (histories_of bill n.family) platforms)
-        → end_of (histories_of bill n.family) (map (λ member. member.platform) n.family) ≡ Some p }
+/// A bill whose surrender was accepted stays ended at every later moment of the run, at its carrier's platform, and
+/// nobody may act on it anywhere.
+pub fn ended_bill_stays_ended_in_a_run()
+    ensures ended { (roster : RosterRecord) (rings : Rings) (n later : Network) → IsRoster roster
+        → Reaches roster rings n → LeadsTo roster rings n later → HasDistinctNames later.family
+        → (bill : Checksum) (p : PlatformCode) (carrier : Party)
+        → IsEndedAt (place_of (histories_of bill n.family p)) carrier
+        → IsEndedAt (place_of (histories_of bill later.family p)) carrier }
+    ensures carrier { (roster : RosterRecord) (rings : Rings) (n : Network) → IsRoster roster
+        → Reaches roster rings n → HasDistinctNames n.family → (bill : Checksum) → IsSignedIn n.family bill
+        → (p : PlatformCode) (carrier : Party) → IsEndedAt (place_of (histories_of bill n.family p)) carrier
+        → carrier.platform ≡ p }
+    ensures nobody { (roster : RosterRecord) (rings : Rings) (n : Network) → IsRoster roster
+        → Reaches roster rings n → HasDistinctNames n.family → (bill : Checksum) → IsSignedIn n.family bill
+        → (p : PlatformCode) (carrier : Party) → IsEndedAt (place_of (histories_of bill n.family p)) carrier
+        → (q : PlatformCode) → may_act_by (histories_of bill n.family q) ≡ false }
 {
     every_run_stays_safe();
-    line_of_a_safe_bill_is_known_at_its_end();
+    ended_bill_stays_in_later_families();
+    nobody_acts_on_an_ended_bill();
 }

@@ -4,6 +4,6 @@
 mod laws;
 
 pub use laws::{
-    bill_lines_of_a_run_have_one_end, every_run_is_steady, every_run_stays_safe,
+    ended_bill_stays_ended_in_a_run, every_run_is_steady, every_run_stays_safe,
     no_chain_is_disputed_in_a_run,
 };
