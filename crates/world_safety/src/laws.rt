@@ -1,0 +1,23 @@
+//! Laws of runs of scripts. Each function does nothing: its contract is the law.
+ghost use Rattle.std.specs.Prelude.{ℕ, List};
+ghost use Rattle.ebl_base.specs.Parts.{parts_of};
+ghost use Rattle.signed_envelope.specs.KeyRing.{Keys};
+ghost use Rattle.platform_world.specs.Run.{IsRunOf, Run};
+ghost use Rattle.world_safety.specs.Safety.{HasEnoughRings, StaysSafe};
+
+use closed_family::line_of_a_safe_bill_is_known_at_its_end;
+use party_roster::{platforms_are_apart, read_rosters_are_well_formed};
+use run_safety::every_run_stays_safe;
+
+/// Every run of a script stays safe, whatever its commands are, whatever is delivered, repeated or left out, and
+/// whatever its foreign lines bring that is honest: after each event each bill is safe, its line says that nothing
+/// forks, and whoever may act is where it ends.
+pub fn every_run_of_a_script_stays_safe()
+    ensures { (script : List ℕ) (rings : List Keys) (run : Run) → HasEnoughRings (parts_of 10 script) rings
+        → IsRunOf script rings run → StaysSafe run }
+{
+    platforms_are_apart();
+    read_rosters_are_well_formed();
+    every_run_stays_safe();
+    line_of_a_safe_bill_is_known_at_its_end();
+}
