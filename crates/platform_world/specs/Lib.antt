@@ -1,4 +1,6 @@
 pub mod World
+pub mod Machine
+pub mod Platforms
 pub mod Happening
 pub mod Step
 pub mod Script

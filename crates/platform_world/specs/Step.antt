@@ -33,6 +33,7 @@ use Rattle.platform_world.specs.declared.fate.FateEnd.TheVariants.{Whole, SignFa
 use Rattle.platform_world.specs.World.{ShardState, WorldRecord, shard_at, with_shard}
 use Rattle.platform_world.specs.declared.happening.Sender.{Sender}
 use Rattle.platform_world.specs.declared.parcels.ReplyKind.{ReplyKind}
+use Rattle.platform_world.specs.declared.parcels.ReplyPath.{ReplyPath}
 use Rattle.platform_world.specs.declared.parcels.ReplyKind.TheVariants as kinds
 use Rattle.platform_world.specs.Happening.{Asking, Happening, answers, asks, comes_to}
 
@@ -92,11 +93,6 @@ abbrev pub request_bill : RequestRecord → Option Checksum
 request_bill (requests.starts body) = body_bill (body_in body)
 request_bill request = None
 
--- the bill that was read of bytes from outside: that of the document which they bring, or else the one that the reply
--- names
-abbrev pub bill_read : RequestRecord → Reply → Option Checksum
-bill_read request reply = option_or (request_bill request) (reply_bill reply)
-
 -- a reply goes to the sender, for the bill of what was delivered; of bytes from outside it is for nobody, for the bill
 -- that was read
 abbrev pub reply_parcel : PlatformCode → Option Sender → Option Checksum → Content → Parcel
@@ -105,14 +101,22 @@ reply_parcel from (Some sender) bill content =
 reply_parcel from None bill content =
     record { from = from; to = None; bill = unwrap_or bill no_bill; content = content }
 
-abbrev pub reply_parcels : Asking → Reply → List Parcel
-reply_parcels a reply =
-    option_to_list (option_map (reply_parcel a.at a.sender (bill_read a.request reply))
-    (reply_content (kind_of a.request) reply))
+-- what is sent: the messages of the platform's own in their order, then the reply, if one of this kind is sent
+abbrev pub sends : PlatformCode → Option Sender → ReplyKind → Option Checksum → Reply → List Message → List Parcel
+sends from sender kind bill reply own =
+    map (message_parcel from) own
+    ++ option_to_list (option_map (reply_parcel from sender (option_or bill (reply_bill reply))) (reply_content kind reply))
 
--- the messages of the platform's own in their order, then the reply
+-- the bill of the exchange is the one that the bytes from outside bring, or else the one that the reply names
 abbrev pub parcels_of : Asking → Reply → List Message → List Parcel
-parcels_of a reply own = map (message_parcel a.at) own ++ reply_parcels a reply
+parcels_of a reply own = sends a.at a.sender (kind_of a.request) (request_bill a.request) reply own
+
+-- the way of the reply to a request; the bill that the request brings counts where it has no sender
+pub record IsPathOf (a : Asking) (path : ReplyPath) : Type 0 where
+  pub from : path.from ≡ a.at
+  pub sender : path.sender ≡ a.sender
+  pub kind : path.kind ≡ kind_of a.request
+  pub brought : a.sender ≡ None → path.brought ≡ request_bill a.request
 
 -- ---- bills that were signed
 

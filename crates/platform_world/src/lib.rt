@@ -3,10 +3,18 @@
 
 mod fate;
 mod happening;
+mod laws;
+mod machine;
 mod parcels;
+mod platforms;
 mod script;
+#[cfg(test)]
+mod tests;
 
 pub use fate::{Fate, FateEnd, FateList, ShardList};
 pub use happening::{Asking, Happening, Sender, comes_to};
-pub use parcels::ReplyKind;
+pub use laws::{parcels_go_the_way_of_their_request, shards_are_at_their_places};
+pub use machine::Machine;
+pub use parcels::{ReplyKind, ReplyPath, parcels_of};
+pub use platforms::Platforms;
 pub use script::{event_in, roster_in};

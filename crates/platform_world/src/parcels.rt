@@ -7,9 +7,10 @@ ghost use Rattle.transport_document.specs.Reading.{document_of};
 ghost use Rattle.canonical_json.specs.View.{view};
 ghost use Rattle.envelope_manifest.specs.Body.{body_in};
 ghost use Rattle.platform_requests.specs.Request.{request_view};
-ghost use Rattle.platform_world.specs.Step.{body_bill, document_bill, kind_of, message_parcel, reply_bill, reply_content, reply_parcel, request_bill};
+ghost use Rattle.platform_world.specs.Happening.{asking_view};
+ghost use Rattle.platform_world.specs.Step.{IsPathOf, sends, body_bill, document_bill, kind_of, message_parcel, reply_bill, reply_content, reply_parcel, request_bill};
 
-use crate::happening::Sender;
+use crate::happening::{Asking, Sender};
 use answer_lines::{Content, Parcel};
 use canonical_json::Json;
 use ebl_base::{ByteList, Checksum, ChecksumList, Copied, NoMemory, PlatformCode, Reference};
@@ -30,8 +31,55 @@ pub enum ReplyKind {
     Unsent,
 }
 
+/// The way of the reply to a request, once the request itself is given away.
+#[derive(Clone, Copy)]
+pub struct ReplyPath {
+    from: PlatformCode,
+    sender: Option<Sender>,
+    kind: ReplyKind,
+    // The bill that the request brings, where it has no sender.
+    brought: Option<Checksum>,
+}
+
+impl ReplyPath {
+    /// The way of the reply to a request. Of bytes from outside that start a transfer it reads the body, for its bill.
+    pub fn of(alloc: Global, asking: &Asking) -> Result<ReplyPath, NoMemory>
+        ensures { IfOk result (IsPathOf (asking_view asking.entry.now)) }
+    {
+        let brought = match asking.sender {
+            Some(_) => None,
+            None => request_bill(alloc, &asking.request)?,
+        };
+        Ok(ReplyPath {
+            from: asking.at,
+            sender: asking.sender,
+            kind: kind_of(&asking.request),
+            brought,
+        })
+    }
+}
+
+/// What a platform sends because of a request: its messages in their order, then its reply, if that is sent. Messages are
+/// moved, the text of a reply is copied.
+pub fn parcels_of(
+    alloc: Global,
+    path: ReplyPath,
+    reply: &Reply,
+    own: MessageList,
+) -> Result<Vec<Parcel>, NoMemory>
+    ensures { IfOk result (λ parcels. parcels.items
+        ≡ sends path.from path.sender path.kind path.brought reply.now own) }
+{
+    let mut parcels = message_parcels(alloc, path.from, own)?;
+    if let Some(content) = reply_content(alloc, path.kind, reply)? {
+        let bill = bill_of_exchange(path.brought, reply);
+        parcels.push(reply_parcel(path.from, path.sender, bill, content))?;
+    }
+    Ok(parcels)
+}
+
 /// Which reply to a request is sent.
-pub(crate) fn kind_of(request: &Request) -> ReplyKind
+fn kind_of(request: &Request) -> ReplyKind
     ensures { result ≡ kind_of (request_view request.now) }
 {
     match request {
@@ -48,7 +96,7 @@ pub(crate) fn kind_of(request: &Request) -> ReplyKind
 // ---- the bill of an exchange
 
 /// The bill of the document that a start brings. It reads the body, and hashes the document.
-pub(crate) fn request_bill(alloc: Global, request: &Request) -> Result<Option<Checksum>, NoMemory>
+fn request_bill(alloc: Global, request: &Request) -> Result<Option<Checksum>, NoMemory>
     ensures { IfOk result (λ bill. bill ≡ request_bill (request_view request.now)) }
 {
     match request {
@@ -77,9 +125,8 @@ fn document_bill(alloc: Global, document: &Json) -> Result<Option<Checksum>, NoM
     }
 }
 
-/// The bill that was read of bytes from outside: that of the document which they brought, or else the one that the reply
-/// names.
-pub(crate) fn bill_read(brought: Option<Checksum>, reply: &Reply) -> Option<Checksum>
+// The bill that bytes from outside brought, or else the one that the reply names.
+fn bill_of_exchange(brought: Option<Checksum>, reply: &Reply) -> Option<Checksum>
     ensures { result ≡ option_or brought (reply_bill reply.now) }
 {
     match brought {
@@ -100,7 +147,7 @@ fn reply_bill(reply: &Reply) -> Option<Checksum>
 // ---- parcels
 
 /// The messages of a platform's own, in their order. They are moved.
-pub(crate) fn message_parcels(
+fn message_parcels(
     alloc: Global,
     from: PlatformCode,
     messages: MessageList,
@@ -154,11 +201,7 @@ fn message_parcel(from: PlatformCode, message: Message) -> Parcel
 }
 
 /// What is sent as the reply, if one is: a copy of its text.
-pub(crate) fn reply_content(
-    alloc: Global,
-    kind: ReplyKind,
-    reply: &Reply,
-) -> Result<Option<Content>, NoMemory>
+fn reply_content(alloc: Global, kind: ReplyKind, reply: &Reply) -> Result<Option<Content>, NoMemory>
     ensures { IfOk result (λ content. content ≡ reply_content kind reply.now) }
 {
     match (kind, reply) {
@@ -193,7 +236,7 @@ fn started_text(
 
 /// A reply's parcel: to the sender, for the bill of what was delivered; of bytes from outside for nobody, for the bill
 /// that was read, or 32 zero bytes where none was.
-pub(crate) fn reply_parcel(
+fn reply_parcel(
     from: PlatformCode,
     sender: Option<Sender>,
     bill: Option<Checksum>,

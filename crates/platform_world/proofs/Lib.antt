@@ -1,0 +1,3 @@
+mod Paths
+mod Grouped
+mod Shards

@@ -1,0 +1,27 @@
+//! What holds of every world. The functions do nothing: their contracts are the laws.
+ghost use Rattle.std.specs.Prelude.{◌≡◌, ◌<◌, ℕ, List, length, slice_get, slice_set};
+ghost use Rattle.ebl_base.specs.declared.platform_code.PlatformCode.{PlatformCode};
+ghost use Rattle.platform_requests.specs.declared.message.Message.{Message};
+ghost use Rattle.platform_requests.specs.declared.reply.Reply.{Reply};
+ghost use Rattle.platform_world.specs.declared.parcels.ReplyPath.{ReplyPath};
+ghost use Rattle.platform_world.specs.Happening.{Asking};
+ghost use Rattle.platform_world.specs.Platforms.{grouped, index_of, place_of};
+ghost use Rattle.platform_world.specs.Step.{IsPathOf, parcels_of, sends};
+ghost use Rattle.platform_world.specs.World.{ShardState, shard_at, with_shard};
+
+/// What is sent along the way of a request's reply is what the request sends.
+pub fn parcels_go_the_way_of_their_request()
+    ensures { (a : Asking) (path : ReplyPath) (reply : Reply) (own : List Message) → IsPathOf a path
+        → sends path.from path.sender path.kind path.brought reply own ≡ parcels_of a reply own }
+{}
+
+/// Among the shards of all platforms in one list, sixteen for each, a platform's shard is at sixteen times the platform's
+/// place and its own number: there it is found, and there it is replaced.
+pub fn shards_are_at_their_places()
+    ensures found { (p : PlatformCode) (i : ℕ) (ps : List PlatformCode) (shards : List ShardState)
+        → i < 16 → place_of p ps < length ps
+        → shard_at p i (grouped ps shards) ≡ slice_get shards (index_of p i ps) }
+    ensures replaced { (p : PlatformCode) (i : ℕ) (shard : ShardState) (ps : List PlatformCode)
+        (shards : List ShardState) → i < 16 → place_of p ps < length ps
+        → with_shard p i shard (grouped ps shards) ≡ grouped ps (slice_set shards (index_of p i ps) shard) }
+{}
