@@ -10,7 +10,8 @@ use Rattle.http_requests.specs.declared.end.LinkEnd.{LinkEnd}
 use Rattle.http_requests.specs.declared.end.LinkEnd.TheVariants.{Closed, Cut, ReadFault, WriteFault, Limit, NoMemory}
 
 -- the desk's run goes on by the call, and the reply was written: whole, or at a failure its first part
-pub record Answered (end : LinkEnd) (request : Incoming) (written now_written : Option (List ℕ)) (given now_given : Option (List Moment)) (known : Party → Bool) (Run Then : List Call → Type 0) : Type 0 where
+pub record Answered (end : LinkEnd) (request : Incoming) (written now_written : Option (List ℕ))
+    (given now_given : Option (List Moment)) (known : Party → Bool) (Run Then : List Call → Type 0) : Type 0 where
   pub exchange : Exchange
   pub is_asked : incoming_of exchange ≡ request
   pub extends : (calls : List Call) → Run calls → Then (calls ++ call_of exchange)

@@ -89,7 +89,8 @@ Wrote NoMemory old new text = AppendsFirst old new text
 
 -- The bytes that were read were cut into a session, however they came. `Run` is the desk's run up to its value at the
 -- exit, and `known` its test of parties.
-pub record Served (end : LinkEnd) (left now_left written now_written : Option (List ℕ)) (given now_given : Option (List Moment)) (known : Party → Bool) (Run : List Call → Type 0) : Type 0 where
+pub record Served (end : LinkEnd) (left now_left written now_written : Option (List ℕ))
+    (given now_given : Option (List Moment)) (known : Party → Bool) (Run : List Call → Type 0) : Type 0 where
   pub read : List ℕ
   pub session : Session
   pub consumed : Consumes left now_left read

@@ -176,7 +176,8 @@ pub(crate) fn put_reply<L: Link>(
     keeps: bool,
 ) -> Result<(), LinkEnd>
     ensures ok { OnOk result (Appends (L.written link.old) (L.written link.new) (reply_text status body.now keeps)) }
-    ensures err { IfErr result (λ e. Wrote e (L.written link.old) (L.written link.new) (reply_text status body.now keeps)) }
+    ensures err { IfErr result (λ e. Wrote e (L.written link.old) (L.written link.new)
+        (reply_text status body.now keeps)) }
     ensures fails { IfErr result (λ e. IsReplyFault e) }
     ensures fault { IsErrOf result LinkEnd.WriteFault → Rose (L.faults link.old) (L.faults link.new) }
     ensures left { L.left link.new ≡ L.left link.old }

@@ -27,8 +27,8 @@ pub const MOST_REPLIES: u32 = 1_000_000;
 /// Serves one link: reads requests, in whatever pieces they come, and writes a reply to each, until a reply closes the
 /// link, the input ends, a call of the link fails, memory runs out, or [`MOST_REPLIES`] replies are written.
 ///
-/// What is written is a function of the bytes that were read and of the desk's outcomes. The clock is read once for each
-/// request of the desk. A fault of the link is answered only if the link's count of faults rose.
+/// What is written is a function of the bytes that were read and of the desk's outcomes. The clock is read once for
+/// each request of the desk. A fault of the link is answered only if the link's count of faults rose.
 ///
 /// It keeps at most one request and 4,096 further bytes in memory, and copies each body once.
 pub fn serve_link<L: Link, K: Desk, C: Clock>(
@@ -106,10 +106,14 @@ fn answer<L: Link, K: Desk, C: Clock>(
     keeps: bool,
 ) -> Result<(), LinkEnd>
     requires { MayBeAsked asked }
-    ensures ok { OnOk result ((start : K) → Answered LinkEnd.Closed (record { asks = asked_view asked; keeps = keeps }) (L.written link.old) (L.written link.new)
-        (C.given clock.old) (C.given clock.new) (K.known desk.old) (λ calls. K.run start calls desk.old) (λ calls. K.run start calls desk.new)) }
-    ensures err { IfErr result (λ e. (start : K) → Answered e (record { asks = asked_view asked; keeps = keeps }) (L.written link.old) (L.written link.new)
-        (C.given clock.old) (C.given clock.new) (K.known desk.old) (λ calls. K.run start calls desk.old) (λ calls. K.run start calls desk.new)) }
+    ensures ok { OnOk result ((start : K)
+        → Answered LinkEnd.Closed (record { asks = asked_view asked; keeps = keeps })
+        (L.written link.old) (L.written link.new) (C.given clock.old) (C.given clock.new) (K.known desk.old)
+        (λ calls. K.run start calls desk.old) (λ calls. K.run start calls desk.new)) }
+    ensures err { IfErr result (λ e. (start : K)
+        → Answered e (record { asks = asked_view asked; keeps = keeps })
+        (L.written link.old) (L.written link.new) (C.given clock.old) (C.given clock.new) (K.known desk.old)
+        (λ calls. K.run start calls desk.old) (λ calls. K.run start calls desk.new)) }
     ensures fails { IfErr result (λ e. IsReplyFault e) }
     ensures known { (party : Party) → K.known desk.new party ≡ K.known desk.old party }
     ensures fault { IsErrOf result LinkEnd.WriteFault → Rose (L.faults link.old) (L.faults link.new) }
@@ -132,10 +136,14 @@ fn ask<L: Link, K: Desk, C: Clock>(
     keeps: bool,
 ) -> Result<(), LinkEnd>
     requires { MayAsk (request_view request) }
-    ensures ok { OnOk result ((start : K) → Answered LinkEnd.Closed (record { asks = of_desk (request_view request); keeps = keeps }) (L.written link.old) (L.written link.new)
-        (C.given clock.old) (C.given clock.new) (K.known desk.old) (λ calls. K.run start calls desk.old) (λ calls. K.run start calls desk.new)) }
-    ensures err { IfErr result (λ e. (start : K) → Answered e (record { asks = of_desk (request_view request); keeps = keeps }) (L.written link.old) (L.written link.new)
-        (C.given clock.old) (C.given clock.new) (K.known desk.old) (λ calls. K.run start calls desk.old) (λ calls. K.run start calls desk.new)) }
+    ensures ok { OnOk result ((start : K)
+        → Answered LinkEnd.Closed (record { asks = of_desk (request_view request); keeps = keeps })
+        (L.written link.old) (L.written link.new) (C.given clock.old) (C.given clock.new) (K.known desk.old)
+        (λ calls. K.run start calls desk.old) (λ calls. K.run start calls desk.new)) }
+    ensures err { IfErr result (λ e. (start : K)
+        → Answered e (record { asks = of_desk (request_view request); keeps = keeps })
+        (L.written link.old) (L.written link.new) (C.given clock.old) (C.given clock.new) (K.known desk.old)
+        (λ calls. K.run start calls desk.old) (λ calls. K.run start calls desk.new)) }
     ensures fails { IfErr result (λ e. IsReplyFault e) }
     ensures known { (party : Party) → K.known desk.new party ≡ K.known desk.old party }
     ensures fault { IsErrOf result LinkEnd.WriteFault → Rose (L.faults link.old) (L.faults link.new) }
@@ -160,8 +168,10 @@ fn test<L: Link, K: Desk>(
     party: Party,
     keeps: bool,
 ) -> Result<(), LinkEnd>
-    ensures wrote { OnOk result (Appends (L.written link.old) (L.written link.new) (reply_text statuses.Ok (known_body (K.known desk.now party)) keeps)) }
-    ensures err { IfErr result (λ e. Wrote e (L.written link.old) (L.written link.new) (reply_text statuses.Ok (known_body (K.known desk.now party)) keeps)) }
+    ensures wrote { OnOk result (Appends (L.written link.old) (L.written link.new)
+        (reply_text statuses.Ok (known_body (K.known desk.now party)) keeps)) }
+    ensures err { IfErr result (λ e. Wrote e (L.written link.old) (L.written link.new)
+        (reply_text statuses.Ok (known_body (K.known desk.now party)) keeps)) }
     ensures fails { IfErr result (λ e. IsReplyFault e) }
     ensures fault { IsErrOf result LinkEnd.WriteFault → Rose (L.faults link.old) (L.faults link.new) }
     ensures left { L.left link.new ≡ L.left link.old }
