@@ -1,6 +1,7 @@
 //! Frames and their bytes, and bytes that spell none.
 mod frames;
 mod near_misses;
+mod no_frames;
 
 use crate::{FrameFault, frame_read, frame_write};
 use bill_diary::{Frame, Record};
