@@ -3,18 +3,13 @@
 
 Builds canon_peer, runs it and the proved program on documents of several sizes and shapes, compares what they write,
 and prints the instructions that callgrind counts (an empty document's are taken off, so that the programs' starts
-don't count) and the best time of five runs, starts included.
+don't count), the best time of five runs, starts included, and the greatest memory of one.
 """
 import json
 import tempfile
 
-from measure import best, compare, difference, instructions, peer, product
-
-
-def container(number):
-    return {"weight": {"value": 24000 + number, "unit": "KGM"}, "equipmentReference": "OCNU%07d" % number,
-            "seals": [{"number": "SEAL%05d" % number, "source": "CAR"}], "isShipperOwned": number % 2 == 0,
-            "description": "Ball bearings \u2013 \"steel\", packed\nin crates"}
+from measure import best, compare, difference, instructions, peak, peer, product
+from samples import container
 
 
 def document(size):
@@ -39,17 +34,19 @@ def main():
     with tempfile.TemporaryDirectory() as folder:
         programs = [product(), "canon"], [peer("canon_peer", folder)]
         start = [instructions(words, b"{}") for words in programs]
-        print("| input | bytes | instructions a byte | the peer's | rate by instructions | MB/s | the peer's |")
-        print("|---|---|---|---|---|---|---|")
+        print("| input | bytes | instructions a byte | the peer's | rate by instructions | MB/s | the peer's "
+              "| MB of memory | the peer's |")
+        print("|---|---|---|---|---|---|---|---|---|")
         for name, make in ROWS:
             text = json.dumps(make(), ensure_ascii=False).encode()
             compare(programs, text, name)
             counts = [difference(instructions(words, text), begun, name) for words, begun in zip(programs, start)]
             times = [best(words, text) for words in programs]
+            peaks = [peak(words, text) / 1e6 for words in programs]
             size = len(text)
-            print("| %s | %d | %.1f | %.1f | %.2f | %.0f | %.0f |" % (
+            print("| %s | %d | %.1f | %.1f | %.2f | %.0f | %.0f | %.1f | %.1f |" % (
                 name, size, counts[0] / size, counts[1] / size, counts[1] / counts[0], size / times[0] / 1e6,
-                size / times[1] / 1e6), flush=True)
+                size / times[1] / 1e6, *peaks), flush=True)
 
 
 if __name__ == "__main__":
