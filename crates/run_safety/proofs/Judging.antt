@@ -12,7 +12,7 @@ use Rattle.envelope_manifest.specs.declared.manifest.Manifest.{Manifest}
 use Rattle.party_roster.specs.RosterRecord.{RosterRecord, knows}
 use Rattle.title_fold.specs.Title.{possessor}
 use Rattle.title_fold.specs.Fold.{Folded}
-use Rattle.bill_chain.specs.Chain.{last_of, destination, platform_with, title_after_chain}
+use Rattle.bill_chain.specs.Chain.{last_of, destination, platform_with, possessor_with, title_after_chain}
 use Rattle.bill_diary.specs.declared.record.Record.{Record}
 use Rattle.bill_diary.specs.declared.record.Record.TheVariants as records
 use Rattle.bill_diary.specs.History.{of_bill}
@@ -22,7 +22,7 @@ use Rattle.bill_diary.specs.Receiving.{Declination, takes, continues, is_decline
 use Rattle.transfer_judge.specs.declared.judgement.Judgement.{Judgement}
 use Rattle.transfer_judge.specs.declared.judgement.Judgement.TheVariants.{Duplicate, Declined, Parts, Unknown, Missing, Accept}
 use Rattle.transfer_judge.specs.Dispute.{dispute_of, evidence_of}
-use Rattle.transfer_judge.specs.Judgement.{receiver_of, receiver_with, on_missing, on_dispute, on_declined, on_taken, judgement_at_place, judgement_of}
+use Rattle.transfer_judge.specs.Judgement.{receiver_of, on_missing, on_dispute, on_declined, on_taken, judgement_at_place, judgement_of}
 use Rattle.transfer_judge.proofs.LegalLemmas.{past_last, past_here, past_taken, past_declined, past_dispute, past_receiver, not_declined}
 use Rattle.closed_family.specs.Chains.{IsAmong}
 use Rattle.closed_family.proofs.Names.{Passes, passing_item, checksum_eq-same}
@@ -123,7 +123,7 @@ never_parts evidence false checksums is = cc is
 
 -- ---- where the chain ends
 
-destination_on : (folded : Folded) (receiver : Party) → receiver_with folded ≡ Some receiver
+destination_on : (folded : Folded) (receiver : Party) → possessor_with folded ≡ Some receiver
     → platform_with folded ≡ Some receiver.platform
 destination_on (Err at) receiver is = absurd (let no_way : None ≡ Some receiver = is in cc)
 destination_on (Ok None) receiver is = absurd (let no_way : None ≡ Some receiver = is in cc)
