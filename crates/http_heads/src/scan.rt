@@ -73,8 +73,12 @@ impl Scan {
         let mut at = self;
         let mut count = before;
         for byte in bytes {
-            at = at.step(*byte);
             count += 1;
+            // Most bytes stand in a line.
+            if at == Scan::Text && *byte != b'\n' {
+                continue;
+            }
+            at = at.step(*byte);
             if at == Scan::End {
                 return Ok(count);
             }
