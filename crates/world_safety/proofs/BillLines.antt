@@ -1,27 +1,34 @@
 -- What bill lines say of a safe bill: its chains don't part ways, and whoever may act is where it ends.
 use Rattle.std.proofs.Common.{◌≡◌, ◌⊎◌, inl, inr, Bool, true, false, not, ◌||◌, ◌&&◌, cond, List, [], ◌∷◌, ◌++◌, Option, Some, None, refl, sym, ap, subst, ◌∙◌}
-use Rattle.std.specs.Prelude.{filter, find, map, reverse}
+use Rattle.std.specs.Prelude.{filter, find, map, reverse, unwrap_or}
 use Rattle.std.specs.List.{flat_map, list_any, starts_with}
 use Rattle.std.specs.Option.{option_map_or, option_or}
+use Rattle.std.specs.Result.{result_ok}
 use Rattle.ebl_base.specs.Checksum.{checksum_eq}
 use Rattle.ebl_base.specs.PlatformCode.{code_eq}
 use Rattle.ebl_base.proofs.SameLemmas.{code_eq-Decides}
 use Rattle.ebl_base.specs.declared.chain.ChainLink.{ChainLink}
 use Rattle.ebl_base.specs.declared.checksum.Checksum.{Checksum}
 use Rattle.ebl_base.specs.declared.platform_code.PlatformCode.{PlatformCode}
-use Rattle.bill_chain.specs.Chain.{names_of, destination}
-use Rattle.bill_diary.specs.Place.{taken_chains, may_act_by}
+use Rattle.ebl_base.specs.declared.transaction.Transaction.{Transaction}
+use Rattle.title_fold.specs.declared.title.Title.{Title}
+use Rattle.title_fold.specs.Fold.{Folded, fold}
+use Rattle.bill_chain.specs.Chain.{names_of, destination, transactions_of}
+use Rattle.bill_diary.specs.declared.bill_place.BillPlace.{BillPlace}
+use Rattle.bill_diary.specs.declared.bill_place.BillPlace.TheVariants.{Absent, Held, Parting, Gone}
+use Rattle.bill_diary.specs.Place.{taken_chains, may_act_by, place_of}
 use Rattle.closed_family.specs.declared.family.Member.{Member}
 use Rattle.closed_family.specs.Chains.{IsAmong, IsPrefix}
 use Rattle.closed_family.specs.Closed.{Histories}
 use Rattle.closed_family.specs.Family.{HasDistinctNames, IsClosedFamily, IsSignedIn, IsSoundFamily, histories_of}
 use Rattle.closed_family.specs.Histories.{is_signed}
 use Rattle.closed_family.specs.Longest.{accepted_chains, accepted_on, ends_on, longest_in}
-use Rattle.closed_family.specs.Safe.{IsAccepted, IsEnd, IsSafe}
+use Rattle.closed_family.specs.Safe.{IsAccepted, IsEnd, IsSafe, StandsWith, front_of, transactions_at}
+use Rattle.closed_family.proofs.Chains.{prefix_itself}
 use Rattle.closed_family.proofs.Families.{IsFrom, are_closed, found}
 use Rattle.closed_family.proofs.Names.{checksum_eq-itself}
 use Rattle.closed_family.proofs.Records.{among_either}
-use Rattle.bill_lines.specs.Bills.{acting, end_of, is_forked, is_front, part_ways, signed_on}
+use Rattle.bill_lines.specs.Bills.{acting, end_of, further_at, is_forked, is_front, is_same, part_ways, signed_on, title_of}
 use Rattle.run_safety.proofs.Longer.{turned_back}
 
 -- ---- items of lists
@@ -174,3 +181,40 @@ pub acts_in : (family : List Member) → IsSoundFamily family → IsClosedFamily
 acts_in family sound closed distinct bill safe line signed platforms p among =
     end_is family sound closed distinct bill safe line
     ∙ ap Some (sym (acts_at_end (histories_of bill family) safe signed.0 signed.1 platforms p among))
+
+-- ---- the title
+
+same_itself : (c : List ChainLink) → is_same c c ≡ true
+same_itself c = let front = prefix_front c c (prefix_itself c) in rw front refl
+
+-- what a bill line folds is what the safe bill has where it ends
+further_is : (line : List ChainLink) (place : BillPlace) → StandsWith line place
+    → transactions_of line ++ further_at line place ≡ transactions_at place
+further_is line Absent stands = absurd stands
+further_is line (Held known since) stands =
+    subst (λ (c : List ChainLink). transactions_of c ++ further_at c (Held known since) ≡ transactions_of known ++ since)
+    stands
+    (ap (λ (b : Bool). transactions_of known ++ cond b since []) (same_itself known))
+further_is line (Parting known link) stands =
+    subst (λ (c : List ChainLink). transactions_of c ++ further_at c (Parting known link)
+    ≡ transactions_of known ++ front_of link.entry.transactions) stands
+    (ap (λ (b : Bool). transactions_of known ++ cond b (front_of link.entry.transactions) []) (same_itself known))
+further_is line (Gone known) stands = absurd stands
+
+-- the title by these transactions
+abbrev titled : List Transaction → Option Title
+titled ts = unwrap_or (result_ok (fold ts)) None
+
+-- the title of a bill line is that of the safe bill
+pub title_is : (family : List Member) → IsSoundFamily family → IsClosedFamily family → HasDistinctNames family
+    → (bill : Checksum) (safe : IsSafe (histories_of bill family)) → safe.line ≡ longest_in family bill
+    → title_of (histories_of bill family) (platforms_of family) ≡ Some safe.title_there.title
+title_is family sound closed distinct bill safe line =
+    ap (λ (c : List ChainLink). titled (transactions_of c ++ further_at c
+    (place_of (option_map_or (histories_of bill family) (end_of (histories_of bill family) (platforms_of family)) []))))
+    (sym line)
+    ∙ ap (λ (o : Option PlatformCode). titled (transactions_of safe.line ++ further_at safe.line
+    (place_of (option_map_or (histories_of bill family) o []))))
+    (end_is family sound closed distinct bill safe line)
+    ∙ ap titled (further_is safe.line (place_of (histories_of bill family safe.end)) safe.stands_there)
+    ∙ ap (λ (f : Folded). unwrap_or (result_ok f) None) safe.title_there.folds

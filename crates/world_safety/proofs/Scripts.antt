@@ -17,7 +17,7 @@ use Rattle.party_roster.specs.RosterRecord.{RosterRecord}
 use Rattle.closed_family.specs.declared.family.Member.{Member}
 use Rattle.closed_family.specs.Family.{HasDistinctNames, IsClosedFamily, IsSafeFamily, IsSignedIn, IsSoundFamily, histories_of}
 use Rattle.closed_family.specs.Longest.{longest_in}
-use Rattle.bill_lines.specs.Bills.{end_of}
+use Rattle.bill_lines.specs.Bills.{end_of, title_of}
 use Rattle.platform_world.specs.World as worlds
 use Rattle.platform_world.specs.World.{PlatformState, WorldRecord, family_of, opening, platforms_of, settled_for}
 use Rattle.platform_world.specs.Run.{Happened, IsRunOf, OnRoster, Run, RunsLines}
@@ -27,7 +27,7 @@ use Rattle.run_safety.specs.Run.{Reaches}
 use Rattle.run_safety.specs.Steady.{Rings}
 use Rattle.world_safety.specs.Safety.{HasEnoughRings, IsSafeWorld, StaysSafe}
 use Rattle.world_safety.specs.Worlds.{network_of, rings_of}
-use Rattle.world_safety.proofs.BillLines.{acts_in, not_forked}
+use Rattle.world_safety.proofs.BillLines.{acts_in, end_is, not_forked, title_is}
 use Rattle.world_safety.proofs.Runs.{GoOn, Holds, goes_on_holds, opening_holds, runs_go_on}
 
 -- laws of the crates below
@@ -64,6 +64,19 @@ world_safe laws roster rings w form holds distinct =
           ∙ acts_in family (laws.sound roster rings (network_of w) form holds.reached distinct)
           (laws.closed roster rings (network_of w) form holds.reached distinct) distinct bill (safe.bills bill signed)
           (laws.line family bill safe signed) signed (settled_for bill w) p among;
+      titled = λ bill signed.
+          let one = safe.bills bill signed in (
+            one.title_there.title,
+            ap (title_of (histories_of bill family)) (sym (names_are w.platforms))
+                ∙ title_is family (laws.sound roster rings (network_of w) form holds.reached distinct)
+                (laws.closed roster rings (network_of w) form holds.reached distinct) distinct bill one
+                (laws.line family bill safe signed),
+            ap (end_of (histories_of bill family)) (sym (names_are w.platforms))
+                ∙ end_is family (laws.sound roster rings (network_of w) form holds.reached distinct)
+                (laws.closed roster rings (network_of w) form holds.reached distinct) distinct bill one
+                (laws.line family bill safe signed)
+                ∙ ap Some (sym one.title_there.on),
+          );
     }
 
 -- ---- the first line

@@ -4,7 +4,9 @@ use Rattle.ebl_base.specs.declared.checksum.Checksum.{Checksum}
 use Rattle.ebl_base.specs.declared.platform_code.PlatformCode.{PlatformCode}
 use Rattle.world_script.specs.Event.{EventRecord, ForeignRecord}
 use Rattle.world_script.specs.Event as events
-use Rattle.bill_lines.specs.Bills.{acting, end_of, is_forked}
+use Rattle.title_fold.specs.Title.{possessor}
+use Rattle.title_fold.specs.declared.title.Title.{Title}
+use Rattle.bill_lines.specs.Bills.{acting, end_of, is_forked, title_of}
 use Rattle.closed_family.specs.Chains.{IsAmong}
 use Rattle.closed_family.specs.Family.{HasDistinctNames, IsSafeFamily, IsSignedIn, histories_of}
 use Rattle.platform_world.specs.World.{WorldRecord, family_of, platforms_of, settled_for}
@@ -35,7 +37,8 @@ AreHonest (h ∷ hs) = IsHonestEvent h.before h.event × AreHonest hs
 
 -- ---- safe worlds, safe runs
 
--- each bill is safe, and its line says that nothing forks, and that whoever may act is where it ends
+-- each bill is safe; and its line says that nothing forks, that whoever may act is where it ends, and a title, whose
+-- possessor is there
 pub record IsSafeWorld (w : WorldRecord) : Type 0 where
   pub safe : IsSafeFamily (family_of w)
   pub forked : (bill : Checksum) → IsSignedIn (family_of w) bill
@@ -43,6 +46,9 @@ pub record IsSafeWorld (w : WorldRecord) : Type 0 where
   pub acts : (bill : Checksum) → IsSignedIn (family_of w) bill → (p : PlatformCode)
       → IsAmong p (acting (histories_of bill (family_of w)) (settled_for bill w))
       → end_of (histories_of bill (family_of w)) (platforms_of w) ≡ Some p
+  pub titled : (bill : Checksum) → IsSignedIn (family_of w) bill
+      → (title : Title) × (title_of (histories_of bill (family_of w)) (platforms_of w) ≡ Some title)
+      × (end_of (histories_of bill (family_of w)) (platforms_of w) ≡ Some (possessor title).platform)
 
 -- after each event up to which the texts from outside were honest, and after which the texts of the diaries have
 -- distinct names, the world is safe

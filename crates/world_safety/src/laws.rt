@@ -11,7 +11,7 @@ use run_safety::every_run_stays_safe;
 
 /// Every run of a script stays safe, whatever its commands are, whatever is delivered, repeated or left out, and
 /// whatever its foreign lines bring that is honest: after each event each bill is safe, its line says that nothing
-/// forks, and whoever may act is where it ends.
+/// forks, whoever may act is where it ends, and it names a title, whose possessor is there.
 pub fn every_run_of_a_script_stays_safe()
     ensures { (script : List ℕ) (rings : List Keys) (run : Run) → HasEnoughRings (parts_of 10 script) rings
         → IsRunOf script rings run → StaysSafe run }
