@@ -1,5 +1,5 @@
--- The line that answers an event: one object of canonical JSON, and a line feed. Its members are the event's number, the
--- answer's word, the numbers of the messages that were sent, and between them, in the order of the names, what the
+-- The line that answers an event: one object of canonical JSON, and a line feed. Its members are the event's number,
+-- the answer's word, the numbers of the messages that were sent, and between them, in the order of the names, what the
 -- answer says beside its word.
 --
 -- | Answer                                   | Further members                                         |
@@ -156,5 +156,6 @@ answer_line n sent number answer = members_line (answer_members n sent number an
 
 -- the texts of a signed answer are compact, so that they are texts of JSON
 abbrev pub IsWritable : Answer → Type 0
-IsWritable (Replied (replies.Answer r signed)) = IsOptionalEvidence r.evidence.own × IsOptionalEvidence r.evidence.theirs
+IsWritable (Replied (replies.Answer r signed)) =
+    IsOptionalEvidence r.evidence.own × IsOptionalEvidence r.evidence.theirs
 IsWritable answer = Unit {0}

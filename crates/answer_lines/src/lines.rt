@@ -25,8 +25,8 @@ use std::alloc::Global;
 use transport_document::DocumentFault;
 use uuid::Uuid;
 
-/// The line that answers the event of this number, when the messages of these numbers were sent. `number` is that of the
-/// bill that the answer shows, if the script signed it.
+/// The line that answers the event of this number, when the messages of these numbers were sent. `number` is that of
+/// the bill that the answer shows, if the script signed it.
 ///
 /// It costs time and memory linear in the answer.
 pub fn answer_line(
@@ -118,7 +118,8 @@ fn put_started(
     reference: Reference,
     missing: &[Checksum],
 ) -> Result<(), NoMemory>
-    ensures { OnOk result (row_entries row.new ≡ row_entries row.old ++ reply_front (replies.Started reference missing.now)) }
+    ensures { OnOk result (row_entries row.new
+        ≡ row_entries row.old ++ reply_front (replies.Started reference missing.now)) }
 {
     row.put_checksums(alloc, "missing", missing)?;
     row.put_member(reference_member(alloc, reference)?)

@@ -65,7 +65,8 @@ impl Row {
         name: &str,
         platform: PlatformCode,
     ) -> Result<(), NoMemory>
-        ensures { OnOk result (row_entries self.new ≡ row_entries self.old ++ (name.now, platform_value platform) ∷ []) }
+        ensures { OnOk result (row_entries self.new
+            ≡ row_entries self.old ++ (name.now, platform_value platform) ∷ []) }
     {
         self.put_text(alloc, name, platform.as_str())
     }
@@ -77,7 +78,8 @@ impl Row {
         name: &str,
         platform: Option<PlatformCode>,
     ) -> Result<(), NoMemory>
-        ensures { OnOk result (row_entries self.new ≡ row_entries self.old ++ optional name.now platform_value platform) }
+        ensures { OnOk result (row_entries self.new
+            ≡ row_entries self.old ++ optional name.now platform_value platform) }
     {
         match platform {
             Some(platform) => self.put_platform(alloc, name, platform),
@@ -106,7 +108,8 @@ impl Row {
         name: &str,
         checksums: &[Checksum],
     ) -> Result<(), NoMemory>
-        ensures { OnOk result (row_entries self.new ≡ row_entries self.old ++ (name.now, checksums_value checksums.now) ∷ []) }
+        ensures { OnOk result (row_entries self.new
+            ≡ row_entries self.old ++ (name.now, checksums_value checksums.now) ∷ []) }
     {
         self.put(alloc, name, checksums_json(alloc, checksums)?)
     }
