@@ -1,5 +1,5 @@
--- What the line of a bill says of it, by its histories on all platforms: whether its accepted chains part ways, where the
--- longest of them ends, who has the bill there, and who may act.
+-- What the line of a bill says of it, by its histories on all platforms: whether its accepted chains part ways, where
+-- the longest of them ends, who has the bill there, and who may act.
 use Rattle.std.specs.Prelude.{Bool, not, ◌&&◌, ◌||◌, List, [], ◌++◌, Option, None, filter, find, unwrap_or, if◌then◌else◌}
 use Rattle.std.specs.List.{list_any, starts_with}
 use Rattle.std.specs.Option.{option_map_or, option_or}
@@ -55,8 +55,8 @@ history_at_end at platforms = option_map_or at (end_of at platforms) []
 abbrev pub is_same : List ChainLink → List ChainLink → Bool
 is_same a b = is_front a b && is_front b a
 
--- what was recorded at the end since the longest accepted chain: where the bill is held with that chain, the transactions
--- since; where it is parting with it, those of the parting entry but its last
+-- what was recorded at the end since the longest accepted chain: where the bill is held with that chain, the
+-- transactions since; where it is parting with it, those of the parting entry but its last
 abbrev pub further_at : List ChainLink → BillPlace → List Transaction
 further_at line (Held known since) = if is_same known line then since else []
 further_at line (Parting known link) = if is_same known line then front_of link.entry.transactions else []

@@ -12,8 +12,8 @@ use Rattle.closed_family.specs.Longest.{longest_accepted}
 use Rattle.answer_lines.specs.Lines.{members_line, optional}
 use Rattle.bill_lines.specs.Bills.{acting, end_of, is_forked, title_of}
 
--- who may act, the bill's number, where its longest accepted chain ends, how many entries that has, and whether accepted
--- chains part ways
+-- who may act, the bill's number, where its longest accepted chain ends, how many entries that has, and whether
+-- accepted chains part ways
 abbrev pub front_members : List PlatformCode → ℕ → Option PlatformCode → ℕ → Bool → List Entry
 front_members acts number end entries forked =
     (codes "acts", list (each_written platform_value acts)) ∷ (codes "bill", capped_value number)

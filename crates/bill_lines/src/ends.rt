@@ -81,8 +81,8 @@ fn signs(candidate: RecordRef) -> bool
     }
 }
 
-/// What was recorded on a platform since a chain: where the bill is held with that chain, the transactions since; where it
-/// is parting with it, those of the parting entry but its last; else none.
+/// What was recorded on a platform since a chain: where the bill is held with that chain, the transactions since; where
+/// it is parting with it, those of the parting entry but its last; else none.
 pub(crate) fn further(
     alloc: Global,
     line: &[ChainLink],

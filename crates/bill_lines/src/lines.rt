@@ -93,7 +93,8 @@ fn standing_of<'a>(
 
 // Whether the accepted chains, which these are, part ways.
 fn forks(bill: Checksum, diaries: &[PlatformDiary], chains: &[&[ChainLink]]) -> bool
-    requires { map (λ c. c.now) chains.now ≡ accepted_chains (histories_in bill diaries.now) (platforms_in diaries.now) }
+    requires { map (λ c. c.now) chains.now
+        ≡ accepted_chains (histories_in bill diaries.now) (platforms_in diaries.now) }
     ensures { result ≡ is_forked (histories_in bill diaries.now) (platforms_in diaries.now) }
 {
     is_forked(chains)
