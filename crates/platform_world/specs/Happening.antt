@@ -1,4 +1,5 @@
--- What an event comes to before any platform is asked: a bill's number becomes its name, a message's number its content.
+-- What an event comes to before any platform is asked: a bill's number becomes its name, a message's number its
+-- content.
 use Rattle.std.specs.Prelude.{ℕ, ◌-◌, List, Option, Some, None, nat_eq, slice_get, if◌then◌else◌}
 use Rattle.std.specs.Option.{option_or}
 use Rattle.ebl_base.specs.declared.checksum.Checksum.{Checksum}
@@ -63,7 +64,8 @@ abbrev pub at_command : List Checksum → PlatformCode → Party → Moment → 
 at_command signed at party now (events.signs document) =
     asked at (Some now) (requests.commands party (commands.signs document))
 at_command signed at party now (events.acts bill kind recipient) =
-    on_bill (bill_named signed bill) (λ name. asked at (Some now) (requests.commands party (commands.acts name kind recipient)))
+    on_bill (bill_named signed bill)
+    (λ name. asked at (Some now) (requests.commands party (commands.acts name kind recipient)))
 at_command signed at party now (events.attaches bill name media bytes) =
     on_bill (bill_named signed bill)
     (λ checksum. asked at (Some now) (requests.commands party (commands.attaches checksum name media bytes)))

@@ -105,7 +105,8 @@ reply_parcel from None bill content =
 abbrev pub sends : PlatformCode → Option Sender → ReplyKind → Option Checksum → Reply → List Message → List Parcel
 sends from sender kind bill reply own =
     map (message_parcel from) own
-    ++ option_to_list (option_map (reply_parcel from sender (option_or bill (reply_bill reply))) (reply_content kind reply))
+    ++ option_to_list (option_map (reply_parcel from sender (option_or bill (reply_bill reply)))
+    (reply_content kind reply))
 
 -- the bill of the exchange is the one that the bytes from outside bring, or else the one that the reply names
 abbrev pub parcels_of : Asking → Reply → List Message → List Parcel
@@ -166,8 +167,8 @@ IsWhole fate = (fate.end ≡ Whole) × (fate.kept ≡ [])
 abbrev pub IsSignFault : Fate → Type 0
 IsSignFault fate = (fate.end ≡ SignFault) × (fate.kept ≡ [])
 
--- what happens is answered so, with this world after it: at once, and nothing changes; by the shard that is asked; or the
--- ring fails
+-- what happens is answered so, with this world after it: at once, and nothing changes; by the shard that is asked; or
+-- the ring fails
 abbrev pub Happens : WorldRecord → Happening → Fate → Answer → WorldRecord → Type 0
 Happens w (answers said) fate answer after = IsWhole fate × (answer ≡ said) × (after ≡ w)
 Happens w (asks a) fate answer after =

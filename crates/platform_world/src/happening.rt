@@ -39,8 +39,8 @@ pub enum Happening {
     Asked(Asking),
 }
 
-/// What an event comes to, by the bills that were signed and the parcels that were sent before it. A delivery and a show
-/// copy what was sent; everything else is moved.
+/// What an event comes to, by the bills that were signed and the parcels that were sent before it. A delivery and a
+/// show copy what was sent; everything else is moved.
 pub fn comes_to(
     alloc: Global,
     signed: &[Checksum],
@@ -93,7 +93,12 @@ fn bill_named(signed: &[Checksum], bill: BillName) -> Option<Checksum>
 
 // A command, a question, or bytes from outside.
 fn asked(at: PlatformCode, now: Option<Moment>, request: Request) -> Happening
-    ensures { happening_view result ≡ asks (record { at = at; now = now; request = request_view request; sender = None }) }
+    ensures { happening_view result ≡ asks (record {
+      at = at;
+      now = now;
+      request = request_view request;
+      sender = None;
+    }) }
 {
     Happening::Asked(Asking {
         at,

@@ -15,8 +15,8 @@ pub fn parcels_go_the_way_of_their_request()
         → sends path.from path.sender path.kind path.brought reply own ≡ parcels_of a reply own }
 {}
 
-/// Among the shards of all platforms in one list, sixteen for each, a platform's shard is at sixteen times the platform's
-/// place and its own number: there it is found, and there it is replaced.
+/// Among the shards of all platforms in one list, sixteen for each, a platform's shard is at sixteen times the
+/// platform's place and its own number: there it is found, and there it is replaced.
 pub fn shards_are_at_their_places()
     ensures found { (p : PlatformCode) (i : ℕ) (ps : List PlatformCode) (shards : List ShardState)
         → i < 16 → place_of p ps < length ps

@@ -59,8 +59,8 @@ impl ReplyPath {
     }
 }
 
-/// What a platform sends because of a request: its messages in their order, then its reply, if that is sent. Messages are
-/// moved, the text of a reply is copied.
+/// What a platform sends because of a request: its messages in their order, then its reply, if that is sent. Messages
+/// are moved, the text of a reply is copied.
 pub fn parcels_of(
     alloc: Global,
     path: ReplyPath,

@@ -67,8 +67,8 @@ impl<M: Machine> Platforms<M> {
         requires shard { shard < 16 }
         requires asked { (s : ShardState) → shard_at at shard (states_of M.seen self.old) ≡ Some s
             → MayBeAsked s.diary now (request_view request) }
-        ensures step { is_failure result.reply ≡ false → TakesAt self.old.roster (states_of M.seen self.old) at shard now
-            (request_view request) result (states_of M.seen self.new) }
+        ensures step { is_failure result.reply ≡ false → TakesAt self.old.roster (states_of M.seen self.old) at
+            shard now (request_view request) result (states_of M.seen self.new) }
         ensures failed { is_failure result.reply ≡ true → states_of M.seen self.new ≡ states_of M.seen self.old }
         ensures silent { is_failure result.reply ≡ true → result.messages ≡ [] }
         ensures failures { is_failure result.reply ≡ true

@@ -18,7 +18,8 @@ use party_roster::{Roster, RosterFault};
 use std::alloc::Global;
 use world_script::{Event, EventFault};
 
-/// The roster of a script's first line: its member `roster`. `None` if and only if the line has none that is well-formed.
+/// The roster of a script's first line: its member `roster`. `None` if and only if the line has none that is
+/// well-formed.
 pub fn roster_in(alloc: Global, line: &[u8]) -> Result<Option<Roster>, NoMemory>
     ensures roster { IfOk result (λ roster. roster ≡ roster_in line.now) }
     ensures form { IfOk result (λ roster. IfSome roster IsRoster) }
