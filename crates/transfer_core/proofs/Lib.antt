@@ -1,3 +1,5 @@
+mod DeskLemmas
+mod GiveLemmas
 mod PartLemmas
 mod StartLemmas
 mod StepLemmas

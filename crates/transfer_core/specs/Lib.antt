@@ -3,3 +3,4 @@ pub mod Begun
 pub mod Transfer
 pub mod Held
 pub mod Shard
+pub mod ShardDesk
