@@ -37,8 +37,8 @@ impl Pair {
         Some(())
     }
 
-    /// The bill of this number, by so many requests: it is signed, issued, endorsed and transferred at ALPH, received at
-    /// BETA, and settled at ALPH. None where one of them isn't done.
+    /// The bill of this number, by so many requests: it is signed, issued, endorsed and transferred at ALPH, received
+    /// at BETA, and settled at ALPH. None where one of them isn't done.
     pub(crate) fn row(&mut self, alloc: Global, number: u32, requests: u32) -> Option<()> {
         if requests == 0 {
             return Some(());
