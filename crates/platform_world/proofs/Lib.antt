@@ -1,3 +1,5 @@
 mod Paths
 mod Grouped
 mod Shards
+mod Taken
+mod Writable

@@ -8,6 +8,7 @@ mod machine;
 mod parcels;
 mod platforms;
 mod script;
+mod shard;
 #[cfg(test)]
 mod tests;
 
