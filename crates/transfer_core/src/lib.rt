@@ -11,6 +11,8 @@ mod shard;
 mod shard_desk;
 mod showing;
 mod starting;
+#[cfg(test)]
+mod tests;
 mod transfer;
 mod uploading;
 
