@@ -8,7 +8,8 @@ ghost use Rattle.party_roster.specs.RosterForm.{IsRoster};
 ghost use Rattle.transfer_judge.specs.PlannedTexts.{Nests};
 
 use canonical_json::read;
-use ebl_base::{Moment, Party, PlatformCode};
+use document_checksum::from_text;
+use ebl_base::{Checksum, Moment, Party, PlatformCode};
 use envelope_manifest::Body;
 use holder_commands::Command;
 use party_roster::Roster;
@@ -35,8 +36,13 @@ const SIGNED: &[u8] = br#"{
     "manifest":""
 }"#;
 
-// The bill's name: the SHA-256 checksum of the document's canonical text, by sha256sum of GNU coreutils.
+// The SHA-256 checksum of the document's canonical text, by sha256sum of GNU coreutils.
 const BILL: &str = "542fe9ce054c1f484751231f6d4e2ea1b57b5cc8e11d531525d1296ddd157e14";
+
+/// The bill's name.
+pub(crate) fn bill() -> Result<Checksum, Fail> {
+    Ok(from_text(BILL.as_bytes()).ok_or("a checksum")?)
+}
 
 pub(crate) fn roster(alloc: Global) -> Result<Roster, Fail>
     ensures { IfOk result (λ roster. IsRoster roster) }

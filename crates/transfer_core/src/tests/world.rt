@@ -8,7 +8,7 @@ ghost use Rattle.platform_requests.specs.Request.{request_view};
 ghost use Rattle.platform_machine.specs.Machine.{MayBeAsked};
 ghost use Rattle.transfer_judge.specs.PlannedTexts.{Nests};
 
-use super::asking::{command, moment, party, platform, roster, signing};
+use super::asking::{bill, command, moment, party, platform, roster, signing};
 use super::words::reply_words;
 use crate::Shard;
 use ebl_base::{ByteList, Checksum, Copied, PlatformCode};
@@ -181,6 +181,14 @@ impl World {
         Ok(())
     }
 
+    /// It is received at BETA too, and settled.
+    pub(crate) fn move_to_beta(&mut self) -> Result<(), Fail> {
+        self.send_to_beta()?;
+        self.deliver(1)?;
+        self.deliver(2)?;
+        Ok(())
+    }
+
     /// The bill is issued, `abc` and `{}` are attached, in base64, and it is sent to BETA.
     pub(crate) fn send_with_documents(&mut self) -> Result<(), Fail> {
         self.issue()?;
@@ -191,8 +199,8 @@ impl World {
         Ok(())
     }
 
-    // A party asks its platform to sign the bill's document.
-    fn sign(&mut self, by: &str) -> Result<String, Fail> {
+    /// A party asks its platform to sign the bill's document.
+    pub(crate) fn sign(&mut self, by: &str) -> Result<String, Fail> {
         let command = signing(self.alloc)?;
         self.ask(by, command)
     }
@@ -238,6 +246,12 @@ impl World {
         self.bring(number, to)
     }
 
+    /// It comes to another platform.
+    pub(crate) fn redirect(&mut self, number: usize, at: &str) -> Result<String, Fail> {
+        let to = platform(at)?;
+        self.bring(number, to)
+    }
+
     fn bring(&mut self, number: usize, at: PlatformCode) -> Result<String, Fail> {
         let parcel = self.parcel(number)?;
         let request = request_of(self.alloc, &parcel.content)?;
@@ -251,6 +265,15 @@ impl World {
         Ok(self.sent.get(index).ok_or("a message")?)
     }
 
+    /// A request comes to a platform from nobody that is known here.
+    pub(crate) fn foreign(&mut self, at: &str, request: Request) -> Result<String, Fail>
+        requires { (d : List Frame) (now : Moment) → MayBeAsked d now (request_view request) }
+    {
+        let outcome = self.take(platform(at)?, request)?;
+        self.post(platform(at)?, Back::Nowhere, outcome)
+    }
+
+    // What comes of a request that holds no command.
     fn take(&mut self, at: PlatformCode, request: Request) -> Result<Outcome, Fail>
         requires { (d : List Frame) (now : Moment) → MayBeAsked d now (request_view request) }
     {
@@ -264,9 +287,30 @@ impl World {
         Ok(self.gamm.take(self.alloc, now, request))
     }
 
+    /// How the bill is at a platform.
+    pub(crate) fn how(&mut self, at: &str) -> Result<String, Fail> {
+        let bill = bill()?;
+        self.foreign(at, Request::Ask { bill })
+    }
+
+    /// A reply to the start comes to ALPH.
+    pub(crate) fn start_reply(&mut self, bytes: &[u8]) -> Result<String, Fail> {
+        let bytes = ByteList::from_slice(self.alloc, bytes)?;
+        let bill = bill()?;
+        self.foreign("ALPH", Request::StartReply { bill, bytes })
+    }
+
     /// How many frames BETA has written.
     pub(crate) fn beta_frames(&self) -> usize {
         self.beta.diary().as_slice().len()
+    }
+
+    /// The body of the start of this number.
+    pub(crate) fn start_in(&self, number: usize) -> Result<ByteList, Fail> {
+        match &self.parcel(number)?.content {
+            Content::Sent(Message::Start { body, .. }) => Ok(body.copy(self.alloc)?),
+            _ => Err("a start".into()),
+        }
     }
 
     // What a platform gave is sent; in words, with the numbers of the messages.
