@@ -3,3 +3,5 @@ mod Grouped
 mod Shards
 mod Taken
 mod Writable
+mod BillNumbers
+mod Asked

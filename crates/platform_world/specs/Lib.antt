@@ -5,3 +5,4 @@ pub mod Happening
 pub mod Step
 pub mod Script
 pub mod Run
+pub mod State

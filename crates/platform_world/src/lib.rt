@@ -5,12 +5,15 @@ mod fate;
 mod happening;
 mod laws;
 mod machine;
+mod numbers;
 mod parcels;
 mod platforms;
+mod saying;
 mod script;
 mod shard;
 #[cfg(test)]
 mod tests;
+mod world;
 
 pub use fate::{Fate, FateEnd, FateList, ShardList};
 pub use happening::{Asking, Happening, Sender, comes_to};
@@ -19,3 +22,4 @@ pub use machine::Machine;
 pub use parcels::{ReplyKind, ReplyPath, parcels_of};
 pub use platforms::Platforms;
 pub use script::{event_in, roster_in};
+pub use world::World;
