@@ -3,6 +3,7 @@ use Rattle.std.specs.Prelude.{◌≤◌, All, IfSome, length}
 use Rattle.ebl_base.specs.PlatformCode.{IsCode}
 use Rattle.ebl_base.specs.Party.{IsParty}
 use Rattle.ebl_base.specs.Moment.{IsMoment}
+use Rattle.ebl_base.specs.declared.limits.TheConstants.{MAX_ENTRY_TRANSACTIONS}
 use Rattle.ebl_base.specs.declared.transaction.Transaction.{Transaction}
 use Rattle.ebl_base.specs.declared.entry.Entry.{Entry}
 use Rattle.document_checksum.specs.Digest.{IsChecksum}
@@ -21,5 +22,5 @@ pub record IsEntry (entry : Entry) : Type 0 where
   pub first_attempt : 1 ≤ entry.attempt
   pub last_attempt : entry.attempt ≤ 4294967295
   pub some : 1 ≤ length entry.transactions
-  pub most : length entry.transactions ≤ 32
+  pub most : length entry.transactions ≤ MAX_ENTRY_TRANSACTIONS
   pub transactions : All IsTransaction entry.transactions

@@ -7,6 +7,7 @@ use Rattle.json_forms.specs.declared.reading.Malformed.{Malformed}
 use Rattle.ebl_base.specs.Kind.{kind_of}
 use Rattle.ebl_base.specs.Moment.{moment_of}
 use Rattle.ebl_base.specs.declared.kind.Kind.{Kind}
+use Rattle.ebl_base.specs.declared.limits.TheConstants.{MAX_ENTRY_TRANSACTIONS, MAX_WHOLE_NUMBER}
 use Rattle.ebl_base.specs.declared.party.Party.{Party}
 use Rattle.ebl_base.specs.declared.moment.Moment.{Moment}
 use Rattle.ebl_base.specs.declared.transaction.Transaction.{Transaction}
@@ -24,7 +25,7 @@ required_kind v = option_and_then kind_of (text_of (codes "kind") v)
 
 -- the moment under its name
 abbrev pub required_time : Value → Option Moment
-required_time v = option_and_then moment_of (required_number (codes "time") 0 9007199254740991 v)
+required_time v = option_and_then moment_of (required_number (codes "time") 0 MAX_WHOLE_NUMBER v)
 
 -- the transaction with these parts, where each has its form
 abbrev pub transaction_with : Option Kind → Option Party → Result (Option Party) Malformed → Option Moment
@@ -46,7 +47,8 @@ transaction_of v =
 
 -- the transactions under their name, 1 to 32
 abbrev pub transactions_of : Value → Option (List Transaction)
-transactions_of v = option_and_then (all_of transaction_of) (required_items (codes "transactions") 1 32 v)
+transactions_of v =
+    option_and_then (all_of transaction_of) (required_items (codes "transactions") 1 MAX_ENTRY_TRANSACTIONS v)
 
 -- the entry that a value is, or the first member that is absent or malformed
 abbrev pub entry_of : Value → Result Entry EntryField

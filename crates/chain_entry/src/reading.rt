@@ -6,15 +6,14 @@ ghost use Rattle.chain_entry.specs.Reading.{required_kind, required_time, transa
 
 use crate::fault::{EntryFault, EntryField};
 use canonical_json::{Json, text_of};
-use ebl_base::{Entry, Kind, Moment, NoMemory, Transaction, TransactionList};
+use ebl_base::{
+    Entry, Kind, MAX_ENTRY_TRANSACTIONS, Moment, NoMemory, Transaction, TransactionList,
+};
 use json_forms::{
     optional_checksum, optional_party, required_checksum, required_items, required_number,
     required_party, required_platform,
 };
 use std::alloc::Global;
-
-/// The most transactions of an entry.
-const MOST: usize = 32;
 
 /// The entry that a value is: an object with `platform`, `bill`, `previous`, `attempt` and `transactions`, each of
 /// the form that [`EntryField`] says. Further members are ignored.
@@ -76,7 +75,7 @@ fn required_attempt(json: &Json) -> Option<u32>
 fn transactions_of(alloc: Global, json: &Json) -> Result<Option<TransactionList>, NoMemory>
     ensures { IfOk result (λ found. found ≡ transactions_of (view json.now)) }
 {
-    match required_items(json, "transactions", 1, MOST) {
+    match required_items(json, "transactions", 1, MAX_ENTRY_TRANSACTIONS) {
         Some(items) => transactions_in(alloc, items),
         None => Ok(None),
     }
