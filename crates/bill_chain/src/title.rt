@@ -6,8 +6,8 @@ ghost use Rattle.bill_chain.specs.Chain.{destination, possessor_after, title_aft
 use ebl_base::{ChainLink, Party, PlatformCode, Transaction};
 use title_fold::{FoldRefusal, Title, fold_from, possessor};
 
-/// The title after a chain and further transactions, or the rule that refuses the first that is refused. No entry and no
-/// transaction leave no title.
+/// The title after a chain and further transactions, or the rule that refuses the first that is refused. No entry and
+/// no transaction leave no title.
 pub fn fold_after_chain(
     chain: &[ChainLink],
     more: &[Transaction],
