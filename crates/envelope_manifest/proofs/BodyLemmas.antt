@@ -109,6 +109,10 @@ pub canon-body_value : (body : BodyRecord)
 unfolding escape_byte
 canon-body_value body = refl
 
+-- a part put behind others is the same as its equal
+pub put_same : (from to part same : List ℕ) → to ≡ from ++ part → part ≡ same → to ≡ from ++ same
+put_same from to part same put equal = put ∙ ap (λ x. from ++ x) equal
+
 -- parts put one behind the other
 pub joined : (a b c d e f g : List ℕ) (to_a to_b to_c to_d to_e to_f to_g : List ℕ)
     → to_a ≡ a → to_b ≡ to_a ++ b → to_c ≡ to_b ++ c → to_d ≡ to_c ++ d → to_e ≡ to_d ++ e → to_f ≡ to_e ++ f

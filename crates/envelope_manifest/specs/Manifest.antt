@@ -7,6 +7,7 @@ use Rattle.json_forms.specs.Reading.{required_checksum, required_items, all_of, 
 use Rattle.json_forms.specs.Writing.{checksum_value, each_written}
 use Rattle.ebl_base.specs.Checksum.{checksum_eq}
 use Rattle.ebl_base.specs.declared.checksum.Checksum.{Checksum}
+use Rattle.ebl_base.specs.declared.limits.TheConstants.{MAX_DOCUMENTS, MAX_DOCUMENTS_SIZE}
 use Rattle.envelope_manifest.specs.declared.fault.ManifestField.{ManifestField}
 use Rattle.envelope_manifest.specs.declared.fault.ManifestField.TheVariants.{Bill, Last, Documents}
 use Rattle.envelope_manifest.specs.declared.fault.ManifestFault.{ManifestFault}
@@ -30,7 +31,7 @@ total_size pieces = sum_by (λ piece. piece.size) pieces
 
 -- distinct documents, together of at most 4,194,304 bytes
 abbrev pub go_together : List Piece → Bool
-go_together pieces = are_distinct (checksums_of pieces) && nat_le (total_size pieces) 4194304
+go_together pieces = are_distinct (checksums_of pieces) && nat_le (total_size pieces) MAX_DOCUMENTS_SIZE
 
 -- the listed documents, where they go together
 abbrev pub together : List Piece → Option (List Piece)
@@ -42,7 +43,7 @@ pieces_in values = option_and_then together (all_of piece_in values)
 
 -- at most 16 of them
 abbrev pub required_pieces : Value → Option (List Piece)
-required_pieces v = option_and_then pieces_in (required_items (codes "documents") 0 16 v)
+required_pieces v = option_and_then pieces_in (required_items (codes "documents") 0 MAX_DOCUMENTS v)
 
 -- the manifest that a value is, or the first field that is absent or malformed
 abbrev pub manifest_of : Value → Result Manifest ManifestField
@@ -64,7 +65,7 @@ ArePieces (piece ∷ pieces) = IsPiece piece × ArePieces pieces
 
 -- the listed documents as a manifest allows them
 pub record AreDocuments (pieces : List Piece) : Type 0 where
-  pub count : length pieces ≤ 16
+  pub count : length pieces ≤ MAX_DOCUMENTS
   pub each : ArePieces pieces
   pub together : IsTrue (go_together pieces)
 

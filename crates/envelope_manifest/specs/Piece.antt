@@ -8,6 +8,7 @@ use Rattle.document_checksum.specs.Digest.{IsChecksum}
 use Rattle.json_forms.specs.Reading.{required_number, required_checksum, required}
 use Rattle.json_forms.specs.Writing.{number_value, checksum_value}
 use Rattle.ebl_base.specs.declared.checksum.Checksum.{Checksum}
+use Rattle.ebl_base.specs.declared.limits.TheConstants.{MAX_DOCUMENT_MEDIA, MAX_DOCUMENT_NAME, MAX_DOCUMENT_SIZE}
 use Rattle.envelope_manifest.specs.declared.fault.ManifestField.{ManifestField}
 use Rattle.envelope_manifest.specs.declared.fault.ManifestField.TheVariants.{Documents}
 use Rattle.envelope_manifest.specs.declared.piece.Piece.{Piece}
@@ -45,8 +46,9 @@ piece_with (Some name) (Some media) (Some size) (Some checksum) =
 -- 2,097,152 bytes, and a checksum
 abbrev pub piece_in : Value → Option Piece
 piece_in v =
-    piece_with (required_plain_text (codes "name") 128 v) (required_plain_text (codes "media") 64 v)
-    (required_number (codes "size") 0 2097152 v) (required_checksum (codes "checksum") v)
+    piece_with (required_plain_text (codes "name") MAX_DOCUMENT_NAME v)
+    (required_plain_text (codes "media") MAX_DOCUMENT_MEDIA v)
+    (required_number (codes "size") 0 MAX_DOCUMENT_SIZE v) (required_checksum (codes "checksum") v)
 
 -- the same, where another value is a fault of the list of documents
 abbrev pub piece_of : Value → Result Piece ManifestField
@@ -54,11 +56,11 @@ piece_of v = required Documents (piece_in v) Ok
 
 -- a listed document that is well-formed
 pub record IsPiece (piece : Piece) : Type 0 where
-  pub name : IsTrue (is_plain_text 128 piece.name)
+  pub name : IsTrue (is_plain_text MAX_DOCUMENT_NAME piece.name)
   pub name_utf8 : IsUtf8 piece.name
-  pub media : IsTrue (is_plain_text 64 piece.media)
+  pub media : IsTrue (is_plain_text MAX_DOCUMENT_MEDIA piece.media)
   pub media_utf8 : IsUtf8 piece.media
-  pub size : piece.size ≤ 2097152
+  pub size : piece.size ≤ MAX_DOCUMENT_SIZE
   pub checksum : IsChecksum piece.checksum
 
 -- the written form, with the names in order

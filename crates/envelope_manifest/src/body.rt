@@ -4,9 +4,9 @@ ghost use Rattle.canonical_json.specs.Canon.{canon};
 ghost use Rattle.canonical_json.specs.Value.{depth};
 
 use crate::body_reading::body_of;
-use crate::body_writing::{push_text, push_texts, push_value};
+use crate::body_writing::{push_text, push_texts};
 use crate::fault::{BodyFault, BodyField};
-use canonical_json::{Json, ReadError, read};
+use canonical_json::{Json, ReadError, read, write};
 use ebl_base::{ByteList, Copied, NoMemory, SignedText, TextList};
 use std::alloc::Global;
 
@@ -63,10 +63,19 @@ impl Body {
     pub fn write(&self, alloc: Global) -> Result<ByteList, NoMemory>
         ensures { IfOk result (λ bytes. bytes ≡ canon (body_value (body_view self.now))) }
     {
+        let document = write(alloc, &self.document)?;
+        self.write_around(alloc, document.as_slice())
+    }
+
+    /// The same, around the document's canonical text, where that is at hand: it isn't written again.
+    pub fn write_around(&self, alloc: Global, document: &[u8]) -> Result<ByteList, NoMemory>
+        requires { document.now ≡ canon (body_view self.now).document }
+        ensures { IfOk result (λ bytes. bytes ≡ canon (body_value (body_view self.now))) }
+    {
         let mut out = ByteList::from_slice(alloc, b"{\"chain\":[")?;
         push_texts(alloc, &mut out, self.chain.as_slice())?;
         out.extend_from_slice(b",\"document\":")?;
-        push_value(alloc, &mut out, &self.document)?;
+        out.extend_from_slice(document)?;
         out.extend_from_slice(b",\"manifest\":")?;
         push_text(alloc, &mut out, &self.manifest)?;
         out.extend_from_slice(b"}")?;

@@ -1,21 +1,12 @@
 //! The parts of a body as they are written.
 ghost use Rattle.std.specs.Prelude.{◌≡◌, ◌++◌, false, OnOk};
 ghost use Rattle.canonical_json.specs.Canon.{canon, comma_if, values_text};
-ghost use Rattle.canonical_json.specs.View.{view};
 ghost use Rattle.json_forms.specs.Writing.{each_written};
 ghost use Rattle.envelope_manifest.specs.Body.{signed_value};
 
-use canonical_json::{Json, write, write_text};
+use canonical_json::write_text;
 use ebl_base::{ByteList, NoMemory, SignedText};
 use std::alloc::Global;
-
-/// Puts the text of a value at the end.
-pub(crate) fn push_value(alloc: Global, out: &mut ByteList, json: &Json) -> Result<(), NoMemory>
-    ensures { OnOk result (out.new ≡ out.old ++ canon (view json.now)) }
-{
-    let text = write(alloc, json)?;
-    out.extend_from_slice(text.as_slice())
-}
 
 /// Puts a signed text at the end, in quotation marks.
 pub(crate) fn push_text(

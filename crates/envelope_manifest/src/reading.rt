@@ -13,24 +13,15 @@ use crate::fault::{ManifestFault, ManifestField};
 use crate::manifest::Manifest;
 use crate::piece::{Piece, PieceList};
 use canonical_json::{Json, text_of};
-use ebl_base::{CharList, Checksum};
+use ebl_base::{
+    CharList, Checksum, MAX_DOCUMENT_MEDIA, MAX_DOCUMENT_NAME, MAX_DOCUMENT_SIZE, MAX_DOCUMENTS,
+    MAX_DOCUMENTS_SIZE,
+};
 use json_forms::{required_checksum, required_items, required_number};
 use std::alloc::Global;
 
-/// The most documents of a manifest.
-const PIECES_MOST: usize = 16;
-
-/// The most bytes of all documents of a manifest together.
-const TOGETHER_MOST: u32 = 4_194_304;
-
-/// The most bytes of a document.
-const SIZE_MOST: u64 = 2_097_152;
-
-/// The most bytes of a document's name.
-const NAME_MOST: usize = 128;
-
-/// The most bytes of a media type.
-const MEDIA_MOST: usize = 64;
+/// The most bytes of a document, as a number that is read.
+const MOST_BYTES: u64 = MAX_DOCUMENT_SIZE as u64;
 
 /// The manifest that a value is: an object with `bill` and `last`, checksums, and `documents`, a list of at most 16
 /// objects as [`decode_piece`] reads them, with distinct checksums, together of at most 4,194,304 bytes. Further
@@ -67,13 +58,13 @@ pub fn decode_piece(alloc: Global, json: &Json) -> Result<Piece, ManifestFault>
     ensures form { IfOk result (λ piece. IsPiece piece) }
     ensures err { IfErr result (IsFault (piece_of (view json.now))) }
 {
-    let Some(name) = required_plain_text(json, "name", NAME_MOST) else {
+    let Some(name) = required_plain_text(json, "name", MAX_DOCUMENT_NAME) else {
         return Err(ManifestFault::ManifestForm(ManifestField::Documents));
     };
-    let Some(media) = required_plain_text(json, "media", MEDIA_MOST) else {
+    let Some(media) = required_plain_text(json, "media", MAX_DOCUMENT_MEDIA) else {
         return Err(ManifestFault::ManifestForm(ManifestField::Documents));
     };
-    let Some(size) = required_number(json, "size", 0, SIZE_MOST) else {
+    let Some(size) = required_number(json, "size", 0, MOST_BYTES) else {
         return Err(ManifestFault::ManifestForm(ManifestField::Documents));
     };
     let Some(checksum) = required_checksum(json, "checksum") else {
@@ -132,7 +123,7 @@ fn required_pieces(alloc: Global, json: &Json) -> Result<PieceList, ManifestFaul
     ensures form { IfOk result (λ pieces. AreDocuments pieces) }
     ensures err { IfErr result (IsFault (required Documents (required_pieces (view json.now)) Ok)) }
 {
-    let Some(items) = required_items(json, "documents", 0, PIECES_MOST) else {
+    let Some(items) = required_items(json, "documents", 0, MAX_DOCUMENTS) else {
         return Err(ManifestFault::ManifestForm(ManifestField::Documents));
     };
     let pieces = all_pieces(alloc, items)?;
@@ -184,9 +175,9 @@ fn has_checksum(pieces: &[Piece], checksum: Checksum) -> bool
 }
 
 fn fit_together(pieces: &[Piece]) -> bool
-    ensures { result ≡ nat_le (total_size pieces.now) 4194304 }
+    ensures { result ≡ nat_le (total_size pieces.now) MAX_DOCUMENTS_SIZE }
 {
-    let mut room = TOGETHER_MOST;
+    let mut room = MAX_DOCUMENTS_SIZE;
     for piece in pieces {
         if room < piece.size {
             return false;
