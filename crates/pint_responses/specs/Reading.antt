@@ -1,5 +1,5 @@
 -- Which values are responses, and which member of another value is the first that is wrong.
-use Rattle.std.specs.Prelude.{◌≡◌, ℕ, List, Option, Some, None, Result, Ok, Err, codes, option_and_then, option_map, is_some, if◌then◌else◌}
+use Rattle.std.specs.Prelude.{◌≡◌, ℕ, ◌-◌, List, Option, Some, None, Result, Ok, Err, codes, option_and_then, option_map, is_some, if◌then◌else◌}
 use Rattle.canonical_json.specs.Value.{Value}
 use Rattle.canonical_json.specs.Field.{as_text, flag_of, list_of, member_of, text_of}
 use Rattle.json_forms.specs.Reading.{all_of, checksum_in, optional, optional_checksum, required, required_number, then_read, unless_malformed}
@@ -9,6 +9,7 @@ use Rattle.ebl_base.specs.Reason.{reason_at, reason_index, reason_of}
 use Rattle.ebl_base.specs.declared.checksum.Checksum.{Checksum}
 use Rattle.ebl_base.specs.declared.code.Code.{Code}
 use Rattle.ebl_base.specs.declared.evidence.Evidence.{Evidence}
+use Rattle.ebl_base.specs.declared.limits.TheConstants.{MAX_CHAIN_ENTRIES}
 use Rattle.ebl_base.specs.declared.reason.Reason.{Reason}
 use Rattle.ebl_base.specs.declared.signed_text.SignedText.{SignedText}
 use Rattle.pint_responses.specs.Response.{comes_with}
@@ -42,7 +43,7 @@ without_index v reason = if is_some (member_of (codes "index") v) then None else
 abbrev pub at_index : Value → Reason → Option ℕ → Option (Option Reason)
 at_index v reason None = without_index v (Some reason)
 at_index v reason (Some first) =
-    option_map (λ place. Some (reason_at place reason)) (required_number (codes "index") 0 63 v)
+    option_map (λ place. Some (reason_at place reason)) (required_number (codes "index") 0 (MAX_CHAIN_ENTRIES - 1) v)
 
 -- the reason with its index
 abbrev pub indexed : Value → Option Reason → Option (Option Reason)

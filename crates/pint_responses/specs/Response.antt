@@ -1,9 +1,10 @@
 -- Which responses can be sealed, and which are well-formed.
-use Rattle.std.specs.Prelude.{◌≡◌, ℕ, ◌≤◌, Bool, true, List, Option, Some, None, All, length, nat_le}
+use Rattle.std.specs.Prelude.{◌≡◌, ℕ, ◌≤◌, ◌-◌, Bool, true, List, Option, Some, None, All, length, nat_le}
 use Rattle.ebl_base.specs.Code.{response_code_eq}
 use Rattle.ebl_base.specs.Reason.{code_for, reason_index}
 use Rattle.ebl_base.specs.declared.checksum.Checksum.{Checksum}
 use Rattle.ebl_base.specs.declared.code.Code.{Code}
+use Rattle.ebl_base.specs.declared.limits.TheConstants.{MAX_CHAIN_ENTRIES, MAX_DOCUMENTS, MAX_SIGNED_TEXT}
 use Rattle.ebl_base.specs.declared.reason.Reason.{Reason}
 use Rattle.ebl_base.specs.declared.signed_text.SignedText.{SignedText}
 use Rattle.document_checksum.specs.Digest.{IsChecksum}
@@ -14,7 +15,7 @@ use Rattle.pint_responses.specs.declared.response.Response.{Response}
 
 -- a text in the compact layout, within 16,384 bytes
 abbrev pub IsEvidence : List ℕ → Type 0
-IsEvidence text = IsCompactText 16384 text
+IsEvidence text = IsCompactText MAX_SIGNED_TEXT text
 
 -- so is the text, if there is one
 abbrev pub IsOptionalEvidence : Option SignedText → Type 0
@@ -23,7 +24,7 @@ IsOptionalEvidence (Some text) = IsEvidence text.0
 
 -- the response can be sealed, whatever its code and reason are
 pub record IsSealable (r : Response) : Type 0 where
-  pub missing : length r.missing ≤ 16
+  pub missing : length r.missing ≤ MAX_DOCUMENTS
   pub own : IsOptionalEvidence r.evidence.own
   pub theirs : IsOptionalEvidence r.evidence.theirs
 
@@ -45,7 +46,7 @@ comes_with code reason = response_code_eq (code_for reason) code
 -- the place of an entry is from 0 to 63
 abbrev pub is_place : Option ℕ → Bool
 is_place None = true
-is_place (Some place) = nat_le place 63
+is_place (Some place) = nat_le place (MAX_CHAIN_ENTRIES - 1)
 
 -- the reason, if there is one, comes with the code, and is of one of 64 entries
 abbrev pub IsReasonOf : Code → Option Reason → Type 0

@@ -1,6 +1,7 @@
 //! What holds of every response. The functions do nothing: their contracts are the laws.
 ghost use Rattle.std.specs.Prelude.{◌≡◌, ◌≢◌, ◌≤◌, ℕ, List, Some, Ok, length};
 ghost use Rattle.ebl_base.specs.PlatformCode.{code_of, code_text};
+ghost use Rattle.ebl_base.specs.declared.limits.TheConstants.{MAX_SEALED_RESPONSE};
 ghost use Rattle.ebl_base.specs.declared.platform_code.PlatformCode.{PlatformCode};
 ghost use Rattle.ebl_base.specs.declared.signature.Signature.{Signature};
 ghost use Rattle.canonical_json.specs.Canon.{canon};
@@ -34,8 +35,8 @@ pub fn written_response_is_read()
 /// A well-formed response is unsealed as it was sealed.
 pub fn sealed_response_is_unsealed()
     ensures { (keys : Keys) (text : List ℕ) (who : PlatformCode) (r : Response) (s : Signature)
-        → IsComposed keys text who (response_value r) s → length text ≤ 65536 → code_of (code_text who) ≡ Some who
-        → IsAllowed r → IsSealed keys text who r }
+        → IsComposed keys text who (response_value r) s → length text ≤ MAX_SEALED_RESPONSE
+        → code_of (code_text who) ≡ Some who → IsAllowed r → IsSealed keys text who r }
 {
     composed_text_is_signed();
 }

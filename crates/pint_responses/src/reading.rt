@@ -7,12 +7,14 @@ ghost use Rattle.pint_responses.specs.Response.{comes_with};
 use crate::fault::{ResponseField, UnsealFault};
 use crate::response::Response;
 use canonical_json::{Json, flag_of, list_of, member_of, text_of};
-use ebl_base::{ByteList, ChecksumList, Code, Evidence, NoMemory, Reason, SignedText};
+use ebl_base::{
+    ByteList, ChecksumList, Code, Evidence, MAX_CHAIN_ENTRIES, NoMemory, Reason, SignedText,
+};
 use json_forms::{Malformed, checksums_in, optional_checksum, required_number};
 use std::alloc::Global;
 
 /// The greatest place of an entry in a chain.
-const LAST_PLACE: u64 = 63;
+const LAST_PLACE: u64 = MAX_CHAIN_ENTRIES as u64 - 1;
 
 /// The response that a value is. Else the fault is the first member that is wrong, or memory ran out.
 pub(crate) fn response_of(alloc: Global, json: &Json) -> Result<Response, UnsealFault>

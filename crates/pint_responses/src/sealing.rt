@@ -10,18 +10,11 @@ ghost use Rattle.pint_responses.specs.declared.fault.SealFault.TheVariants.{Sign
 use crate::fault::SealFault;
 use crate::response::Response;
 use crate::writing::response_json;
-use ebl_base::{NoMemory, PlatformCode, SignedText};
+use ebl_base::{
+    MAX_DOCUMENTS, MAX_SEALED_RESPONSE, MAX_SIGNED_TEXT, NoMemory, PlatformCode, SignedText,
+};
 use signed_envelope::{ComposeFault, KeyRing, compose, is_compact};
 use std::alloc::Global;
-
-/// The most bytes of a sealed response.
-pub(crate) const MOST: usize = 65_536;
-
-/// The most missing documents of a response that is sealed.
-const MOST_MISSING: usize = 16;
-
-/// The most bytes of an evidence text that is sealed.
-const MOST_EVIDENCE: usize = 16_384;
 
 /// The text of a response of this platform, signed by the ring: at most 65,536 bytes in the compact layout (RFC 7515,
 /// section 7.1), with the response as canonical JSON (RFC 8785).
@@ -37,13 +30,13 @@ pub fn seal<G: KeyRing>(
 ) -> Result<SignedText, SealFault>
     requires { IsSealable r.now }
     ensures ok { IfOk result (λ t. (s : Signature) × IsComposed (G.keys ring.old) t.0 me (response_value r.now) s) }
-    ensures fits { IfOk result (λ t. length t.0 ≤ 65536) }
+    ensures fits { IfOk result (λ t. length t.0 ≤ MAX_SEALED_RESPONSE) }
     ensures sign { result ≡ Err Sign → Rose (G.faults ring.old) (G.faults ring.new) }
     ensures later { G.faults ring.old ≤ G.faults ring.new }
     ensures same { G.keys ring.new ≡ G.keys ring.old }
 {
     let payload = response_json(alloc, r)?;
-    match compose(alloc, ring, me, &payload, MOST) {
+    match compose(alloc, ring, me, &payload, MAX_SEALED_RESPONSE) {
         Ok(text) => Ok(text),
         Err(ComposeFault::Sign) => Err(SealFault::Sign),
         // No such response is too long.
@@ -52,13 +45,13 @@ pub fn seal<G: KeyRing>(
     }
 }
 
-/// Whether a response can be sealed: at most 16 documents are missing, and each evidence is in the compact layout within
-/// 16,384 bytes. It decodes the evidence. A response that was unsealed may be one that can't.
+/// Whether a response can be sealed: at most 16 documents are missing, and each evidence is in the compact layout
+/// within 16,384 bytes. It decodes the evidence. A response that was unsealed may be one that can't.
 pub fn is_sealable(alloc: Global, r: &Response) -> Result<bool, NoMemory>
     ensures yes { result ≡ Ok true → IsSealable r.now }
     ensures no { result ≡ Ok false → ¬ IsSealable r.now }
 {
-    if r.missing.len() > MOST_MISSING {
+    if r.missing.len() > MAX_DOCUMENTS {
         return Ok(false);
     }
     if !is_evidence(alloc, &r.evidence.own)? {
@@ -72,7 +65,7 @@ fn is_evidence(alloc: Global, text: &Option<SignedText>) -> Result<bool, NoMemor
     ensures no { result ≡ Ok false → ¬ IsOptionalEvidence text.now }
 {
     match text {
-        Some(text) => is_compact(alloc, text.0.as_slice(), MOST_EVIDENCE),
+        Some(text) => is_compact(alloc, text.0.as_slice(), MAX_SIGNED_TEXT),
         None => Ok(true),
     }
 }

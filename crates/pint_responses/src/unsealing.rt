@@ -6,8 +6,7 @@ ghost use Rattle.pint_responses.specs.Sealed.{IsSealed, IsUnsealFault};
 use crate::fault::UnsealFault;
 use crate::reading::response_of;
 use crate::response::Response;
-use crate::sealing::MOST;
-use ebl_base::PlatformCode;
+use ebl_base::{MAX_SEALED_RESPONSE, PlatformCode};
 use signed_envelope::{BadSigned, KeyRing, verify_text};
 use std::alloc::Global;
 
@@ -25,7 +24,7 @@ pub fn unseal<G: KeyRing>(
     ensures form { IfOk result (λ r. IsAllowed r) }
     ensures err { IfErr result (λ e. IsUnsealFault (G.keys ring.now) text.now from e) }
 {
-    let payload = match verify_text(alloc, ring, text, from, MOST) {
+    let payload = match verify_text(alloc, ring, text, from, MAX_SEALED_RESPONSE) {
         Ok(payload) => payload,
         Err(BadSigned::NoMemory) => return Err(UnsealFault::NoMemory),
         Err(why) => return Err(UnsealFault::Signature(why)),
