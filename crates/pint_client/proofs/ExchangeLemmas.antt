@@ -80,9 +80,6 @@ answers_all result (Some came) (Some rest) reads = subst (λ x. IsAnswerTo x res
 pub both_wrote : (old mid new : Option (List ℕ)) (head body : List ℕ) → Appends old mid head → Appends mid new body → Appends old new (head ++ body)
 both_wrote old mid new head body first second = Appends-trans old mid new head body first second
 
-pub only_head : (old new : Option (List ℕ)) (head body : List ℕ) → body ≡ [] → Appends old new head → Appends old new (head ++ body)
-only_head old new head body none first = subst (Appends old new) (sym (ap (λ l. head ++ l) none ∙ append-nil head)) first
-
 pub head_part : (old new : Option (List ℕ)) (head body : List ℕ) → AppendsFirst old new head → AppendsFirst old new (head ++ body)
 head_part old new head body part = record {
   front = part.front;

@@ -15,8 +15,8 @@ use std::alloc::Global;
 /// Sends a message to another platform as one request (HTTP/1.1, RFC 9112) and reads the one reply to it.
 ///
 /// The link is left open. Bytes behind the reply, which nobody asked for, are read only if they come with its head, and
-/// are dropped. Why no reply comes is said by [`ClientFault`]; after each fault the link is best given up, since part of
-/// a request or of a reply may be on it.
+/// are dropped. Why no reply comes is said by [`ClientFault`]; after each fault the link is best given up, since part
+/// of a request or of a reply may be on it.
 pub fn exchange<L: Link>(
     alloc: Global,
     link: &mut L,
