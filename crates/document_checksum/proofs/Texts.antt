@@ -1,14 +1,12 @@
 -- What is read as a checksum is written back as it stood, and what is written is read.
-use Rattle.std.proofs.Common.{◌≡◌, ℕ, suc, ◌+◌, ◌*◌, ◌/◌, ◌%◌, ◌<◌, Bool, true, false, if◌then◌else◌, List, [], ◌∷◌, length, slice_index_or, Option, Some, None, Result, Ok, Err, refl, sym, ap, ◌∙◌, arith}
-use Rattle.std.proofs.lemmas.Bool.{and_parts, false≢true}
+use Rattle.std.proofs.Common.{◌≡◌, ℕ, suc, ◌+◌, ◌*◌, ◌/◌, ◌%◌, ◌<◌, Bool, true, false, if◌then◌else◌, List, [], ◌∷◌, Some, None, Result, Ok, Err, refl, sym, ap, ◌∙◌, arith}
+use Rattle.std.proofs.lemmas.Bool.{and_parts}
 use Rattle.std.specs.List.{list_all}
 use Rattle.std.specs.Result.{result_unwrap_or}
-use Rattle.std.specs.Prelude.{IfSome, IsSome, IsOk, ◌↔◌}
-use Rattle.std.specs.List.{AllPass}
-use Rattle.std.proofs.lemmas.List.Sums.{AllPass-from_list_all, list_all-from_AllPass}
-use Rattle.hex.specs.Hex.{IsBytes, is_hex_digit, decode_pairs, decode_sized, encode_lower, encode_with, pair_value, value_at, ◌>>=◌}
+use Rattle.std.specs.Prelude.{IfSome}
+use Rattle.hex.specs.Hex.{IsBytes, decode_pairs, decode_sized, encode_lower, encode_with, pair_value, value_at, ◌>>=◌}
 use Rattle.hex.specs.declared.error.FromHexError.{FromHexError}
-use Rattle.hex.proofs.HexLemmas.{IsOk-decode_sized, decode_of-even, decode_sized-encode_lower, decode_sized-ok, decode_sized-twice}
+use Rattle.hex.proofs.HexLemmas.{decode_of-even, decode_sized-encode_lower, decode_sized-ok, decode_sized-twice}
 use Rattle.ebl_base.specs.declared.checksum.Checksum.{Checksum}
 use Rattle.document_checksum.specs.Digest.{IsChecksum}
 use Rattle.document_checksum.specs.Text.{checksum_from, checksum_of_text, checksum_text, is_lower_digit}
@@ -79,42 +77,3 @@ text_of_tested text false low = tt
 
 pub checksum_text-checksum_of_text : (text : List ℕ) → IfSome (checksum_of_text text) (λ c. checksum_text c ≡ text)
 checksum_text-checksum_of_text text = text_of_tested text (list_all is_lower_digit text) refl
-
--- ---- which texts are read
-
--- a digit in lower case is a digit
-is_hex_digit-lower : (c : ℕ) → is_lower_digit c ≡ true → is_hex_digit c ≡ true
-is_hex_digit-lower c h = grind (arith)
-
--- digits in lower case are digits
-all_hex-lower : (text : List ℕ) → AllPass is_lower_digit text → AllPass is_hex_digit text
-all_hex-lower text h = λ k d at. is_hex_digit-lower (slice_index_or text k d) (h k d at)
-
--- what decodes is a checksum
-IsSome-checksum_from : (read : Result (List ℕ) FromHexError) → IsOk read → IsSome (checksum_from read)
-IsSome-checksum_from (Ok bytes) h = refl
-IsSome-checksum_from (Err e) h = h
-
-IsOk-from_checksum : (read : Result (List ℕ) FromHexError) → IsSome (checksum_from read) → IsOk read
-IsOk-from_checksum (Ok bytes) h = refl
-IsOk-from_checksum (Err e) h = h
-
--- whether the text with this answer of the test is read
-form_of_tested : (text : List ℕ) (low : Bool) → list_all is_lower_digit text ≡ low
-    → IsSome (if low then checksum_from (decode_sized text 32) else None)
-    ↔ (length text ≡ 64) × AllPass is_lower_digit text
-form_of_tested text true low =
-    let digits = IsOk-decode_sized text 32 in
-    let pass = AllPass-from_list_all is_lower_digit text low in (
-      λ h. ((digits.0 (IsOk-from_checksum (decode_sized text 32) h)).0, pass),
-      λ h. IsSome-checksum_from (decode_sized text 32) (digits.1 (h.0, all_hex-lower text pass)),
-    )
-form_of_tested text false low = (
-  λ h. absurd (false≢true h),
-  λ h. absurd (false≢true (sym low ∙ list_all-from_AllPass is_lower_digit text h.1)),
-)
-
--- 64 digits in lower case are read, and nothing else
-pub form_of_read : (text : List ℕ) (read : Option Checksum) → read ≡ checksum_of_text text
-    → IsSome read ↔ (length text ≡ 64) × AllPass is_lower_digit text
-form_of_read text read h = rw h (form_of_tested text (list_all is_lower_digit text) refl)

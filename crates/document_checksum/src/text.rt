@@ -1,21 +1,22 @@
 //! The text of a checksum, and the checksum with a text.
-ghost use Rattle.std.specs.Prelude.{◌≡◌, ◌↔◌, length, IsSome};
-ghost use Rattle.std.specs.List.{AllPass, list_all};
+ghost use Rattle.std.specs.Prelude.{◌≡◌, ◌<◌, ◌↔◌, None, length, if◌then◌else◌, IsSome, IfSome};
+ghost use Rattle.std.specs.List.{AllPass};
+ghost use Rattle.hex.specs.Hex.{hex_digit_value};
 ghost use Rattle.document_checksum.specs.Text.{checksum_text, checksum_of_text, is_lower_digit};
 
 use ebl_base::Checksum;
-use hex::{FromHex, encode_to_slice};
+use hex::encode_to_slice;
 
-fn is_lower_digit(character: u8) -> bool
-    ensures { result ≡ is_lower_digit character }
+// The value of a digit in lower case.
+fn digit_value(character: u8) -> Option<u8>
+    ensures value { result ≡ (if is_lower_digit character then hex_digit_value character else None) }
+    ensures small { IfSome result (λ value. value < 16) }
 {
-    character.is_ascii_digit() || (b'a'..=b'f').contains(&character)
-}
-
-fn are_lower_digits(text: &[u8]) -> bool
-    ensures { result ≡ list_all is_lower_digit text.now }
-{
-    text.iter().all(|character| is_lower_digit(*character))
+    match character {
+        b'0'..=b'9' => Some(character - b'0'),
+        b'a'..=b'f' => Some(character - b'a' + 10),
+        _ => None,
+    }
 }
 
 /// The text of a checksum: two hexadecimal digits for each byte, in lower case (RFC 4648, section 8).
@@ -36,9 +37,14 @@ pub fn from_text(text: &[u8]) -> Option<Checksum>
     ensures form { IsSome result ↔ (length text.now ≡ 64) × AllPass is_lower_digit text.now }
     ensures value { result ≡ checksum_of_text text.now }
 {
-    if !are_lower_digits(text) {
+    if text.len() != 64 {
         return None;
     }
-    let bytes = <[u8; 32] as FromHex>::from_hex(text).ok()?;
+    let mut bytes = [0; 32];
+    'bytes: for at in 0..32 {
+        let high = digit_value(text[2 * at])?;
+        let low = digit_value(text[2 * at + 1])?;
+        bytes[at] = high * 16 + low;
+    }
     Some(Checksum(bytes))
 }
