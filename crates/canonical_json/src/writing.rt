@@ -17,7 +17,7 @@ use std::alloc::Global;
 use std::mem;
 
 // From this length on a text is written by the kit's writer, which pays once for its start.
-const LONG: usize = 64;
+const LONG: usize = 16;
 
 /// The canonical text of a value: RFC 8785, sections 3.2.1 to 3.2.3. It takes one buffer that
 /// grows, and goes as deep as the value nests.
@@ -225,7 +225,8 @@ fn plain_end(text: &[u8], at: usize) -> usize
 fn is_plain(byte: u8) -> bool
     ensures { result ≡ is_plain byte }
 {
-    !(byte == b'"' || byte == b'\\' || byte < 0x20)
+    // Letters and digits take two comparisons.
+    (byte > b'"' && byte != b'\\') || byte == b' ' || byte == b'!'
 }
 
 // What stands for the byte, and how long it is.
