@@ -1,7 +1,6 @@
 -- What a request that was taken makes of the world.
-use Rattle.std.proofs.Common.{◌≡◌, ◌≢◌, ◌⊎◌, inl, inr, ℕ, ◌+◌, ◌-◌, Bool, true, false, List, [], ◌∷◌, ◌++◌, length, Option, Some, None, Result, Ok, Err, refl, sym, ap, subst, ◌∙◌, arith}
-use Rattle.std.specs.Prelude.{IfOk, OnOk, map, option_map}
-use Rattle.std.specs.List.{range_with_len}
+use Rattle.std.proofs.Common.{◌≡◌, ◌≢◌, ◌⊎◌, inl, inr, ◌≤◌, Bool, true, false, List, [], ◌++◌, length, Option, None, Result, Ok, Err, refl, sym, ap, subst, ◌∙◌, arith}
+use Rattle.std.specs.Prelude.{IfOk, OnErr, OnOk, option_map}
 use Rattle.std.specs.Option.{option_to_list, option_or}
 use Rattle.std.proofs.lemmas.List.{append-nil, length-append}
 use Rattle.ebl_base.specs.declared.checksum.Checksum.{Checksum}
@@ -15,7 +14,7 @@ use Rattle.platform_requests.specs.declared.reply.Reply.{Reply}
 use Rattle.platform_requests.specs.declared.reply.Reply.TheVariants as replies
 use Rattle.platform_machine.specs.Complete.{is_failure}
 use Rattle.platform_machine.specs.Machine.{MayBeAsked}
-use Rattle.answer_lines.specs.Lines.{answer_line}
+use Rattle.answer_lines.specs.Lines.{IsWritable}
 use Rattle.answer_lines.specs.declared.answer.Answer.{Answer}
 use Rattle.answer_lines.specs.declared.answer.Answer.TheVariants.{Replied}
 use Rattle.answer_lines.specs.declared.parcel.Content.{Content}
@@ -28,10 +27,9 @@ use Rattle.platform_world.specs.Happening as happening
 use Rattle.platform_world.specs.Machine.{MachineRecord}
 use Rattle.party_roster.specs.RosterRecord.{RosterRecord}
 use Rattle.platform_world.specs.Platforms.{PlatformsRecord, TakesAt, states_of}
-use Rattle.platform_world.specs.Run.{line_after, number_shown, numbers_sent}
-use Rattle.platform_world.specs.State.{IsFollowed, IsTold, MayAsk, WorldState, bill_by, is_sign, world_of}
-use Rattle.platform_world.specs.Step.{Happens, IsAt, IsPathOf, bills_signed, kind_of, parcels_of, reply_bill, reply_content, reply_parcel, request_bill, sends}
-use Rattle.platform_world.specs.World.{PlatformState, ShardState, WorldRecord, shard_at, with_shard}
+use Rattle.platform_world.specs.State.{HasHappened, HasHappenedWhole, IsCutShort, IsFollowed, MayAsk, WorldState, bill_by, is_sign, world_of}
+use Rattle.platform_world.specs.Step.{Happens, IsAt, IsPathOf, bills_signed, kind_of, parcels_of, reply_content, reply_parcel, request_bill, sends}
+use Rattle.platform_world.specs.World.{PlatformState, ShardState, WorldRecord, with_shard}
 use Rattle.platform_machine.specs.Step.{with_frame}
 use Rattle.platform_machine.specs.declared.step.Step.{Step}
 use Rattle.platform_world.proofs.Paths.{path_leads}
@@ -149,6 +147,12 @@ failed w a out after sign none same =
 
 -- ---- either
 
+-- what happened, and that it was taken whole, unless the ring failed to sign
+record Happened (w : WorldRecord) (a : Asking) (out : Outcome) (after : List PlatformState) : Type 0 where
+  fate : Fate
+  happens : Happens w (happening.asks a) fate (Replied out.reply) (world_with w a after out.reply out.messages)
+  ends : (fate.end ≡ Whole) ⊎ (out.reply ≡ replies.Sign)
+
 -- what was asked happens, where memory doesn't run out
 happens_so : (w : WorldRecord) (a : Asking) (now : Moment) (out : Outcome) (after : List PlatformState)
     → IsAt a.now now → MayAsk w a → out.reply ≢ replies.NoMemory
@@ -156,25 +160,28 @@ happens_so : (w : WorldRecord) (a : Asking) (now : Moment) (out : Outcome) (afte
     → (is_failure out.reply ≡ true → after ≡ w.platforms)
     → (is_failure out.reply ≡ true → out.messages ≡ [])
     → (is_failure out.reply ≡ true → (out.reply ≡ replies.Sign) ⊎ (out.reply ≡ replies.NoMemory))
-    → (fate : Fate)
-    × Happens w (happening.asks a) fate (Replied out.reply) (world_with w a after out.reply out.messages)
+    → Happened w a out after
 happens_so w a now out after moment may some takes kept none why = on_kind (is_failure out.reply) refl
   where
-    on_kind : (fails : Bool) → is_failure out.reply ≡ fails
-        → (fate : Fate)
-        × Happens w (happening.asks a) fate (Replied out.reply) (world_with w a after out.reply out.messages)
+    on_kind : (fails : Bool) → is_failure out.reply ≡ fails → Happened w a out after
     on_kind false is =
         let t = takes is in
-        (whole, happened w a now out after moment t (may.may now t.shard moment t.is_asked))
+        record {
+          fate = whole;
+          happens = happened w a now out after moment t (may.may now t.shard moment t.is_asked);
+          ends = inl refl;
+        }
     on_kind true is = on_cause (why is)
       where
-        on_cause : (out.reply ≡ replies.Sign) ⊎ (out.reply ≡ replies.NoMemory)
-            → (fate : Fate)
-            × Happens w (happening.asks a) fate (Replied out.reply) (world_with w a after out.reply out.messages)
-        on_cause (inl sign) = (sign_fault, failed w a out after sign (none is) (kept is))
+        on_cause : (out.reply ≡ replies.Sign) ⊎ (out.reply ≡ replies.NoMemory) → Happened w a out after
+        on_cause (inl sign) = record {
+          fate = sign_fault;
+          happens = failed w a out after sign (none is) (kept is);
+          ends = inr sign;
+        }
         on_cause (inr memory) = absurd (some memory)
 
--- ---- lines
+-- ---- bills
 
 -- the bill that a reply signs
 by_sign : (request : RequestRecord) (reply : Reply)
@@ -209,46 +216,22 @@ by_sign (finish_replies bill bytes) reply = refl
 by_sign (resends bill) reply = refl
 by_sign (asks bill) reply = refl
 
--- what was added is counted
-counted : (before parcels after : List Parcel) → after ≡ before ++ parcels
-    → length after - length before ≡ length parcels
-counted before parcels after is =
-    let size = ap (λ (xs : List Parcel). length xs) is ∙ length-append before parcels in omega (arith, size)
-
--- a line by what was added is that of the worlds
-pub line_told : (w after : WorldRecord) (n : ℕ) (answer : Answer) (parcels : List Parcel) (bills : List Checksum)
-    → after.sent ≡ w.sent ++ parcels → after.signed ≡ w.signed ++ bills
-    → answer_line n (range_with_len (length w.sent + 1) (length parcels)) (number_shown (w.signed ++ bills) answer) answer
-    ≡ line_after n w answer after
-line_told w after n answer parcels bills sent signed =
-    ap (λ (size : ℕ). answer_line n (range_with_len (length w.sent + 1) size)
-    (number_shown (w.signed ++ bills) answer) answer) (sym (counted w.sent parcels after.sent sent))
-    ∙ ap (λ (names : List Checksum). answer_line n (numbers_sent (length w.sent) (length after.sent))
-    (number_shown names answer) answer) (sym signed)
-
--- ---- a request as a whole
+-- ---- what was followed to
 
 -- the world with other lists
 abbrev listed : WorldRecord → List PlatformState → List Parcel → List Checksum → WorldRecord
 listed w platforms sent signed =
     record { roster = w.roster; platforms = platforms; sent = sent; signed = signed }
 
--- a request that was asked and followed is told
-pub asked_told : {M : Type 0} (seen : M → MachineRecord) (w between after : WorldState M) (a : Asking) (now : Moment)
-    (out : Outcome) (path : ReplyPath) (signing : Bool) (line : List ℕ)
-    → IsAt a.now now → MayAsk (world_of seen w) a → IsPathOf a path → signing ≡ is_sign a.request
-    → between.sent ≡ w.sent → between.signed ≡ w.signed → between.events ≡ w.events
-    → (is_failure out.reply ≡ false → TakesAt w.platforms.roster (world_of seen w).platforms a.at (shard_of a.request) now
-    a.request out (world_of seen between).platforms)
-    → (is_failure out.reply ≡ true → (world_of seen between).platforms ≡ (world_of seen w).platforms)
-    → (is_failure out.reply ≡ true → out.messages ≡ [])
-    → (is_failure out.reply ≡ true → (out.reply ≡ replies.Sign) ⊎ (out.reply ≡ replies.NoMemory))
-    → between.platforms.roster ≡ w.platforms.roster
-    → after.platforms ≡ between.platforms
-    → IsFollowed between path signing out line after
-    → IsTold (world_of seen w) (w.events + 1) (happening.asks a) line (world_of seen after)
-asked_told {M = M} seen w between after a now out path signing line moment may is_path is_signing same_sent same_signed
-    same_events takes kept none why same_roster same_platforms follows =
+-- the world that was followed to is that with what the reply sends and signs
+followed_to : {M : Type 0} (seen : M → MachineRecord) (w between after : WorldState M) (a : Asking) (out : Outcome)
+    (path : ReplyPath) (signing : Bool) → IsPathOf a path → signing ≡ is_sign a.request
+    → between.sent ≡ w.sent → between.signed ≡ w.signed
+    → between.platforms.roster ≡ w.platforms.roster → after.platforms ≡ between.platforms
+    → IsFollowed between path signing out after
+    → world_with (world_of seen w) a (world_of seen between).platforms out.reply out.messages ≡ world_of seen after
+followed_to {M = M} seen w between after a out path signing is_path is_signing same_sent same_signed same_roster
+    same_platforms follows =
     let parcels_are = path_leads a path out.reply out.messages is_path in
     let bills_are = ap (λ (b : Bool). option_to_list (bill_by b out.reply)) is_signing ∙ by_sign a.request out.reply in
     let sent_is : after.sent ≡ w.sent ++ parcels_of a out.reply out.messages =
@@ -259,10 +242,6 @@ asked_told {M = M} seen w between after a now out path signing line moment may i
     follows.signed
     ∙ ap (λ (xs : List Checksum). xs ++ option_to_list (bill_by signing out.reply)) same_signed
     ∙ ap (λ (xs : List Checksum). w.signed ++ xs) bills_are in
-    let (fate, goes) = happens_so (world_of seen w) a now out (world_of seen between).platforms moment may
-    follows.some_reply takes kept none why in
-    let after_is : world_with (world_of seen w) a (world_of seen between).platforms out.reply out.messages
-    ≡ world_of seen after =
     ap (λ (xs : List Parcel). record {
       roster = w.platforms.roster;
       platforms = (world_of seen between).platforms;
@@ -277,88 +256,126 @@ asked_told {M = M} seen w between after a now out path signing line moment may i
       platforms = states_of seen after.platforms;
       sent = after.sent;
       signed = after.signed;
-    }) (sym same_roster ∙ ap (λ (ps : PlatformsRecord M). ps.roster) (sym same_platforms)) in
-    record {
-      fate = fate;
-      answer = Replied out.reply;
-      happens = subst (Happens (world_of seen w) (happening.asks a) fate (Replied out.reply)) after_is goes;
-      line_is = follows.line_is
-          ∙ ap (λ (n : ℕ). answer_line (n + 1) (range_with_len (length between.sent + 1)
-          (length (sends path.from path.sender path.kind path.brought out.reply out.messages)))
-          (number_shown (between.signed ++ option_to_list (bill_by signing out.reply)) (Replied out.reply))
-          (Replied out.reply)) same_events
-          ∙ ap (λ (xs : List Parcel). answer_line (w.events + 1) (range_with_len (length xs + 1)
-          (length (sends path.from path.sender path.kind path.brought out.reply out.messages)))
-          (number_shown (between.signed ++ option_to_list (bill_by signing out.reply)) (Replied out.reply))
-          (Replied out.reply)) same_sent
-          ∙ ap (λ (xs : List Parcel). answer_line (w.events + 1) (range_with_len (length w.sent + 1) (length xs))
-          (number_shown (between.signed ++ option_to_list (bill_by signing out.reply)) (Replied out.reply))
-          (Replied out.reply)) parcels_are
-          ∙ ap (λ (xs : List Checksum). answer_line (w.events + 1) (range_with_len (length w.sent + 1)
-          (length (parcels_of a out.reply out.messages)))
-          (number_shown (xs ++ option_to_list (bill_by signing out.reply)) (Replied out.reply)) (Replied out.reply))
-          same_signed
-          ∙ ap (λ (xs : List Checksum). answer_line (w.events + 1) (range_with_len (length w.sent + 1)
-          (length (parcels_of a out.reply out.messages)))
-          (number_shown (w.signed ++ xs) (Replied out.reply)) (Replied out.reply)) bills_are
-          ∙ line_told (world_of seen w) (world_of seen after) (w.events + 1) (Replied out.reply)
-          (parcels_of a out.reply out.messages) (bills_signed a.request out.reply) sent_is signed_is;
-    }
+    }) (sym same_roster ∙ ap (λ (ps : PlatformsRecord M). ps.roster) (sym same_platforms))
 
--- what is answered at once is told, where nothing was added
-pub answered_told : {M : Type 0} (seen : M → MachineRecord) (w after : WorldState M) (said : Answer) (line : List ℕ)
-    → after.sent ≡ w.sent ++ [] → after.signed ≡ w.signed ++ [] → after.platforms ≡ w.platforms
-    → line ≡ answer_line (w.events + 1) (range_with_len (length w.sent + 1) 0) (number_shown (w.signed ++ []) said) said
-    → IsTold (world_of seen w) (w.events + 1) (happening.answers said) line (world_of seen after)
-answered_told {M = M} seen w after said line sent signed platforms is = record {
-  fate = whole;
-  answer = said;
-  happens = (
-    (refl, refl),
-    refl,
-    ap (λ (ps : PlatformsRecord M). record {
-      roster = ps.roster;
-      platforms = states_of seen ps;
-      sent = after.sent;
-      signed = after.signed;
-    }) platforms
-        ∙ ap (λ (xs : List Parcel). listed (world_of seen w) (world_of seen w).platforms xs after.signed)
-        (sent ∙ append-nil w.sent)
-        ∙ ap (λ (xs : List Checksum). listed (world_of seen w) (world_of seen w).platforms w.sent xs)
-        (signed ∙ append-nil w.signed),
-  );
-  line_is = is ∙ line_told (world_of seen w) (world_of seen after) (w.events + 1) said [] [] sent signed;
-}
+-- ---- where memory runs out
 
--- ---- calls that may run out of memory
+-- where a request was followed or memory ran out, nothing was taken, or all of it
+cut_short : {M : Type 0} (seen : M → MachineRecord) (w between after : WorldState M) (a : Asking) (now : Moment)
+    (out : Outcome) (fails : Bool) → IsAt a.now now → MayAsk (world_of seen w) a
+    → (fails ≡ false → TakesAt w.platforms.roster (world_of seen w).platforms a.at (shard_of a.request) now
+    a.request out (world_of seen between).platforms)
+    → (fails ≡ true → (world_of seen between).platforms ≡ (world_of seen w).platforms)
+    → after.platforms ≡ between.platforms
+    → IsCutShort (world_of seen w) (happening.asks a) (world_of seen after)
+cut_short {M = M} seen w between after a now out true moment may takes kept same =
+    inl (ap (λ (ps : PlatformsRecord M). states_of seen ps) same ∙ kept refl)
+cut_short {M = M} seen w between after a now out false moment may takes kept same =
+    let t = takes refl in
+    inr (
+      Replied out.reply,
+      world_with (world_of seen w) a (world_of seen between).platforms out.reply out.messages,
+      record {
+        fate = whole;
+        steps = happened (world_of seen w) a now out (world_of seen between).platforms moment t
+            (may.may now t.shard moment t.is_asked);
+        whole = refl;
+      },
+      ap (λ (ps : PlatformsRecord M). states_of seen ps) same,
+    )
 
-pub asked_told_if : {M E : Type 0} (seen : M → MachineRecord) (w between after : WorldState M) (a : Asking)
-    (now : Moment) (out : Outcome) (path : ReplyPath) (signing : Bool) (result : Result (List ℕ) E)
+-- so where something happened
+pub short_of_happened : (w : WorldRecord) (h : Happening) (answer : Answer) (after : WorldRecord)
+    → HasHappened w h answer after → IsCutShort w h after
+short_of_happened w (happening.answers said) answer after so =
+    inl (ap (λ (v : WorldRecord). v.platforms) so.steps.2)
+short_of_happened w (happening.asks a) answer after so = on_fate so.steps
+  where
+    on_fate : Happens w (happening.asks a) so.fate answer after → IsCutShort w (happening.asks a) after
+    on_fate (inl (is, takes)) =
+        inr (answer, after, record { fate = so.fate; steps = inl (is, takes); whole = is.0 }, refl)
+    on_fate (inr (is, fails)) = inl (ap (λ (v : WorldRecord). v.platforms) fails.1)
+
+-- whatever a call gave, what holds holds where it failed
+pub on_err_so : {T E : Type 0} {Q : Type 0} (result : Result T E) → Q → OnErr result Q
+on_err_so (Ok x) holds = tt
+on_err_so (Err e) holds = holds
+
+-- ---- a request as a whole
+
+longer : (xs ys zs : List Parcel) → zs ≡ xs ++ ys → length xs ≤ length zs
+longer xs ys zs is =
+    let size = ap (λ (ps : List Parcel). length ps) is ∙ length-append xs ys in omega (arith, size)
+
+-- whatever came of it: it happened, whole unless the ring failed to sign; or memory ran out
+pub record Asked {M E : Type 0} (seen : M → MachineRecord) (w after : WorldState M) (a : Asking) (out : Outcome)
+    (result : Result Answer E) : Type 0 where
+  pub ok : IfOk result (λ answer. HasHappened (world_of seen w) (happening.asks a) answer (world_of seen after))
+  pub whole : IfOk result (λ answer. (out.reply ≡ replies.Sign)
+      ⊎ HasHappenedWhole (world_of seen w) (happening.asks a) answer (world_of seen after))
+  pub short : OnErr result (IsCutShort (world_of seen w) (happening.asks a) (world_of seen after))
+  pub writable : IfOk result IsWritable
+  pub grown : IfOk result (λ _. length w.sent ≤ length after.sent)
+
+pub asked_so : {M E : Type 0} (seen : M → MachineRecord) (w between after : WorldState M) (a : Asking)
+    (now : Moment) (out : Outcome) (path : ReplyPath) (signing : Bool) (result : Result Answer E)
     → IsAt a.now now → MayAsk (world_of seen w) a → IsPathOf a path → signing ≡ is_sign a.request
-    → between.sent ≡ w.sent → between.signed ≡ w.signed → between.events ≡ w.events
+    → between.sent ≡ w.sent → between.signed ≡ w.signed
     → (is_failure out.reply ≡ false → TakesAt w.platforms.roster (world_of seen w).platforms a.at (shard_of a.request) now
     a.request out (world_of seen between).platforms)
     → (is_failure out.reply ≡ true → (world_of seen between).platforms ≡ (world_of seen w).platforms)
     → (is_failure out.reply ≡ true → out.messages ≡ [])
     → (is_failure out.reply ≡ true → (out.reply ≡ replies.Sign) ⊎ (out.reply ≡ replies.NoMemory))
+    → IsWritable (Replied out.reply)
     → between.platforms.roster ≡ w.platforms.roster
     → after.platforms ≡ between.platforms
-    → IfOk result (λ line. IsFollowed between path signing out line after)
-    → IfOk result (λ line. IsTold (world_of seen w) (w.events + 1) (happening.asks a) line (world_of seen after))
-asked_told_if seen w between after a now out path signing (Ok line) moment may is_path is_signing same_sent same_signed
-    same_events takes kept none why same_roster same_platforms follows =
-    asked_told seen w between after a now out path signing line moment may is_path is_signing same_sent same_signed
-    same_events takes kept none why same_roster same_platforms follows
-asked_told_if seen w between after a now out path signing (Err e) moment may is_path is_signing same_sent same_signed
-    same_events takes kept none why same_roster same_platforms follows = tt
+    → IfOk result (λ answer. answer ≡ Replied out.reply)
+    → OnOk result (IsFollowed between path signing out after)
+    → Asked seen w after a out result
+asked_so seen w between after a now out path signing (Ok answer) moment may is_path is_signing same_sent same_signed
+    takes kept none why writable same_roster same_platforms answer_is follows =
+    let so = happens_so (world_of seen w) a now out (world_of seen between).platforms moment may follows.some_reply
+    takes kept none why in
+    let world_is = followed_to seen w between after a out path signing is_path is_signing same_sent same_signed
+    same_roster same_platforms follows in
+    let steps : Happens (world_of seen w) (happening.asks a) so.fate answer (world_of seen after) =
+    subst (λ (said : Answer). Happens (world_of seen w) (happening.asks a) so.fate said (world_of seen after))
+    (sym answer_is)
+    (subst (Happens (world_of seen w) (happening.asks a) so.fate (Replied out.reply)) world_is so.happens) in
+    record {
+      ok = record { fate = so.fate; steps = steps };
+      whole = on_end so.fate steps so.ends;
+      short = tt;
+      writable = subst IsWritable (sym answer_is) writable;
+      grown = longer w.sent (sends path.from path.sender path.kind path.brought out.reply out.messages) after.sent
+          (follows.sent ∙ ap (λ (xs : List Parcel).
+          xs ++ sends path.from path.sender path.kind path.brought out.reply out.messages) same_sent);
+    }
+  where
+    on_end : (fate : Fate) → Happens (world_of seen w) (happening.asks a) fate answer (world_of seen after)
+        → (fate.end ≡ Whole) ⊎ (out.reply ≡ replies.Sign)
+        → (out.reply ≡ replies.Sign)
+        ⊎ HasHappenedWhole (world_of seen w) (happening.asks a) answer (world_of seen after)
+    on_end fate steps (inl is) = inr (record { fate = fate; steps = steps; whole = is })
+    on_end fate steps (inr sign) = inl sign
+asked_so seen w between after a now out path signing (Err e) moment may is_path is_signing same_sent same_signed
+    takes kept none why writable same_roster same_platforms answer_is follows = record {
+      ok = tt;
+      whole = tt;
+      short = cut_short seen w between after a now out (is_failure out.reply) moment may takes kept same_platforms;
+      writable = tt;
+      grown = tt;
+    }
 
-pub answered_told_if : {M E : Type 0} (seen : M → MachineRecord) (w after : WorldState M) (said : Answer)
-    (result : Result (List ℕ) E)
-    → OnOk result (after.sent ≡ w.sent ++ []) → OnOk result (after.signed ≡ w.signed ++ [])
-    → after.platforms ≡ w.platforms
-    → IfOk result (λ line. line ≡ answer_line (w.events + 1) (range_with_len (length w.sent + 1) 0)
-    (number_shown (w.signed ++ []) said) said)
-    → IfOk result (λ line. IsTold (world_of seen w) (w.events + 1) (happening.answers said) line (world_of seen after))
-answered_told_if seen w after said (Ok line) sent signed platforms is =
-    answered_told seen w after said line sent signed platforms is
-answered_told_if seen w after said (Err e) sent signed platforms is = tt
+-- what happened whole, unless the ring failed, did so, unless its count rose
+pub whole_by_count : {E R : Type 0} (w : WorldRecord) (h : Happening) (after : WorldRecord) (out : Outcome)
+    (result : Result Answer E) → (out.reply ≡ replies.Sign → R)
+    → IfOk result (λ answer. (out.reply ≡ replies.Sign) ⊎ HasHappenedWhole w h answer after)
+    → IfOk result (λ answer. R ⊎ HasHappenedWhole w h answer after)
+whole_by_count w h after out (Ok answer) rose (inl sign) = inl (rose sign)
+whole_by_count w h after out (Ok answer) rose (inr so) = inr so
+whole_by_count w h after out (Err e) rose so = tt
+
+-- what is answered at once changes nothing
+pub answered_so : (w : WorldRecord) (said : Answer) → HasHappenedWhole w (happening.answers said) said w
+answered_so w said = record { fate = whole; steps = ((refl, refl), refl, refl); whole = refl }

@@ -3,5 +3,11 @@ mod Grouped
 mod Shards
 mod Taken
 mod Writable
-mod BillNumbers
+mod MessageNumbers
 mod Asked
+mod Listed
+mod Attempts
+mod Nesting
+mod Reached
+mod Diaries
+mod Opened

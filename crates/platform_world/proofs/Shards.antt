@@ -1,10 +1,11 @@
 -- The shards of all platforms in one list: each is for its platform and the roster, and one of them takes a request.
-use Rattle.std.proofs.Common.{◌≡◌, ℕ, zero, suc, ◌+◌, ◌*◌, ◌<◌, ◌||◌, Bool, true, false, cond, List, [], ◌∷◌, ◌++◌, Option, Some, None, length, map, refl, ap, sym, subst, ◌∙◌, arith}
+use Rattle.std.proofs.Common.{◌≡◌, ℕ, zero, suc, ◌+◌, ◌*◌, ◌<◌, ◌||◌, Bool, true, false, cond, List, [], ◌∷◌, ◌++◌, Some, None, length, map, refl, ap, sym, subst, ◌∙◌, arith}
 use Rattle.std.specs.Prelude.{option_map, replicate, slice_get, slice_set}
 use Rattle.std.specs.Set.{is_member}
 use Rattle.std.proofs.Math.Seq.{map-set_same}
 use Rattle.std.proofs.lemmas.List.{length-append, length-map, length-replicate, map-set}
-use Rattle.std.proofs.lemmas.Option.{get_or_from_slice_get, slice_get-map, slice_get_within}
+use Rattle.std.proofs.lemmas.Option.{get_or_from_slice_get, slice_get-map}
+use Rattle.ebl_base.specs.Faults.{Rose}
 use Rattle.ebl_base.specs.PlatformCode.{code_eq}
 use Rattle.ebl_base.specs.declared.moment.Moment.{Moment}
 use Rattle.ebl_base.specs.declared.platform_code.PlatformCode.{PlatformCode}
@@ -14,7 +15,7 @@ use Rattle.platform_requests.specs.Request.{RequestRecord}
 use Rattle.platform_requests.specs.declared.outcome.Outcome.{Outcome}
 use Rattle.platform_machine.specs.Machine.{Steps}
 use Rattle.platform_world.specs.Machine.{IsTaken, MachineRecord, shard_state}
-use Rattle.platform_world.specs.Platforms.{AreShardsOf, PlatformsRecord, TakesAt, codes_of, grouped, index_of, place_of, states_of}
+use Rattle.platform_world.specs.Platforms.{AreShardsOf, PlatformsRecord, RoseAt, TakesAt, codes_of, grouped, index_of, place_of, states_of}
 use Rattle.platform_world.specs.World.{ShardState, shard_at}
 use Rattle.platform_world.proofs.Grouped.{shard_at-grouped, with_shard-grouped}
 
@@ -118,6 +119,12 @@ module _ (roster : RosterRecord) (machines : List MachineRecord) (are : AreShard
         (by ∙ ap (λ (x : MachineRecord). x.roster) (sym (get_or_from_slice_get machines k m m there))) ∙ are.by;
   }
 
+set_there : {X : Type 0} (xs : List X) (k : ℕ) (x y : X) → slice_get xs k ≡ Some x
+    → slice_get (slice_set xs k y) k ≡ Some y
+set_there [] k x y there = absurd (let none : None ≡ Some x = there in cc)
+set_there (z ∷ zs) zero x y there = refl
+set_there (z ∷ zs) (suc k) x y there = set_there zs k x y there
+
 -- ---- one of them takes a request
 
 module _ {M : Type 0} (seen : M → MachineRecord) where
@@ -204,6 +211,29 @@ module _ {M : Type 0} (seen : M → MachineRecord) where
       (shard_at-grouped p i ps (map see shards) small (place_within roster shards v p view listed)
       ∙ ap (slice_get (map see shards)) (sym k_is)
       ∙ slice_get-map see shards (16 * n + i) ∙ ap (option_map see) there)
+
+  -- it is the roster's
+  pub roster_seen : (roster : RosterRecord) (shards : List M) (v : PlatformsRecord M) (p : PlatformCode) (i n : ℕ) (m : M)
+      → record { roster = roster; shards = shards } ≡ v → AreShardsOf roster (map seen shards)
+      → has_platform v.roster p ≡ true → i < 16 → n ≡ place_of p roster.platforms
+      → slice_get shards (16 * n + i) ≡ Some m → (seen m).roster ≡ v.roster
+  roster_seen roster shards v p i n m view are listed small n_is there =
+      let k_is : 16 * n + i ≡ index_of p i roster.platforms = ap (λ (x : ℕ). 16 * x + i) n_is in
+      roster-at roster (map seen shards) are p i (seen m) small (place_within roster shards v p view listed)
+      (ap (slice_get (map seen shards)) (sym k_is) ∙ slice_get-map seen shards (16 * n + i) ∙ ap (option_map seen) there)
+      ∙ ap (λ (x : PlatformsRecord M). x.roster) view
+
+  -- its count of faults rose
+  pub rose_in : (faults : M → ℕ) (roster : RosterRecord) (shards : List M) (v : PlatformsRecord M) (p : PlatformCode)
+      (i n : ℕ) (m m1 : M) → record { roster = roster; shards = shards } ≡ v → n ≡ place_of p roster.platforms
+      → slice_get shards (16 * n + i) ≡ Some m → Rose (faults m) (faults m1)
+      → RoseAt faults (index_of p i v.roster.platforms) v.shards (slice_set shards (16 * n + i) m1)
+  rose_in faults roster shards v p i n m m1 view n_is there rose =
+      let k_is : 16 * n + i ≡ index_of p i roster.platforms = ap (λ (x : ℕ). 16 * x + i) n_is in
+      subst (λ (x : PlatformsRecord M).
+      RoseAt faults (index_of p i x.roster.platforms) x.shards (slice_set shards (16 * n + i) m1)) view
+      (subst (λ (k : ℕ). RoseAt faults k shards (slice_set shards (16 * n + i) m1)) k_is
+      (record { old = m; new = m1; was = there; is = set_there shards (16 * n + i) m m1 there; rose = rose }))
 
   -- it takes a request
   pub took_in : (roster : RosterRecord) (shards : List M) (v : PlatformsRecord M) (p : PlatformCode) (i n : ℕ) (m m1 : M)

@@ -1,11 +1,15 @@
 -- The shards of all platforms in one list, sixteen for each platform in the roster's order.
-use Rattle.std.specs.Prelude.{◌≡◌, ℕ, ◌+◌, ◌*◌, suc, List, [], ◌∷◌, ◌++◌, None, Some, drop, map, replicate, take, if◌then◌else◌}
+use Rattle.std.specs.Prelude.{◌≡◌, ℕ, ◌+◌, ◌*◌, suc, List, [], ◌∷◌, ◌++◌, None, Some, drop, map, replicate, slice_get, take, if◌then◌else◌}
+use Rattle.std.specs.Option.{option_map_or}
+use Rattle.ebl_base.specs.Faults.{Rose}
 use Rattle.ebl_base.specs.PlatformCode.{code_eq}
 use Rattle.ebl_base.specs.declared.platform_code.PlatformCode.{PlatformCode}
 use Rattle.ebl_base.specs.declared.moment.Moment.{Moment}
 use Rattle.party_roster.specs.RosterRecord.{RosterRecord}
 use Rattle.platform_requests.specs.Request.{RequestRecord}
 use Rattle.platform_requests.specs.declared.outcome.Outcome.{Outcome}
+use Rattle.bill_diary.specs.declared.frame.Frame.{Frame}
+use Rattle.bill_lines.specs.declared.diaries.PlatformDiary.{PlatformDiary}
 use Rattle.platform_machine.specs.declared.step.Step.{Step}
 use Rattle.platform_machine.specs.Machine.{Steps}
 use Rattle.platform_machine.specs.Step.{with_frame}
@@ -46,6 +50,39 @@ pub record PlatformsRecord (M : Type 0) : Type 0 where
 -- how they are, by what is seen of each
 abbrev pub states_of : {M : Type 0} → (M → MachineRecord) → PlatformsRecord M → List PlatformState
 states_of seen s = grouped s.roster.platforms (map (λ m. shard_state (seen m)) s.shards)
+
+-- ---- faults
+
+-- the count of faults of the shard at this place rose
+pub record RoseAt {M : Type 0} (faults : M → ℕ) (place : ℕ) (before after : List M) : Type 0 where
+  pub old : M
+  pub new : M
+  pub was : slice_get before place ≡ Some old
+  pub is : slice_get after place ≡ Some new
+  pub rose : Rose (faults old) (faults new)
+
+-- that of some shard did
+abbrev pub SomeRose : {M : Type 0} → (M → ℕ) → List M → List M → Type 0
+SomeRose faults before after = (place : ℕ) × RoseAt faults place before after
+
+-- ---- diaries
+
+-- a platform with the diary of one of its shards
+pub record ShardDiary : Type 0 where
+  pub platform : PlatformCode
+  pub diary : List Frame
+
+-- of the shard of this number; empty, if there is none
+abbrev pub shard_diary : ℕ → PlatformState → ShardDiary
+shard_diary i state = record {
+  platform = state.platform;
+  diary = option_map_or (λ shard. shard.diary) (slice_get state.shards i) [];
+}
+
+abbrev pub given_diary : PlatformDiary → ShardDiary
+given_diary d = record { platform = d.platform; diary = d.diary.now }
+
+-- ---- requests
 
 -- a platform's shard takes a request, and its frame is in the diary
 pub record TakesAt (roster : RosterRecord) (before : List PlatformState) (p : PlatformCode) (i : ℕ) (now : Moment)

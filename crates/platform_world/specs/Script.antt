@@ -1,8 +1,8 @@
 -- The grammar of a script: one JSON object a line. The first has the roster, and each later one is an event.
-use Rattle.std.specs.Prelude.{Bool, true, ℕ, List, Option, Some, None, Result, Ok, Err, codes, option_and_then, if◌then◌else◌}
+use Rattle.std.specs.Prelude.{◌≤◌, Bool, true, ℕ, List, Option, Some, None, Result, Ok, Err, codes, option_and_then, if◌then◌else◌}
 use Rattle.std.specs.Option.{option_map_or}
 use Rattle.ebl_base.specs.declared.platform_code.PlatformCode.{PlatformCode}
-use Rattle.canonical_json.specs.Value.{Value}
+use Rattle.canonical_json.specs.Value.{depth}
 use Rattle.canonical_json.specs.Field.{member_of}
 use Rattle.canonical_json.specs.Reading.{value_in}
 use Rattle.party_roster.specs.RosterRecord.{RosterRecord, has_platform}
@@ -43,3 +43,8 @@ if_listed roster event = if names_listed roster event then Some event else None
 abbrev pub event_in : RosterRecord → List ℕ → Option EventRecord
 event_in roster line =
     option_and_then (λ v. option_and_then (if_listed roster) (if_ok (event_of v))) (if_ok (value_in line))
+
+-- the document of a SIGN nests at most 126 deep, as every document of a line does
+abbrev pub IsNested : EventRecord → Type 0
+IsNested (events.commands at party now (events.signs document)) = depth document ≤ 126
+IsNested event = Unit {0}

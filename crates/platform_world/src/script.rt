@@ -1,5 +1,5 @@
 //! The lines of a script: the first has the roster, and each later one is an event.
-ghost use Rattle.std.specs.Prelude.{◌≡◌, ◌≤◌, IfOk, IfSome, codes, option_and_then, option_map};
+ghost use Rattle.std.specs.Prelude.{◌≡◌, ◌≤◌, true, IfOk, IfSome, codes, option_and_then, option_map};
 ghost use Rattle.canonical_json.specs.Field.{member_of};
 ghost use Rattle.canonical_json.specs.Lawful.{HasTexts, IsLawful};
 ghost use Rattle.canonical_json.specs.Reading.{value_in};
@@ -10,7 +10,7 @@ ghost use Rattle.party_roster.specs.RosterForm.{IsRoster};
 ghost use Rattle.world_script.specs.Event.{event_view};
 ghost use Rattle.world_script.specs.Form.{IsEvent};
 ghost use Rattle.world_script.specs.Reading.{event_of};
-ghost use Rattle.platform_world.specs.Script.{event_in, if_listed, if_ok, names_listed, platform_of, roster_in};
+ghost use Rattle.platform_world.specs.Script.{IsNested, event_in, if_listed, if_ok, names_listed, platform_of, roster_in};
 
 use canonical_json::{Json, ReadError, member_of, read};
 use ebl_base::{NoMemory, PlatformCode};
@@ -34,6 +34,8 @@ pub fn roster_in(alloc: Global, line: &[u8]) -> Result<Option<Roster>, NoMemory>
 pub fn event_in(alloc: Global, roster: &Roster, line: &[u8]) -> Result<Option<Event>, NoMemory>
     ensures event { IfOk result (λ event. option_map event_view event ≡ event_in roster.now line.now) }
     ensures form { IfOk result (λ event. IfSome event (λ event. IsEvent (event_view event))) }
+    ensures nests { IfOk result (λ event. IfSome event (λ event. IsNested (event_view event))) }
+    ensures listed { IfOk result (λ event. IfSome event (λ event. names_listed roster.now (event_view event) ≡ true)) }
 {
     match value_of_line(alloc, line)? {
         Some(json) => event_of(alloc, roster, &json),
@@ -76,9 +78,12 @@ fn roster_of(alloc: Global, json: &Json) -> Result<Option<Roster>, NoMemory>
 fn event_of(alloc: Global, roster: &Roster, json: &Json) -> Result<Option<Event>, NoMemory>
     requires lawful { IsLawful (view json.now) }
     requires texts { HasTexts (view json.now) }
+    requires nests { depth (view json.now) ≤ 127 }
     ensures event { IfOk result (λ event. option_map event_view event
         ≡ option_and_then (if_listed roster.now) (if_ok (event_of (view json.now)))) }
     ensures form { IfOk result (λ event. IfSome event (λ event. IsEvent (event_view event))) }
+    ensures nests { IfOk result (λ event. IfSome event (λ event. IsNested (event_view event))) }
+    ensures listed { IfOk result (λ event. IfSome event (λ event. names_listed roster.now (event_view event) ≡ true)) }
 {
     match Event::read(alloc, json) {
         Ok(event) => Ok(if_listed(roster, event)),
@@ -91,6 +96,7 @@ fn event_of(alloc: Global, roster: &Roster, json: &Json) -> Result<Option<Event>
 fn if_listed(roster: &Roster, event: Event) -> Option<Event>
     ensures event { option_map event_view result ≡ if_listed roster.now (event_view event) }
     ensures same { IfSome result (λ listed. event_view listed ≡ event_view event) }
+    ensures listed { IfSome result (λ listed. names_listed roster.now (event_view listed) ≡ true) }
 {
     if names_listed(roster, &event) {
         Some(event)

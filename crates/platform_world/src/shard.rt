@@ -13,6 +13,8 @@ use transfer_judge::legal_diary_is_sound;
 impl<G: KeyRing + Drop> Machine for Shard<G> {
     ghost seen = { λ s. record { me = s.me; roster = s.roster; keys = G.keys s.ring; diary = s.diary } };
 
+    ghost faults = { λ s. G.faults s.ring };
+
     fn take(&mut self, alloc: Global, now: Moment, request: Request) -> Outcome {
         legal_diary_is_sound();
         // For its clause `legal`.

@@ -1,15 +1,21 @@
 //! The world of a script: its platforms' shards, what was sent, and the bills that the script signed.
-ghost use Rattle.std.specs.Prelude.{◌≡◌, ◌+◌, ◌++◌, ◌<◌, ◌^◌, [], IfOk, OnOk, length};
-ghost use Rattle.std.specs.List.{range_with_len};
-ghost use Rattle.std.specs.Option.{option_to_list};
+//!
+//! (1) Each diary has at most as many frames as events were taken, what was sent is between platforms of the roster,
+//!     and the bills that were signed are well-formed. So whatever a line asks may be asked.
+ghost use Rattle.std.specs.Prelude.{◌≡◌, ◌⊎◌, ◌≤◌, ◌+◌, ◌<◌, [], true, IfOk, OnErr, OnOk, length, map};
 ghost use Rattle.world_script.specs.Event.{event_view};
+ghost use Rattle.world_script.specs.Form.{IsEvent};
 ghost use Rattle.platform_requests.specs.Request.{request_view};
-ghost use Rattle.answer_lines.specs.Lines.{IsWritable, answer_line};
+ghost use Rattle.answer_lines.specs.Lines.{IsWritable};
 ghost use Rattle.answer_lines.specs.declared.answer.Answer.TheVariants.{Replied};
-ghost use Rattle.platform_world.specs.Happening.{answers, asking_view, asks};
-ghost use Rattle.platform_world.specs.Run.{number_shown};
-ghost use Rattle.platform_world.specs.State.{IsAnswered, IsFollowed, IsTold, MayAsk, MayTake, bill_by, is_sign, world_of};
+ghost use Rattle.platform_world.specs.Happening.{asking_view, asks, comes_to};
+ghost use Rattle.platform_world.specs.Run.{bill_line_in, bill_lines, bill_lines_from};
+ghost use Rattle.platform_world.specs.Machine.{AreForListed};
+ghost use Rattle.platform_world.specs.Platforms.{SomeRose};
+ghost use Rattle.platform_world.specs.Script.{IsNested, names_listed};
+ghost use Rattle.platform_world.specs.State.{AreFresh, HasHappened, HasHappenedWhole, IsAnswered, IsCutShort, IsFollowed, IsPathBetweenListed, IsStepped, IsSteppedWhole, MayAsk, bill_by, is_sign, world_of};
 ghost use Rattle.platform_world.specs.Step.{IsAt};
+ghost use Rattle.platform_world.specs.World.{opening};
 
 use crate::happening::{Asking, Happening, comes_to};
 use crate::machine::Machine;
@@ -17,6 +23,7 @@ use crate::parcels::{ReplyPath, parcels_of};
 use crate::platforms::Platforms;
 use crate::saying::{line_of, send, sign};
 use answer_lines::{Answer, Parcel};
+use bill_lines::bill_line;
 use ebl_base::{ByteList, Checksum, Moment, NoMemory};
 use holder_commands::Command;
 use party_roster::Roster;
@@ -35,7 +42,7 @@ pub struct World<M: Machine> {
 }
 
 impl<M: Machine> Model for World<M> {
-    ghost use Rattle.platform_world.specs.State.{WorldState};
+    ghost use Rattle.platform_world.specs.State.{IsReached, WorldState, world_of};
 
     ghost Value = { WorldState M };
 
@@ -45,15 +52,25 @@ impl<M: Machine> Model for World<M> {
       signed = s.signed.items;
       events = s.events;
     } };
+
+    ghost invariant = { λ s. IsReached (world_of M.seen (record {
+      platforms = s.platforms;
+      sent = s.sent.items;
+      signed = s.signed.items;
+      events = s.events;
+    })) s.events };
 }
 
 impl<M: Machine> World<M> {
-    /// The world before the first event.
+    /// The world before the first event, of platforms whose shards have written nothing.
     pub fn new(alloc: Global, platforms: Platforms<M>) -> World<M>
+        requires fresh { AreFresh M.seen platforms.shards }
         ensures platforms { result.platforms ≡ platforms }
         ensures sent { result.sent ≡ [] }
         ensures signed { result.signed ≡ [] }
         ensures events { result.events ≡ 0 }
+        ensures opening { world_of M.seen result
+            ≡ opening platforms.roster (map (λ m. (M.seen m).keys) platforms.shards) }
     {
         World {
             platforms,
@@ -70,95 +87,132 @@ impl<M: Machine> World<M> {
         self.platforms.roster()
     }
 
-    // What is sent and signed is added, and the answer is said in its line. Out of memory, what was sent and signed may
-    // have grown; nothing else changes.
-    fn tell(
-        &mut self,
-        alloc: Global,
-        parcels: Vec<Parcel>,
-        bill: Option<Checksum>,
-        answer: Answer,
-    ) -> Result<ByteList, NoMemory>
-        requires writable { IsWritable answer }
-        requires few { self.old.events < 2 ^ 32 }
-        ensures line { IfOk result (λ line. line ≡ answer_line (self.old.events + 1)
-            (range_with_len (length self.old.sent + 1) (length parcels.items))
-            (number_shown (self.old.signed ++ option_to_list bill) answer) answer) }
-        ensures sent { OnOk result (self.new.sent ≡ self.old.sent ++ parcels.items) }
-        ensures signed { OnOk result (self.new.signed ≡ self.old.signed ++ option_to_list bill) }
-        ensures events { OnOk result (self.new.events ≡ self.old.events + 1) }
-        ensures platforms { self.new.platforms ≡ self.old.platforms }
+    /// A line for each bill that the script signed, in their order.
+    ///
+    /// For each of them it goes over the diaries of the bill's shards a few times.
+    pub fn bill_lines(&self, alloc: Global) -> Result<ByteList, NoMemory>
+        ensures { IfOk result (λ text. text ≡ bill_lines (world_of M.seen self.now)) }
     {
-        let line = line_of(
-            alloc,
-            self.events + 1,
-            self.sent.len(),
-            parcels.len(),
-            self.signed.as_slice(),
-            bill,
-            &answer,
-        )?;
-        send(&mut self.sent, parcels)?;
-        sign(&mut self.signed, bill)?;
-        self.events += 1;
-        Ok(line)
+        self.lines_of(alloc, self.signed.as_slice())
     }
 
-    /// Takes an event, and answers it by its line.
+    // A line for each of these bills, numbered from 1.
+    fn lines_of(&self, alloc: Global, bills: &[Checksum]) -> Result<ByteList, NoMemory>
+        ensures { IfOk result (λ text. text ≡ bill_lines_from (world_of M.seen self.now) 1 bills.now) }
+    {
+        let mut text = ByteList::new(alloc);
+        for (place, bill) in bills.iter().enumerate() {
+            let line = self.bill_line(alloc, place as u64 + 1, *bill)?;
+            text.extend_from_slice(line.as_slice())?;
+        }
+        Ok(text)
+    }
+
+    // The line of a bill of this number.
+    fn bill_line(&self, alloc: Global, number: u64, bill: Checksum) -> Result<ByteList, NoMemory>
+        ensures { IfOk result (λ line. line ≡ bill_line_in (world_of M.seen self.now) number bill) }
+    {
+        let diaries = self.platforms.diaries_of(alloc, bill)?;
+        let platforms = self.platforms.roster().platforms();
+        bill_line(alloc, number, bill, diaries.as_slice(), platforms)
+    }
+
+    /// Takes an event of a line (`event_in`), and answers it by its line.
+    ///
+    /// Out of memory, the platforms are those before the event, or those after the whole of it; what it sends and signs
+    /// may be missing then.
     pub fn step(&mut self, alloc: Global, event: Event) -> Result<ByteList, NoMemory>
-        requires may { MayTake (world_of M.seen self.old) (event_view event) }
-        requires few { self.old.events < 2 ^ 32 }
+        requires form { IsEvent (event_view event) }
+        requires nests { IsNested (event_view event) }
+        requires listed { names_listed self.old.platforms.roster (event_view event) ≡ true }
+        requires few { self.old.events < 4294967295 }
         ensures ok { IfOk result (λ line. IsAnswered (world_of M.seen self.old) (self.old.events + 1)
             (event_view event) line (world_of M.seen self.new)) }
+        ensures short { OnErr result (IsCutShort (world_of M.seen self.old)
+            (comes_to self.old.signed self.old.sent (event_view event)) (world_of M.seen self.new)) }
         ensures events { OnOk result (self.new.events ≡ self.old.events + 1) }
+        ensures roster { self.new.platforms.roster ≡ self.old.platforms.roster }
+    {
+        let before = self.sent.len();
+        let answer = self.take(alloc, event)?;
+        line_of(
+            alloc,
+            self.events,
+            before,
+            self.sent.len(),
+            self.signed.as_slice(),
+            &answer,
+        )
+    }
+
+    /// Takes an event, as `step` does, and gives its answer. No line is written.
+    ///
+    /// Unless the ring of some shard failed to sign, the event is taken whole.
+    pub fn take(&mut self, alloc: Global, event: Event) -> Result<Answer, NoMemory>
+        requires form { IsEvent (event_view event) }
+        requires nests { IsNested (event_view event) }
+        requires listed { names_listed self.old.platforms.roster (event_view event) ≡ true }
+        requires few { self.old.events < 4294967295 }
+        ensures ok { IfOk result (λ answer. IsStepped (world_of M.seen self.old) (event_view event) answer
+            (world_of M.seen self.new)) }
+        ensures whole { IfOk result (λ answer. SomeRose M.faults self.old.platforms.shards self.new.platforms.shards
+            ⊎ IsSteppedWhole (world_of M.seen self.old) (event_view event) answer (world_of M.seen self.new)) }
+        ensures short { OnErr result (IsCutShort (world_of M.seen self.old)
+            (comes_to self.old.signed self.old.sent (event_view event)) (world_of M.seen self.new)) }
+        ensures writable { IfOk result IsWritable }
+        ensures grown { IfOk result (λ _. length self.old.sent ≤ length self.new.sent) }
+        ensures events { OnOk result (self.new.events ≡ self.old.events + 1) }
+        ensures roster { self.new.platforms.roster ≡ self.old.platforms.roster }
     {
         match comes_to(alloc, self.signed.as_slice(), self.sent.as_slice(), event)? {
-            Happening::Answered(answer) => self.answer(alloc, answer),
+            Happening::Answered(answer) => {
+                self.events += 1;
+                Ok(answer)
+            }
             Happening::Asked(asking) => self.ask(alloc, asking),
         }
     }
 
-    // What is answered at once.
-    fn answer(&mut self, alloc: Global, answer: Answer) -> Result<ByteList, NoMemory>
-        requires writable { IsWritable answer }
-        requires few { self.old.events < 2 ^ 32 }
-        ensures ok { IfOk result (λ line. IsTold (world_of M.seen self.old) (self.old.events + 1)
-            (answers answer) line (world_of M.seen self.new)) }
-        ensures events { OnOk result (self.new.events ≡ self.old.events + 1) }
-    {
-        self.tell(alloc, Vec::new(alloc), None, answer)
-    }
-
-    // A platform's shard is asked, and what it replies is told.
-    fn ask(&mut self, alloc: Global, asking: Asking) -> Result<ByteList, NoMemory>
+    // A platform's shard is asked, and what comes of it is added.
+    fn ask(&mut self, alloc: Global, asking: Asking) -> Result<Answer, NoMemory>
         requires may { MayAsk (world_of M.seen self.old) (asking_view asking) }
-        requires few { self.old.events < 2 ^ 32 }
-        ensures ok { IfOk result (λ line. IsTold (world_of M.seen self.old) (self.old.events + 1)
-            (asks (asking_view asking)) line (world_of M.seen self.new)) }
+        requires few { self.old.events < 4294967295 }
+        ensures ok { IfOk result (λ answer. HasHappened (world_of M.seen self.old) (asks (asking_view asking)) answer
+            (world_of M.seen self.new)) }
+        ensures whole { IfOk result (λ answer. SomeRose M.faults self.old.platforms.shards self.new.platforms.shards
+            ⊎ HasHappenedWhole (world_of M.seen self.old) (asks (asking_view asking)) answer
+            (world_of M.seen self.new)) }
+        ensures short { OnErr result (IsCutShort (world_of M.seen self.old) (asks (asking_view asking))
+            (world_of M.seen self.new)) }
+        ensures writable { IfOk result IsWritable }
+        ensures grown { IfOk result (λ _. length self.old.sent ≤ length self.new.sent) }
         ensures events { OnOk result (self.new.events ≡ self.old.events + 1) }
+        ensures roster { self.new.platforms.roster ≡ self.old.platforms.roster }
     {
         let path = ReplyPath::of(alloc, &asking)?;
         let signing = is_sign(&asking.request);
         let shard = shard_of(alloc, &asking.request)?;
         let now = moment_or_first(asking.now);
+        self.events += 1;
         let out = self
             .platforms
             .take(alloc, asking.at, shard, now, asking.request);
         self.follow(alloc, path, signing, out)
     }
 
-    // What an outcome sends and signs is added, and its reply is said.
+    // What an outcome sends and signs is added. Out of memory, what was sent may have grown; nothing else changes.
     fn follow(
         &mut self,
         alloc: Global,
         path: ReplyPath,
         signing: bool,
         out: Outcome,
-    ) -> Result<ByteList, NoMemory>
-        requires writable { IsWritable (Replied out.reply) }
-        requires few { self.old.events < 2 ^ 32 }
-        ensures ok { IfOk result (λ line. IsFollowed self.old path signing out line self.new) }
-        ensures events { OnOk result (self.new.events ≡ self.old.events + 1) }
+    ) -> Result<Answer, NoMemory>
+        requires path { IsPathBetweenListed self.old.platforms.roster path }
+        requires listed { AreForListed self.old.platforms.roster out.messages }
+        ensures answer { IfOk result (λ answer. answer ≡ Replied out.reply) }
+        ensures ok { OnOk result (IsFollowed self.old path signing out self.new) }
+        ensures events { self.new.events ≡ self.old.events }
         ensures platforms { self.new.platforms ≡ self.old.platforms }
     {
         let Outcome { reply, messages } = out;
@@ -167,7 +221,9 @@ impl<M: Machine> World<M> {
             reply => {
                 let parcels = parcels_of(alloc, path, &reply, messages)?;
                 let bill = bill_by(signing, &reply);
-                self.tell(alloc, parcels, bill, Answer::Replied(reply))
+                send(&mut self.sent, parcels)?;
+                sign(&mut self.signed, bill)?;
+                Ok(Answer::Replied(reply))
             }
         }
     }

@@ -1,17 +1,12 @@
-use Rattle.std.proofs.Common.{◌≡◌, List, sym, ap, ◌∙◌}
-use Rattle.ebl_base.specs.declared.checksum.Checksum.{Checksum}
 use Rattle.world_script.specs.Event.{event_view}
-use Rattle.answer_lines.specs.declared.parcel.Parcel.{Parcel}
-use Rattle.platform_world.specs.Happening.{asking_view, comes_to, happening_view}
-use Rattle.platform_world.specs.State.{WorldState}
+use Rattle.platform_world.specs.Happening.{comes_to}
+use Rattle.platform_world.specs.State.{world_of}
+use Rattle.platform_world.proofs.Asked.{on_err_so, short_of_happened}
 use Rattle.platform_world.proofs.world.World.step.Goals as goal
 
-pub ask-requires-clause-may : goal.ask-requires-clause-may
-ask-requires-clause-may g c =
-    c.requires.may (asking_view c.in-Asked.asking)
-    (ap (λ (w : WorldState _). comes_to w.signed w.sent (event_view c.args.event)) (sym c.self.view_is)
-    ∙ ap (λ (xs : List Checksum). comes_to xs c.self.inside.sent.items (event_view c.args.event))
-    (sym c.as_slice.ensures.value)
-    ∙ ap (λ (xs : List Parcel). comes_to c.as_slice.result.now xs (event_view c.args.event))
-    (sym c.as_slice-2.ensures.value)
-    ∙ sym c.in_ok-answer.ensures ∙ ap happening_view c.in-Asked.is)
+pub returns-clause-short : goal.returns-clause-short
+returns-clause-short g c =
+    on_err_so c.line_of.result
+    (short_of_happened (world_of g.M.Machine.seen c.args.self.now)
+    (comes_to c.args.self.now.signed c.args.self.now.sent (event_view c.args.event)) c.in_ok-answer.answer
+    (world_of g.M.Machine.seen c.take.new.self) c.in_ok-answer.ensures.ok)

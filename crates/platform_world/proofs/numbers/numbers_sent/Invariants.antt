@@ -1,7 +1,7 @@
 -- The numbers so far.
 use Rattle.std.proofs.Common.{◌≡◌, ◌+◌, ◌-◌, ◌≤◌}
 use Rattle.std.specs.List.{range_with_len}
-use Rattle.platform_world.proofs.numbers.numbers_after.Given as goal
+use Rattle.platform_world.proofs.numbers.numbers_sent.Given as goal
 
 abbrev pub invariant-loop-i : goal.invariant-loop-i
 invariant-loop-i l = record {

@@ -1,0 +1,202 @@
+-- The diaries of a bill's shards are what its histories come from.
+use Rattle.std.proofs.Common.{◌≡◌, ℕ, zero, suc, ◌+◌, ◌*◌, ◌<◌, Bool, true, false, cond, List, [], ◌∷◌, ◌++◌, Option, Some, None, take, drop, map, refl, sym, ap, subst, ◌∙◌, arith}
+use Rattle.std.proofs.Math.Bool.{not}
+use Rattle.std.specs.Prelude.{All, filter, find, is_some, option_map, slice_get}
+use Rattle.std.specs.Option.{option_map_or}
+use Rattle.std.proofs.lemmas.Option.{slice_get-map}
+use Rattle.std.proofs.lemmas.List.{append_assoc, append-nil, drop-drop, map-append}
+use Rattle.std.proofs.lemmas.List.Elements.{All-drop, All-head, All-map, All-tail, All-take}
+use Rattle.ebl_base.specs.PlatformCode.{code_eq}
+use Rattle.ebl_base.specs.declared.checksum.Checksum.{Checksum}
+use Rattle.ebl_base.specs.declared.platform_code.PlatformCode.{PlatformCode}
+use Rattle.bill_diary.specs.declared.frame.Frame.{Frame}
+use Rattle.bill_diary.specs.History.{history}
+use Rattle.bill_lines.specs.Diaries.{histories_in, platforms_in}
+use Rattle.bill_lines.specs.Lines.{bill_line}
+use Rattle.bill_lines.specs.declared.diaries.PlatformDiary.{PlatformDiary}
+use Rattle.closed_family.specs.Closed.{Histories}
+use Rattle.closed_family.specs.Family.{histories_of}
+use Rattle.platform_requests.specs.Shard.{shard_of_bill}
+use Rattle.platform_world.specs.Machine.{MachineRecord, shard_state}
+use Rattle.platform_world.specs.Platforms.{ShardDiary, given_diary, grouped, shard_diary, states_of}
+use Rattle.platform_world.specs.Run.{bill_line_in}
+use Rattle.platform_world.specs.State.{WorldState, world_of}
+use Rattle.platform_world.specs.World.{PlatformState, ShardState, family_of, is_settled, member_of, platforms_of}
+use Rattle.platform_world.proofs.Grouped.{slice_get-drop, slice_get-take}
+
+-- ---- histories
+
+abbrev histories_by : Checksum → List ShardDiary → Histories
+histories_by bill [] p = []
+histories_by bill (d ∷ ds) p = cond (code_eq d.platform p) (history bill d.diary) (histories_by bill ds p)
+
+by_given : (bill : Checksum) (ds : List PlatformDiary) (p : PlatformCode)
+    → histories_in bill ds p ≡ histories_by bill (map given_diary ds) p
+by_given bill [] p = refl
+by_given bill (d ∷ ds) p = on_test (code_eq d.platform p) (by_given bill ds p)
+  where
+    on_test : (test : Bool) → histories_in bill ds p ≡ histories_by bill (map given_diary ds) p
+        → option_map_or (λ (x : PlatformDiary). history bill x.diary.now)
+        (cond test (Some d) (find (λ (x : PlatformDiary). code_eq x.platform p) ds)) []
+        ≡ cond test (history bill d.diary.now) (histories_by bill (map given_diary ds) p)
+    on_test true further = refl
+    on_test false further = further
+
+in_shard : (bill : Checksum) (o : Option ShardState)
+    → option_map_or (history bill) (option_map (λ (s : ShardState). s.diary) o) []
+    ≡ history bill (option_map_or (λ (s : ShardState). s.diary) o [])
+in_shard bill None = refl
+in_shard bill (Some s) = refl
+
+by_states : (bill : Checksum) (states : List PlatformState) (p : PlatformCode)
+    → histories_of bill (map member_of states) p ≡ histories_by bill (map (shard_diary (shard_of_bill bill)) states) p
+by_states bill [] p = refl
+by_states bill (state ∷ states) p = on_test (code_eq state.platform p) (by_states bill states p)
+  where
+    i : ℕ
+    i = shard_of_bill bill
+
+    on_test : (test : Bool)
+        → histories_of bill (map member_of states) p ≡ histories_by bill (map (shard_diary i) states) p
+        → cond test (option_map_or (history bill) (slice_get (map (λ (s : ShardState). s.diary) state.shards) i) [])
+        (histories_of bill (map member_of states) p)
+        ≡ cond test (history bill (shard_diary i state).diary) (histories_by bill (map (shard_diary i) states) p)
+    on_test true further =
+        ap (λ (o : Option (List Frame)). option_map_or (history bill) o [])
+        (slice_get-map (λ (s : ShardState). s.diary) state.shards i)
+        ∙ in_shard bill (slice_get state.shards i)
+    on_test false further = further
+
+-- the histories are those of the diaries that were given
+pub same_histories : (bill : Checksum) (ds : List PlatformDiary) (states : List PlatformState)
+    → map given_diary ds ≡ map (shard_diary (shard_of_bill bill)) states
+    → histories_in bill ds ≡ histories_of bill (map member_of states)
+same_histories bill ds states same = λ k p.
+    (by_given bill ds p ∙ ap (λ (xs : List ShardDiary). histories_by bill xs p) same ∙ sym (by_states bill states p)) k
+
+-- ---- platforms
+
+given_platforms : (ds : List PlatformDiary) → platforms_in ds ≡ map (λ (d : ShardDiary). d.platform) (map given_diary ds)
+given_platforms [] = refl
+given_platforms (d ∷ ds) = ap (λ (ps : List PlatformCode). d.platform ∷ ps) (given_platforms ds)
+
+state_platforms : (i : ℕ) (states : List PlatformState)
+    → map (λ (s : PlatformState). s.platform) states
+    ≡ map (λ (d : ShardDiary). d.platform) (map (shard_diary i) states)
+state_platforms i [] = refl
+state_platforms i (state ∷ states) = ap (λ (ps : List PlatformCode). state.platform ∷ ps) (state_platforms i states)
+
+pub platforms_grouped : (ps : List PlatformCode) (shards : List ShardState)
+    → map (λ (s : PlatformState). s.platform) (grouped ps shards) ≡ ps
+platforms_grouped [] shards = refl
+platforms_grouped (p ∷ ps) shards = ap (λ (qs : List PlatformCode). p ∷ qs) (platforms_grouped ps (drop 16 shards))
+
+pub same_platforms : (i : ℕ) (ds : List PlatformDiary) (ps : List PlatformCode) (shards : List ShardState)
+    → map given_diary ds ≡ map (shard_diary i) (grouped ps shards) → platforms_in ds ≡ ps
+same_platforms i ds ps shards same =
+    given_platforms ds ∙ ap (map (λ (d : ShardDiary). d.platform)) same
+    ∙ sym (state_platforms i (grouped ps shards)) ∙ platforms_grouped ps shards
+
+-- ---- one diary more
+
+-- what is still to be given
+abbrev pub left_from : ℕ → ℕ → List PlatformCode → List ShardState → List ShardDiary
+left_from i place ps shards = map (shard_diary i) (grouped (drop place ps) (drop (16 * place) shards))
+
+-- the shard of this number on the platform at a place is at sixteen times the place
+one_left : (i place : ℕ) (p : PlatformCode) (ps : List PlatformCode) (shards : List ShardState) (s : ShardState)
+    → i < 16 → drop place ps ≡ p ∷ drop (place + 1) ps → slice_get shards (16 * place + i) ≡ Some s
+    → left_from i place ps shards ≡ record { platform = p; diary = s.diary } ∷ left_from i (place + 1) ps shards
+one_left i place p ps shards s small here there =
+    let rest = drop (16 * place) shards in
+    let next : 16 * place + 16 ≡ 16 * (place + 1) = omega arith in
+    ap (λ (qs : List PlatformCode). map (shard_diary i) (grouped qs rest)) here
+    ∙ ap (λ (o : Option ShardState).
+    record { platform = p; diary = option_map_or (λ (x : ShardState). x.diary) o [] }
+    ∷ map (shard_diary i) (grouped (drop (place + 1) ps) (drop 16 rest)))
+    (slice_get-take 16 rest i small ∙ slice_get-drop (16 * place) shards i ∙ there)
+    ∙ ap (λ (xs : List ShardState).
+    record { platform = p; diary = s.diary } ∷ map (shard_diary i) (grouped (drop (place + 1) ps) xs))
+    (drop-drop 16 (16 * place) shards ∙ ap (λ (k : ℕ). drop k shards) next)
+
+-- those that are given and those that are left are all
+pub one_more_given : (i place : ℕ) (ps : List PlatformCode) (shards : List ShardState) (ds : List PlatformDiary)
+    (d : PlatformDiary) (s : ShardState) → i < 16 → drop place ps ≡ d.platform ∷ drop (place + 1) ps
+    → slice_get shards (16 * place + i) ≡ Some s → d.diary.now ≡ s.diary
+    → map given_diary ds ++ left_from i place ps shards ≡ map (shard_diary i) (grouped ps shards)
+    → map given_diary (ds ++ d ∷ []) ++ left_from i (place + 1) ps shards ≡ map (shard_diary i) (grouped ps shards)
+one_more_given i place ps shards ds d s small here there same so_far =
+    ap (λ (xs : List ShardDiary). xs ++ left_from i (place + 1) ps shards) (map-append given_diary ds (d ∷ []))
+    ∙ append_assoc (map given_diary ds) (given_diary d ∷ []) (left_from i (place + 1) ps shards)
+    ∙ ap (λ (x : List Frame). map given_diary ds
+    ++ record { platform = d.platform; diary = x } ∷ left_from i (place + 1) ps shards) same
+    ∙ ap (λ (xs : List ShardDiary). map given_diary ds ++ xs) (sym (one_left i place d.platform ps shards s small here there))
+    ∙ so_far
+
+pub none_left_over : (i place : ℕ) (ps : List PlatformCode) (shards : List ShardState) (ds : List PlatformDiary)
+    → drop place ps ≡ []
+    → map given_diary ds ++ left_from i place ps shards ≡ map (shard_diary i) (grouped ps shards)
+    → map given_diary ds ≡ map (shard_diary i) (grouped ps shards)
+none_left_over i place ps shards ds none so_far =
+    sym (append-nil (map given_diary ds))
+    ∙ ap (λ (qs : List PlatformCode). map given_diary ds ++ map (shard_diary i) (grouped qs (drop (16 * place) shards))) (sym none)
+    ∙ so_far
+
+-- ---- no shard is loose
+
+abbrev IsSettled : ShardState → Type 0
+IsSettled s = s.loose ≡ None
+
+settled_test : (o : Option ShardState) → ((s : ShardState) → o ≡ Some s → s.loose ≡ None)
+    → option_map_or (λ (s : ShardState). not (is_some s.loose)) o true ≡ true
+settled_test None none = refl
+settled_test (Some s) none = ap (λ (l : Option (Option Frame)). not (is_some l)) (none s refl)
+
+settled_there : (xs : List ShardState) (k : ℕ) (s : ShardState) → All IsSettled xs → slice_get xs k ≡ Some s
+    → s.loose ≡ None
+settled_there [] k s all is = cc is
+settled_there (x ∷ xs) zero s all is =
+    let same : x ≡ s = cc is in subst IsSettled same (All-head IsSettled x xs all)
+settled_there (x ∷ xs) (suc k) s all is = settled_there xs k s (All-tail IsSettled x xs all) is
+
+-- where no shard is loose, each platform is settled
+pub all_settled : (bill : Checksum) (ps : List PlatformCode) (shards : List ShardState) → All IsSettled shards
+    → map (λ (s : PlatformState). s.platform) (filter (is_settled bill) (grouped ps shards)) ≡ ps
+all_settled bill [] shards all = refl
+all_settled bill (p ∷ ps) shards all =
+    on_test (is_settled bill (record { platform = p; shards = take 16 shards }))
+    (settled_test (slice_get (take 16 shards) (shard_of_bill bill))
+    (λ s. settled_there (take 16 shards) (shard_of_bill bill) s (All-take IsSettled 16 shards all)))
+    (all_settled bill ps (drop 16 shards) (All-drop IsSettled 16 shards all))
+  where
+    on_test : (test : Bool) → test ≡ true
+        → map (λ (s : PlatformState). s.platform) (filter (is_settled bill) (grouped ps (drop 16 shards))) ≡ ps
+        → map (λ (s : PlatformState). s.platform)
+        (cond test (record { platform = p; shards = take 16 shards } ∷ filter (is_settled bill) (grouped ps (drop 16 shards)))
+        (filter (is_settled bill) (grouped ps (drop 16 shards)))) ≡ p ∷ ps
+    on_test true is further = ap (λ (qs : List PlatformCode). p ∷ qs) further
+    on_test false is further = cc is
+
+pub never_loose : {M : Type 0} (seen : M → MachineRecord) (shards : List M)
+    → All IsSettled (map (λ (m : M). shard_state (seen m)) shards)
+never_loose seen shards = All-map IsSettled (λ m. shard_state (seen m)) shards (λ k d small. refl)
+
+-- ---- the line of a bill
+
+-- the line by the diaries that are given is that of the world
+pub line_of_world : {M : Type 0} (seen : M → MachineRecord) (w : WorldState M) (n : ℕ) (bill : Checksum)
+    (ds : List PlatformDiary) (line : List ℕ)
+    → platforms_in ds ≡ w.platforms.roster.platforms
+    → histories_in bill ds ≡ histories_of bill (map member_of (states_of seen w.platforms))
+    → line ≡ bill_line n (histories_in bill ds) (platforms_in ds) w.platforms.roster.platforms
+    → line ≡ bill_line_in (world_of seen w) n bill
+line_of_world {M = M} seen w n bill ds line platforms histories is =
+    let ps = w.platforms.roster.platforms in
+    let shards = map (λ (m : M). shard_state (seen m)) w.platforms.shards in
+    is
+    ∙ ap (λ (at : Histories). bill_line n at (platforms_in ds) ps) histories
+    ∙ ap (λ (qs : List PlatformCode). bill_line n (histories_of bill (family_of (world_of seen w))) qs ps)
+    (platforms ∙ sym (platforms_grouped ps shards))
+    ∙ ap (λ (qs : List PlatformCode).
+    bill_line n (histories_of bill (family_of (world_of seen w))) (platforms_of (world_of seen w)) qs)
+    (sym (all_settled bill ps shards (never_loose seen w.platforms.shards)))

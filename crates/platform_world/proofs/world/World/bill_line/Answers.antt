@@ -1,0 +1,36 @@
+use Rattle.std.proofs.Common.{◌≡◌, ap, subst, ◌∙◌}
+use Rattle.std.specs.Prelude.{List}
+use Rattle.std.proofs.lemmas.Result.{IfOk-weaker}
+use Rattle.ebl_base.specs.declared.platform_code.PlatformCode.{PlatformCode}
+use Rattle.party_roster.specs.RosterRecord.{RosterRecord}
+use Rattle.bill_lines.specs.Diaries.{histories_in, platforms_in}
+use Rattle.bill_lines.specs.Lines.{bill_line}
+use Rattle.bill_lines.specs.declared.diaries.PlatformDiary.{PlatformDiary}
+use Rattle.platform_world.specs.Run.{bill_line_in}
+use Rattle.platform_world.specs.State.{WorldState, world_of}
+use Rattle.platform_world.proofs.Diaries.{line_of_world}
+use Rattle.platform_world.proofs.world.World.bill_line.Goals as goal
+
+pub returns : goal.returns
+returns g c =
+    let n = c.args.number in
+    let bill = c.args.bill in
+    let given = c.as_slice.result.now in
+    let settled = c.platforms-platforms.result.now in
+    let ds = c.in_ok-diaries.diaries.items in
+    IfOk-weaker c.bill_line.result
+    (λ line. line ≡ bill_line n (histories_in bill given) (platforms_in given) settled)
+    (λ line. line ≡ bill_line_in (world_of g.M.Machine.seen c.args.self.now) n bill)
+    (λ line is. subst (λ (w : WorldState _). line ≡ bill_line_in (world_of g.M.Machine.seen w) n bill) c.self.view_is
+    (line_of_world g.M.Machine.seen
+    (record {
+      platforms = c.self.inside.platforms;
+      sent = c.self.inside.sent.items;
+      signed = c.self.inside.signed.items;
+      events = c.self.inside.events;
+    }) n bill ds line c.in_ok-diaries.ensures.platforms c.in_ok-diaries.ensures.histories
+    (is
+    ∙ ap (λ (xs : List PlatformDiary). bill_line n (histories_in bill xs) (platforms_in xs) settled)
+    c.as_slice.ensures.value
+    ∙ ap (λ (qs : List PlatformCode). bill_line n (histories_in bill ds) (platforms_in ds) qs)
+    (c.platforms-platforms.ensures ∙ ap (λ (r : RosterRecord). r.platforms) c.roster.ensures)))) c.bill_line.ensures
