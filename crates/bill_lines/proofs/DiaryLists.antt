@@ -1,6 +1,6 @@
 -- Searches among the diaries of the platforms, and transactions but the last.
-use Rattle.std.proofs.Common.{◌≡◌, Bool, true, false, cond, List, [], ◌∷◌, ◌++◌, Option, Some, None, map, refl, ap, sym, ◌∙◌}
-use Rattle.std.specs.Prelude.{filter, find, option_map}
+use Rattle.std.proofs.Common.{◌≡◌, Bool, true, false, cond, List, [], ◌∷◌, ◌++◌, Some, map, refl, ap}
+use Rattle.std.specs.Prelude.{find, option_map}
 use Rattle.ebl_base.specs.declared.checksum.Checksum.{Checksum}
 use Rattle.ebl_base.specs.declared.transaction.Transaction.{Transaction}
 use Rattle.closed_family.specs.Histories.{is_signed}

@@ -3,7 +3,6 @@ use Rattle.std.specs.Prelude.{List, [], find, map}
 use Rattle.std.specs.Option.{option_map_or}
 use Rattle.ebl_base.specs.PlatformCode.{code_eq}
 use Rattle.ebl_base.specs.declared.checksum.Checksum.{Checksum}
-use Rattle.ebl_base.specs.declared.chain.ChainLink.{ChainLink}
 use Rattle.ebl_base.specs.declared.platform_code.PlatformCode.{PlatformCode}
 use Rattle.bill_diary.specs.History.{history}
 use Rattle.closed_family.specs.Closed.{Histories}

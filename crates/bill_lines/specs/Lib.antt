@@ -1,3 +1,4 @@
 pub mod Bills
 pub mod Lines
 pub mod Diaries
+pub mod Standing

@@ -6,8 +6,10 @@ mod diaries;
 mod ends;
 mod forks;
 mod lines;
+mod standing;
 #[cfg(test)]
 mod tests;
 
 pub use diaries::PlatformDiary;
-pub use lines::bill_line;
+pub use lines::{bill_line, bill_standing};
+pub use standing::Standing;

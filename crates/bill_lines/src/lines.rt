@@ -1,5 +1,5 @@
-//! The line of a bill.
-ghost use Rattle.std.specs.Prelude.{◌≡◌, [], ◌∷◌, ◌++◌, Some, codes, map, IfOk, OnOk};
+//! The line of a bill, and how the bill stands.
+ghost use Rattle.std.specs.Prelude.{◌≡◌, [], ◌∷◌, ◌++◌, Some, codes, map, option_map, IfOk, OnOk};
 ghost use Rattle.canonical_json.specs.Value.{list, text};
 ghost use Rattle.canonical_json.specs.View.{view};
 ghost use Rattle.json_forms.specs.Writing.{each_written, party_value, platform_value};
@@ -10,14 +10,16 @@ ghost use Rattle.closed_family.specs.Longest.{accepted_chains, longest_accepted}
 ghost use Rattle.bill_lines.specs.Bills.{end_of, is_forked, title_of};
 ghost use Rattle.bill_lines.specs.Diaries.{histories_in, platforms_in};
 ghost use Rattle.bill_lines.specs.Lines.{bill_line, front_members, title_members};
+ghost use Rattle.bill_lines.specs.Standing.{standing_by};
 
 use crate::accepted::{accepted_chains, longest};
 use crate::diaries::PlatformDiary;
 use crate::ends::{acting, end_of, further, title_after};
 use crate::forks::is_forked;
+use crate::standing::Standing;
 use answer_lines::Row;
 use canonical_json::Json;
-use ebl_base::{ByteList, ChainLink, Checksum, NoMemory, PlatformCode};
+use ebl_base::{ByteList, ChainLink, Checksum, NoMemory, Party, PlatformCode};
 use json_forms::{list_json, text_json};
 use reply_forms::state_text;
 use std::alloc::Global;
@@ -37,7 +39,7 @@ pub fn bill_line(
     ensures { IfOk result (λ line. line
         ≡ bill_line number (histories_in bill diaries.now) (platforms_in diaries.now) settled.now) }
 {
-    let standing = standing_of(alloc, bill, diaries)?;
+    let outline = outline_of(alloc, bill, diaries)?;
     let acts = acting(alloc, bill, diaries, settled)?;
     let mut row = Row::new(alloc);
     put_front(
@@ -45,17 +47,46 @@ pub fn bill_line(
         &mut row,
         acts.as_slice(),
         number,
-        standing.end,
-        standing.line.len(),
-        standing.forked,
+        outline.end,
+        outline.line.len(),
+        outline.forked,
     )?;
-    put_title(alloc, &mut row, standing.title)?;
+    put_title(alloc, &mut row, outline.title)?;
     row.into_line(alloc)
 }
 
-// How a bill stands on the platforms.
+/// How a bill stands, as its line says it, by the diaries of its shard on the platforms. No line is written.
+///
+/// It goes over each diary a few times, and copies of it what the bill's end has recorded since.
+pub fn bill_standing(
+    alloc: Global,
+    bill: Checksum,
+    diaries: &[PlatformDiary],
+) -> Result<Standing, NoMemory>
+    ensures { IfOk result (λ standing. standing
+        ≡ standing_by (histories_in bill diaries.now) (platforms_in diaries.now)) }
+{
+    let outline = outline_of(alloc, bill, diaries)?;
+    Ok(Standing {
+        entries: outline.line.len(),
+        forked: outline.forked,
+        possessor: possessor_of(outline.title),
+    })
+}
+
+// Who has possession, if there is a title.
+fn possessor_of(title: Option<Title>) -> Option<Party>
+    ensures { result ≡ option_map possessor title }
+{
+    match title {
+        Some(title) => Some(possessor(title)),
+        None => None,
+    }
+}
+
+// What the diaries say of a bill.
 #[derive(Clone, Copy)]
-struct Standing<'a> {
+struct Outline<'a> {
     // The longest accepted chain.
     line: &'a [ChainLink],
     // Where it ends.
@@ -65,11 +96,11 @@ struct Standing<'a> {
     title: Option<Title>,
 }
 
-fn standing_of<'a>(
+fn outline_of<'a>(
     alloc: Global,
     bill: Checksum,
     diaries: &[PlatformDiary<'a>],
-) -> Result<Standing<'a>, NoMemory>
+) -> Result<Outline<'a>, NoMemory>
     ensures line { IfOk result (λ s. s.line.now
         ≡ longest_accepted (histories_in bill diaries.now) (platforms_in diaries.now)) }
     ensures end { IfOk result (λ s. s.end ≡ end_of (histories_in bill diaries.now) (platforms_in diaries.now)) }
@@ -83,7 +114,7 @@ fn standing_of<'a>(
     let end = end_of(line, bill, diaries);
     let further = further(alloc, line, bill, diaries, end)?;
     let title = title_after(line, further.as_slice());
-    Ok(Standing {
+    Ok(Outline {
         line,
         end,
         forked,
