@@ -13,13 +13,16 @@ use Rattle.bill_diary.specs.declared.frame.Frame.{Frame}
 use Rattle.bill_diary.specs.History.{history}
 use Rattle.bill_lines.specs.Diaries.{histories_in, platforms_in}
 use Rattle.bill_lines.specs.Lines.{bill_line}
+use Rattle.bill_lines.specs.Standing.{standing_by}
 use Rattle.bill_lines.specs.declared.diaries.PlatformDiary.{PlatformDiary}
+use Rattle.bill_lines.specs.declared.standing.Standing.{Standing}
 use Rattle.closed_family.specs.Closed.{Histories}
 use Rattle.closed_family.specs.Family.{histories_of}
 use Rattle.platform_requests.specs.Shard.{shard_of_bill}
 use Rattle.platform_world.specs.Machine.{MachineRecord, shard_state}
 use Rattle.platform_world.specs.Platforms.{ShardDiary, given_diary, grouped, shard_diary, states_of}
 use Rattle.platform_world.specs.Run.{bill_line_in}
+use Rattle.platform_world.specs.Standing.{standing_in}
 use Rattle.platform_world.specs.State.{WorldState, world_of}
 use Rattle.platform_world.specs.World.{PlatformState, ShardState, family_of, is_settled, member_of, platforms_of}
 use Rattle.platform_world.proofs.Grouped.{slice_get-drop, slice_get-take}
@@ -200,3 +203,18 @@ line_of_world {M = M} seen w n bill ds line platforms histories is =
     ∙ ap (λ (qs : List PlatformCode).
     bill_line n (histories_of bill (family_of (world_of seen w))) (platforms_of (world_of seen w)) qs)
     (sym (all_settled bill ps shards (never_loose seen w.platforms.shards)))
+
+-- so is how the bill stands
+pub standing_of_world : {M : Type 0} (seen : M → MachineRecord) (w : WorldState M) (bill : Checksum)
+    (ds : List PlatformDiary) (standing : Standing)
+    → platforms_in ds ≡ w.platforms.roster.platforms
+    → histories_in bill ds ≡ histories_of bill (map member_of (states_of seen w.platforms))
+    → standing ≡ standing_by (histories_in bill ds) (platforms_in ds)
+    → standing ≡ standing_in (world_of seen w) bill
+standing_of_world {M = M} seen w bill ds standing platforms histories is =
+    let ps = w.platforms.roster.platforms in
+    let shards = map (λ (m : M). shard_state (seen m)) w.platforms.shards in
+    is
+    ∙ ap (λ (at : Histories). standing_by at (platforms_in ds)) histories
+    ∙ ap (λ (qs : List PlatformCode). standing_by (histories_of bill (family_of (world_of seen w))) qs)
+    (platforms ∙ sym (platforms_grouped ps shards))

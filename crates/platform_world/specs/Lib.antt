@@ -6,3 +6,4 @@ pub mod Step
 pub mod Script
 pub mod Run
 pub mod State
+pub mod Standing

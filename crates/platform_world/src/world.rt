@@ -13,6 +13,7 @@ ghost use Rattle.platform_world.specs.Run.{bill_line_in, bill_lines, bill_lines_
 ghost use Rattle.platform_world.specs.Machine.{AreForListed};
 ghost use Rattle.platform_world.specs.Platforms.{SomeRose};
 ghost use Rattle.platform_world.specs.Script.{IsNested, names_listed};
+ghost use Rattle.platform_world.specs.Standing.{standing_in};
 ghost use Rattle.platform_world.specs.State.{AreFresh, HasHappened, HasHappenedWhole, IsAnswered, IsCutShort, IsFollowed, IsPathBetweenListed, IsStepped, IsSteppedWhole, MayAsk, bill_by, is_sign, world_of};
 ghost use Rattle.platform_world.specs.Step.{IsAt};
 ghost use Rattle.platform_world.specs.World.{opening};
@@ -23,7 +24,7 @@ use crate::parcels::{ReplyPath, parcels_of};
 use crate::platforms::Platforms;
 use crate::saying::{line_of, send, sign};
 use answer_lines::{Answer, Parcel};
-use bill_lines::bill_line;
+use bill_lines::{Standing, bill_line, bill_standing};
 use ebl_base::{ByteList, Checksum, Moment, NoMemory};
 use holder_commands::Command;
 use party_roster::Roster;
@@ -115,6 +116,29 @@ impl<M: Machine> World<M> {
         let diaries = self.platforms.diaries_of(alloc, bill)?;
         let platforms = self.platforms.roster().platforms();
         bill_line(alloc, number, bill, diaries.as_slice(), platforms)
+    }
+
+    /// How many messages were sent.
+    pub fn sent_count(&self) -> usize
+        ensures { result ≡ length self.now.sent }
+    {
+        self.sent.len()
+    }
+
+    /// The bills that the script signed, in their order.
+    pub fn signed(&self) -> &[Checksum]
+        ensures { result.now ≡ self.now.signed }
+    {
+        self.signed.as_slice()
+    }
+
+    /// How a bill stands, as its line says it; no line is written. It goes over the diaries of the bill's shards a few
+    /// times.
+    pub fn standing(&self, alloc: Global, bill: Checksum) -> Result<Standing, NoMemory>
+        ensures { IfOk result (λ standing. standing ≡ standing_in (world_of M.seen self.now) bill) }
+    {
+        let diaries = self.platforms.diaries_of(alloc, bill)?;
+        bill_standing(alloc, bill, diaries.as_slice())
     }
 
     /// Takes an event of a line (`event_in`), and answers it by its line.
