@@ -11,3 +11,4 @@ mod Nesting
 mod Reached
 mod Diaries
 mod Opened
+mod Rings
