@@ -1,4 +1,4 @@
-pub mod NamesLemmas
-pub mod StepLemmas
-pub mod RunLemmas
-pub mod CanonLemmas
+mod RunLemmas
+mod DriveLemmas
+mod CanonLemmas
+mod SafeLemmas

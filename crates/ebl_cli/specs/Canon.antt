@@ -7,7 +7,7 @@ use Rattle.canonical_json.specs.declared.fault.ReadError.{ReadError}
 use Rattle.canonical_json.specs.declared.fault.ReadError.TheVariants.{NoMemory}
 use Rattle.document_checksum.specs.Digest.{checksum_of}
 use Rattle.document_checksum.specs.Text.{checksum_text}
-use Rattle.ebl_cli.specs.Run.{Run, complete, bad_json, stopped}
+use Rattle.ebl_cli.specs.Output.{Output, complete, bad_json, stopped}
 
 -- the canonical text and its checksum, each ended by a line feed
 abbrev pub canonical_lines : Value → List ℕ
@@ -18,9 +18,9 @@ abbrev pub IsRefusal : List ℕ → ReadError → Type 0
 IsRefusal text NoMemory = ⊥
 IsRefusal text fault = IsFault text fault
 
--- the lines of the text's value, or why it has none; a run may stop before it writes
-abbrev pub CanonRuns : List ℕ → Run → Type 0
-CanonRuns text run =
-    (run ≡ record { text = []; end = stopped })
-    ⊎ (((v : Value) × Reads text v × (run ≡ record { text = canonical_lines v; end = complete }))
-    ⊎ ((fault : ReadError) × IsRefusal text fault × (run ≡ record { text = []; end = bad_json fault })))
+-- the lines of the text's value, or why it has none; memory may run out before it writes
+abbrev pub Canonizes : List ℕ → Output → Type 0
+Canonizes text out =
+    (out ≡ record { text = []; end = stopped })
+    ⊎ (((v : Value) × Reads text v × (out ≡ record { text = canonical_lines v; end = complete }))
+    ⊎ ((fault : ReadError) × IsRefusal text fault × (out ≡ record { text = []; end = bad_json fault })))

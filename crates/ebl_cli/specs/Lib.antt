@@ -1,9 +1,6 @@
-pub mod World
-pub mod Names
-pub mod Step
-pub mod Lines
-pub mod Script
-pub mod Run
-pub mod Canon
 pub mod Command
+pub mod Output
+pub mod Drive
+pub mod Canon
 pub mod Status
+pub mod Safe

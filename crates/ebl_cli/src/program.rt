@@ -5,22 +5,32 @@ ghost use Rattle.ebl_cli.specs.Status.{exit_of};
 use crate::run::run_ebl;
 use crate::status::Status;
 use canonical_json::ReadError;
+use ebl_base::NoMemory;
 use ebl_edge::{Sink, standard_input, standard_output};
 use std::alloc::Global;
 use std::io::Input;
 use std::process::ExitCode;
 use std::rt::Env;
 use std::{env, io};
+use test_signer::KeyedRing;
 
 const HELP: &str = "ebl: electronic bills of lading on title platforms
 
 usage:
-  ebl drive       reads a script from standard input, one JSON object a line, and
-                  writes a line for each event, and then a line for each bill
+  ebl drive       reads a script over several platforms from standard input, one JSON
+                  object a line, and writes a line for each event, and then a line for
+                  each bill
   ebl canon       reads one JSON value from standard input, and writes its canonical
                   text (RFC 8785) and that text's SHA-256 checksum
   ebl --help      writes this text
   ebl --version   writes the version
+
+a script's first line has the roster, each later one an event, by one of these members:
+  do        a party's command: SIGN, ISSUE, ENDORSE, TRANSFER, SURRENDER_FOR_DELIVERY,
+            SURRENDER_FOR_AMENDMENT, SURRENDER_ACCEPTED, SURRENDER_REFUSED, ATTACH
+  deliver   a message that was sent comes to a platform
+  foreign   bytes from outside: START, PUT, FINISH, START_REPLY, FINISH_REPLY
+  ask, resend, restart, show
 
 examples:
   ebl drive < examples/first_run.jsonl
@@ -32,8 +42,11 @@ object; values nest at most 127 deep. The input is read to its end before the fi
 line is written.
 
 exits: 0 done; 2 usage; 3 a line is not a script line; 4 the input is too long;
-5 JSON is refused; 10 read fault; 11 write fault; 12 no memory
+5 JSON is refused; 6 too few rings of keys; 10 read fault; 11 write fault; 12 no memory
 ";
+
+/// Sixteen rings for each of eight platforms.
+const MOST_RINGS: usize = 128;
 
 const VERSION: &str = "ebl 0.1.0\n";
 
@@ -70,11 +83,23 @@ fn run_words<R: Alloc<A = Global> + Input + Print>(rt: &R, words: &Vec<String>) 
     match words.as_slice() {
         [word] if word.as_str() == "--help" => put_text(&mut sink, HELP),
         [word] if word.as_str() == "--version" => put_text(&mut sink, VERSION),
-        _ => {
-            let mut source = standard_input(rt);
-            run_ebl(rt.alloc(), words, &mut source, &mut sink)
-        }
+        _ => match rings(rt.alloc()) {
+            Ok(rings) => {
+                let mut source = standard_input(rt);
+                run_ebl(rt.alloc(), words, &mut source, &mut sink, rings)
+            }
+            Err(NoMemory) => Status::NoMemory,
+        },
     }
+}
+
+// The rings of the most platforms that a roster has, with keys that anybody can derive: they give no security.
+fn rings(alloc: Global) -> Result<Vec<KeyedRing>, NoMemory> {
+    let mut rings = Vec::with_capacity(alloc, MOST_RINGS)?;
+    for _ in 0..MOST_RINGS {
+        rings.push(KeyedRing::derived())?;
+    }
+    Ok(rings)
 }
 
 fn put_text<K: Sink>(sink: &mut K, text: &str) -> Status {
@@ -95,6 +120,7 @@ pub fn exit_of(status: Status) -> u8
         Status::BadScript(_) => 3,
         Status::TooLong => 4,
         Status::BadJson(_) => 5,
+        Status::WrongRacks { .. } => 6,
         Status::ReadFault => 10,
         Status::WriteFault => 11,
         Status::NoMemory => 12,
@@ -108,6 +134,9 @@ fn report<R: Eprint>(rt: &R, status: Status) -> io::Result<()> {
         Status::BadScript(n) => eprintln!(rt; "ebl: line {n} is not a script line"),
         Status::TooLong => eprintln!(rt; "ebl: the input is too long"),
         Status::BadJson(error) => eprintln!(rt; "ebl: JSON is refused: {}", error_name(error)),
+        Status::WrongRacks { given, needed } => eprintln!(rt;
+            "ebl: {given} racks, {needed} needed"
+        ),
         Status::ReadFault => eprintln!(rt; "ebl: read fault"),
         Status::WriteFault => eprintln!(rt; "ebl: write fault"),
         Status::NoMemory => eprintln!(rt; "ebl: no memory"),

@@ -15,10 +15,13 @@ pub enum Status {
     /// `canon` alone: the input is no JSON that `canonical_json` reads, and why.
     BadJson(ReadError),
     /// The line of this number, counted from 1, is the first outside the grammar, or the line 100,001. The answers
-    /// before it stand.
+    /// before it stand, unless too few rings of keys came: then nothing does.
     BadScript(u64),
-    /// The sink failed. What it took is a first part of the answers.
+    /// Fewer rings of keys came than sixteen for each platform of the roster: how many came, and how many are needed.
+    /// Nothing was written. A bad line is told before it.
+    WrongRacks { given: u64, needed: u64 },
+    /// The sink failed. What it took is whole lines and a first part of the next one.
     WriteFault,
-    /// Memory ran out. What was written is a first part of the answers.
+    /// Memory ran out. What was written is whole lines.
     NoMemory,
 }

@@ -7,6 +7,7 @@ use ebl_edge::{MemorySink, MemorySource, RepeatedSource};
 use std::alloc::Global;
 use std::process::Abort;
 use std::test::Fail;
+use test_signer::KeyedRing;
 
 const ROSTER: &str =
     r#"{"roster":{"carriers":[{"code":"OCNL","party":"ALPH/CARRIER","provider":"NMFTA"}],"parties":["ALPH/BANK","ALPH/CARRIER","ALPH/EXPORT"],"platforms":["ALPH"]}}
@@ -66,7 +67,17 @@ fn text_of(alloc: Global, pieces: &[&str]) -> Result<ByteList, NoMemory> {
     Ok(text)
 }
 
-// Runs the command of this word on the pieces of a text, and compares the status and the bytes written.
+// So many rings of keys.
+fn rings(alloc: Global, count: usize) -> Result<Vec<KeyedRing>, NoMemory> {
+    let mut rings = Vec::with_capacity(alloc, count)?;
+    for _ in 0..count {
+        rings.push(KeyedRing::derived())?;
+    }
+    Ok(rings)
+}
+
+// Runs the command of this word on the pieces of a text with rings for three platforms, and compares the status and the
+// bytes written.
 fn expect_of(
     rt: &impl Abort,
     alloc: Global,
@@ -75,10 +86,27 @@ fn expect_of(
     status: Status,
     written: &[u8],
 ) -> Result<(), NoMemory> {
+    expect_with(rt, alloc, word, text, 48, status, written)
+}
+
+// The same with so many rings.
+fn expect_with(
+    rt: &impl Abort,
+    alloc: Global,
+    word: &str,
+    text: &[&str],
+    count: usize,
+    status: Status,
+    written: &[u8],
+) -> Result<(), NoMemory> {
     let words = words_of(alloc, word)?;
     let mut source = MemorySource::new(text_of(alloc, text)?, CallList::new(alloc));
     let mut sink = MemorySink::new(alloc, CallList::new(alloc));
-    assert_eq!(rt; run_ebl(alloc, &words, &mut source, &mut sink), status);
+    let rings = rings(alloc, count)?;
+    assert_eq!(rt;
+        run_ebl(alloc, &words, &mut source, &mut sink, rings),
+        status
+    );
     assert!(rt; sink.written() == written);
     Ok(())
 }
@@ -149,18 +177,11 @@ fn first_run(rt: HostRuntime) -> Result<(), Fail> {
 fn refused_scripts(rt: HostRuntime) -> Result<(), Fail> {
     let alloc = rt.alloc();
     // A script, the first line outside the grammar, and the answers before it.
-    let rows: [(&[&str], u64, &[&str]); 12] = [
+    let rows: [(&[&str], u64, &[&str]); 11] = [
         (&[], 1, &[]),
         (&["\n"], 1, &[]),
         (&["{}\n"], 1, &[]),
         (&[SIGN], 1, &[]),
-        (
-            &[
-                "{\"roster\":{\"carriers\":[{\"code\":\"OCNL\",\"party\":\"ALPH/A\",\"provider\":\"NMFTA\"}],\"parties\":[\"ALPH/A\"],\"platforms\":[\"ALPH\",\"BETA\"]}}\n",
-            ],
-            1,
-            &[],
-        ),
         (&[ROSTER, "{"], 2, &[]),
         (&[ROSTER, "\n"], 2, &[]),
         (
@@ -185,24 +206,68 @@ fn refused_scripts(rt: HostRuntime) -> Result<(), Fail> {
             &[
                 ROSTER,
                 SIGN,
-                "{\"at\":\"ALPH\",\"do\":\"ISSUE\",\"bill\":1,\"party\":\"ALPH/NOBODY\"}\n",
+                "{\"at\":\"BETA\",\"do\":\"ISSUE\",\"bill\":1,\"party\":\"ALPH/CARRIER\"}\n",
             ],
             3,
             &[SIGNED],
         ),
-        (
-            &[
-                ROSTER,
-                "{\"at\":\"ALPH\",\"do\":\"SIGN\",\"document\":{},\"party\":\"ALPH/BANK\"}\n",
-            ],
-            2,
-            &[],
-        ),
+        (&[ROSTER, "{\"restart\":\"BETA\"}\n"], 2, &[]),
         (&[ROSTER, SIGN, "\n", SIGN], 3, &[SIGNED]),
     ];
     for (script, line, written) in rows {
         expect(&rt, alloc, script, Status::BadScript(line), written)?;
     }
+    Ok(())
+}
+
+const THREE: &str =
+    r#"{"roster":{"carriers":[{"code":"OCNL","party":"ALPH/CARRIER","provider":"NMFTA"}],"parties":["ALPH/BANK","ALPH/CARRIER","ALPH/EXPORT","BETA/IMPORT","GAMM/AGENT"],"platforms":["ALPH","BETA","GAMM"]}}
+"#;
+
+const TRANSFER_TO_BETA: &str =
+    r#"{"at":"ALPH","bill":1,"do":"ISSUE","now":2000,"party":"ALPH/CARRIER","recipient":"ALPH/EXPORT"}
+{"at":"ALPH","bill":1,"do":"ENDORSE","now":3000,"party":"ALPH/EXPORT","recipient":"BETA/IMPORT"}
+{"at":"ALPH","bill":1,"do":"TRANSFER","now":4000,"party":"ALPH/EXPORT","recipient":"BETA/IMPORT"}
+{"deliver":1}
+{"deliver":2}
+"#;
+
+const TRANSFERRED_TO_BETA: &str =
+    r#"{"event":2,"reply":"DONE","sent":[],"view":{"bill":1,"entries":0,"holder":"ALPH/EXPORT","place":"HELD","possessor":"ALPH/EXPORT","state":"LIVE"}}
+{"event":3,"reply":"DONE","sent":[],"view":{"bill":1,"entries":0,"holder":"BETA/IMPORT","place":"HELD","possessor":"ALPH/EXPORT","state":"LIVE"}}
+{"event":4,"reply":"DONE","sent":[1],"view":{"bill":1,"entries":0,"holder":"BETA/IMPORT","place":"PARTING","possessor":"BETA/IMPORT","state":"LIVE"}}
+{"event":5,"reply":"RECE","sent":[2],"standing":false}
+{"event":6,"reply":"DONE","sent":[],"view":{"bill":1,"entries":1,"holder":"BETA/IMPORT","place":"GONE","possessor":"BETA/IMPORT","state":"LIVE"}}
+{"acts":["BETA"],"bill":1,"end":"BETA","entries":1,"forked":false,"holder":"BETA/IMPORT","possessor":"BETA/IMPORT","state":"LIVE"}
+"#;
+
+#[test]
+fn transfer_to_another_platform(rt: HostRuntime) -> Result<(), Fail> {
+    let alloc = rt.alloc();
+    expect(
+        &rt,
+        alloc,
+        &[THREE, SIGN, TRANSFER_TO_BETA],
+        Status::Done,
+        &[SIGNED, TRANSFERRED_TO_BETA],
+    )?;
+    Ok(())
+}
+
+#[test]
+fn too_few_rings(rt: HostRuntime) -> Result<(), Fail> {
+    let alloc = rt.alloc();
+    let lacking = Status::WrongRacks {
+        given: 47,
+        needed: 48,
+    };
+    expect_with(&rt, alloc, "drive", &[THREE], 47, lacking, b"")?;
+    expect_with(&rt, alloc, "drive", &[THREE, SIGN], 47, lacking, b"")?;
+    // A bad line is told first, and the answers before it aren't written.
+    let bad = &[THREE, SIGN, "\n"];
+    expect_with(&rt, alloc, "drive", bad, 47, Status::BadScript(3), b"")?;
+    expect_with(&rt, alloc, "drive", &[THREE], 48, Status::Done, b"")?;
+    expect_with(&rt, alloc, "drive", &[THREE], 49, Status::Done, b"")?;
     Ok(())
 }
 
@@ -213,18 +278,18 @@ fn words_and_lengths(rt: HostRuntime) -> Result<(), Fail> {
     let mut source = MemorySource::new(ByteList::new(alloc), CallList::new(alloc));
     let mut sink = MemorySink::new(alloc, CallList::new(alloc));
     assert_eq!(rt;
-        run_ebl(alloc, &none, &mut source, &mut sink),
+        run_ebl(alloc, &none, &mut source, &mut sink, rings(alloc, 16)?),
         Status::Usage
     );
     let unknown = words_of(alloc, "driven")?;
     assert_eq!(rt;
-        run_ebl(alloc, &unknown, &mut source, &mut sink),
+        run_ebl(alloc, &unknown, &mut source, &mut sink, rings(alloc, 16)?),
         Status::Usage
     );
     let drive = words_of(alloc, "drive")?;
     let mut long = RepeatedSource::new(b' ', 67_108_865);
     assert_eq!(rt;
-        run_ebl(alloc, &drive, &mut long, &mut sink),
+        run_ebl(alloc, &drive, &mut long, &mut sink, rings(alloc, 16)?),
         Status::TooLong
     );
     assert!(rt; sink.written().is_empty());
@@ -241,7 +306,7 @@ fn faults_of_the_outside(rt: HostRuntime) -> Result<(), Fail> {
         let fails = CallList::from_slice(alloc, &[call]).map_err(|_| "memory")?;
         let mut source = MemorySource::new(text_of(alloc, &script)?, CallList::new(alloc));
         let mut sink = MemorySink::tearing(alloc, fails);
-        let status = run_ebl(alloc, &words, &mut source, &mut sink);
+        let status = run_ebl(alloc, &words, &mut source, &mut sink, rings(alloc, 16)?);
         // Four answers and the bill lines are put.
         let wanted = if call < 5 {
             Status::WriteFault
@@ -258,7 +323,7 @@ fn faults_of_the_outside(rt: HostRuntime) -> Result<(), Fail> {
         let fails = CallList::from_slice(alloc, &[call]).map_err(|_| "memory")?;
         let mut source = MemorySource::new(text_of(alloc, &script)?, fails);
         let mut sink = MemorySink::new(alloc, CallList::new(alloc));
-        let status = run_ebl(alloc, &words, &mut source, &mut sink);
+        let status = run_ebl(alloc, &words, &mut source, &mut sink, rings(alloc, 16)?);
         // The script comes in one read, and its end in another.
         let wanted = if call < 2 {
             Status::ReadFault
