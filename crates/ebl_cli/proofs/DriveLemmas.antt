@@ -17,7 +17,7 @@ use Rattle.ebl_cli.specs.declared.status.Status.{Status}
 use Rattle.ebl_cli.specs.declared.status.Status.TheVariants.{Done, Usage, ReadFault, TooLong, BadJson, BadScript, WrongRacks, WriteFault, NoMemory}
 use Rattle.ebl_cli.specs.Output.{Output, OutputEnd, bad_line, few_rings, stopped, Wrote}
 use Rattle.ebl_cli.specs.Drive.{Drives, DrivesBehind, DrivesLines, DrivesRoster, Refuses, WritesFrom, WritesRun, end_without, first_bad, first_bad_line, needed_rings, rings_for}
-use Rattle.ebl_cli.specs.Status.{EndsAs, EndsAsLast, IsCausedBy, IsCommandEnd}
+use Rattle.ebl_cli.specs.Status.{EndsAs, IsCausedBy, IsCommandEnd}
 use Rattle.ebl_cli.proofs.RunLemmas.{may_stop}
 
 -- ---- a script may stop at once
@@ -194,19 +194,6 @@ caused_with ReadFault bad given needed enough caused = tt
 caused_with TooLong bad given needed enough caused = tt
 caused_with (BadJson fault) bad given needed enough caused = absurd caused
 
--- the bill lines are the last
-pub caused_last : (status : Status) (text : List ℕ) (bad : Option ℕ) (old new : Option (List ℕ)) → bad ≡ None
-    → EndsAsLast status text old new → IsCausedBy status bad 0 0
-caused_last Done text bad old new none last = (none, omega arith)
-caused_last WriteFault text bad old new none last = omega arith
-caused_last NoMemory text bad old new none last = tt
-caused_last Usage text bad old new none last = absurd last
-caused_last ReadFault text bad old new none last = absurd last
-caused_last TooLong text bad old new none last = absurd last
-caused_last (BadScript n) text bad old new none last = absurd last
-caused_last (WrongRacks g n) text bad old new none last = absurd last
-caused_last (BadJson fault) text bad old new none last = absurd last
-
 -- of a script with this roster
 pub caused_behind : (status : Status) (script line : List ℕ) (lines : List (List ℕ)) (roster : RosterRecord)
     (given : ℕ) → parts_of 10 script ≡ line ∷ lines → roster_in line ≡ Some roster
@@ -238,8 +225,3 @@ caused_by named command (Some script) text given status is read caused driven =
     let drive : command ≡ Drive = cc in
     subst (λ (t : List ℕ). IsCausedBy status (first_bad_line (parts_of 10 t)) given (rings_for (parts_of 10 t))) read
     (caused drive)
-
--- where nothing is said of the cause
-pub no_cause : (left : Option (List ℕ)) → IfSome left (λ (script : List ℕ). Unit {0})
-no_cause None = tt
-no_cause (Some script) = tt

@@ -25,10 +25,6 @@ pub record Reached (Rest IsOutput : Output → Type 0) (old now : Option (List �
   pub wrote : Appends old now front
   pub goes_on : (rest : Output) → Rest rest → IsOutput (after_text front rest)
 
--- at the start nothing is written
-pub reached_at_start : (IsOutput : Output → Type 0) (old : Option (List ℕ)) → Reached IsOutput IsOutput old old
-reached_at_start IsOutput old = record { front = []; wrote = Appends-nil old; goes_on = λ rest goes. goes }
-
 -- a rest that is known ends the output, once its text is written
 Wrote-rest : (Rest IsOutput : Output → Type 0) (old now later : Option (List ℕ)) (text : List ℕ) (end : OutputEnd)
     → Reached Rest IsOutput old now → Rest (record { text = text; end = end }) → Appends now later text
