@@ -1,0 +1,660 @@
+#!/usr/bin/env python3
+"""Makes the scripts over several platforms in this folder, and the lines that each must write.
+
+What an event is answered stands here beside it, by hand, as far as it matters; the whole lines are those of
+tools/model.py, which has the rules once more. Texts from outside are signed with the test signer's keys, which anybody
+can derive.
+"""
+import base64
+import json
+import os
+import sys
+
+HERE = os.path.dirname(os.path.abspath(__file__))
+sys.path.insert(0, os.path.join(os.path.dirname(HERE), "tools"))
+import model  # noqa: E402
+
+CARRIER, EXPORT, BANK, IMPORT, AGENT = "ALPH/CARRIER", "ALPH/EXPORT", "ALPH/BANK", "BETA/IMPORT", "GAMM/AGENT"
+CARRIERS = [{"code": "OCNL", "party": CARRIER, "provider": "NMFTA"}]
+ONE_PLATFORM = {"carriers": CARRIERS, "parties": [BANK, CARRIER, EXPORT], "platforms": ["ALPH"]}
+THREE_PLATFORMS = {"carriers": CARRIERS, "parties": [BANK, CARRIER, EXPORT, IMPORT, AGENT],
+                   "platforms": ["ALPH", "BETA", "GAMM"]}
+DOCUMENT = {"carrierCode": "OCNL", "carrierCodeListProvider": "NMFTA", "isToOrder": True,
+            "transportDocumentReference": "OCNL0000001", "transportDocumentTypeCode": "BOL"}
+BILL = model.bill_of(DOCUMENT)
+ABC, EMPTY = model.checksum(b"abc"), model.checksum(b"{}")
+
+
+class Script:
+    """A script under way: each event is answered by the model, which has to agree with what is said by hand."""
+
+    def __init__(self, name, roster=THREE_PLATFORMS):
+        self.name, self.world = name, model.World(model.Roster(roster))
+        self.lines, self.answers = [{"roster": roster}], []
+
+    def event(self, event, reply, sent=(), **members):
+        assert model.is_event(event), event
+        answer = json.loads(self.world.step(event))
+        said = {"reply": reply, "sent": list(sent), **members}
+        found = {**answer, **answer.get("view", {})}
+        for member, value in said.items():
+            assert found.get(member) == value, (self.name, answer, member, value)
+        self.lines.append(event)
+        self.answers.append(answer)
+        return answer
+
+    def write(self, *bills):
+        """Writes both files; bills are what the bill lines say, by hand."""
+        ends = [json.loads(line) for line in self.world.bill_lines()]
+        assert len(bills) == len(ends), self.name
+        for said, line in zip(bills, ends):
+            assert said.items() <= line.items(), (self.name, line)
+        for end, rows in ((".jsonl", self.lines), (".out", self.answers + ends)):
+            with open(os.path.join(HERE, self.name + end), "w", encoding="utf-8") as file:
+                file.write("".join(model.canon(row) + "\n" for row in rows))
+
+    # events that scripts share
+
+    def act(self, at, do, actor, recipient=None, *, number=1, now=None, answer="DONE", sent=(), **members):
+        event = {"at": at, "bill": number, "do": do, "party": actor}
+        event.update({} if recipient is None else {"recipient": recipient}, **({} if now is None else {"now": now}))
+        return self.event(event, answer, sent, **members)
+
+    def sign(self, document=DOCUMENT, party=CARRIER, answer="DONE", **members):
+        event = {"at": "ALPH", "do": "SIGN", "document": document, "now": 1000, "party": party}
+        return self.event(event, answer, **members)
+
+    def issue(self):
+        self.sign(place="HELD", state="SIGNED", holder=CARRIER, possessor=CARRIER)
+        return self.act("ALPH", "ISSUE", CARRIER, EXPORT, now=2000, state="LIVE", holder=EXPORT, possessor=EXPORT)
+
+    def endorse(self):
+        return self.act("ALPH", "ENDORSE", EXPORT, IMPORT, now=3000, holder=IMPORT, possessor=EXPORT)
+
+    def part(self):
+        """The bill is on its way to the importer's platform."""
+        return self.act("ALPH", "TRANSFER", EXPORT, IMPORT, now=4000, sent=[1], place="PARTING", entries=0,
+                        possessor=IMPORT)
+
+    def begin(self):
+        self.issue()
+        self.endorse()
+        return self.part()
+
+    def deliver(self, number, reply, sent=(), at=None, **members):
+        return self.event({"deliver": number, **({"at": at} if at else {})}, reply, sent, **members)
+
+    def move(self):
+        """The first bill is at the importer's platform, and the exporter's knows it."""
+        self.begin()
+        self.deliver(1, "RECE", [2], standing=False)
+        self.deliver(2, "DONE", place="GONE", entries=1)
+
+    def attach(self, data, name, reply="DONE", **members):
+        return self.event({"at": "ALPH", "bill": 1, "bytes": base64.b64encode(data).decode(), "do": "ATTACH",
+                           "media": "text/plain", "name": name, "party": EXPORT}, reply, **members)
+
+    def ask(self, at, named=1, **members):
+        return self.event({"ask": True, "at": at, "bill": named}, "DONE", **members)
+
+    def start(self, at, body, reply, sent=(), **members):
+        """A start from outside."""
+        text = body if isinstance(body, str) else model.canon(body)
+        return self.event({"at": at, "body": text, "foreign": "START"}, reply, sent, **members)
+
+    def hear(self, at, kind, text, reply, sent=(), bill=1, **members):
+        """A reply from outside."""
+        return self.event({"at": at, "bill": bill, "foreign": kind, "text": text}, reply, sent, **members)
+
+    def sent(self, number):
+        """The text of a message that was sent."""
+        return self.world.sent[number - 1]["data"].decode()
+
+    def entry(self, number):
+        """The name of the entry that a start brings: the checksum of its text."""
+        return model.checksum(json.loads(self.sent(number))["chain"][-1].encode())
+
+    def reference(self, number):
+        """The reference of the upload that a start begins: the bill's first byte, and the entry's without its first."""
+        return model.reference_text(BILL[:2] + self.entry(number)[2:32])
+
+
+AT_BETA = {"acts": ["BETA"], "end": "BETA", "entries": 1, "forked": False, "holder": IMPORT, "possessor": IMPORT,
+           "state": "LIVE"}
+NEW = {"acts": ["ALPH"], "end": "ALPH", "entries": 0, "forked": False}
+
+
+# ---- a bill goes from platform to platform
+
+def transfer_to_another_platform():
+    script = Script("transfer_to_another_platform")
+    script.move()
+    script.write(AT_BETA)
+
+
+def repeated_delivery():
+    script = Script("repeated_delivery")
+    script.begin()
+    script.deliver(1, "RECE", [2], standing=False)
+    script.deliver(1, "DUPE", [3], standing=False)
+    script.deliver(1, "DUPE", [4], standing=False)
+    script.write(AT_BETA)
+
+
+def restart_while_parting():
+    script = Script("restart_while_parting")
+    script.begin()
+    script.deliver(1, "RECE", [2])
+    script.event({"restart": "ALPH"}, "OPENED")
+    script.act("ALPH", "TRANSFER", EXPORT, IMPORT, now=4000, answer="NOT_HERE", place="PARTING")
+    script.event({"at": "ALPH", "bill": 1, "resend": True}, "DONE", [3], place="PARTING")
+    script.deliver(3, "DUPE", [4])
+    script.deliver(4, "DONE", place="GONE")
+    script.write(AT_BETA)
+
+
+def uploads(name, is_restarted):
+    script = Script(name)
+    script.issue()
+    script.attach(b"abc", "A")
+    script.attach(b"{}", "B")
+    script.endorse()
+    script.part()
+    reference = script.reference(1)
+    script.deliver(1, "STARTED", [2], missing=[ABC, EMPTY], reference=reference)
+    script.deliver(2, "DONE", [3, 4, 5], place="PARTING")
+    script.deliver(3, "STORED")
+    script.deliver(5, "MDOC", [6], missing=[EMPTY], standing=False)
+    script.event({"at": "BETA", "bytes": "YWJj", "checksum": EMPTY, "foreign": "PUT", "reference": reference},
+                 "INCD", [7], reason="BYTES", standing=False)
+    if is_restarted:
+        script.event({"restart": "BETA"}, "OPENED")
+    script.deliver(4, "STORED")
+    script.deliver(5, "RECE", [8], standing=False)
+    script.deliver(8, "DONE", place="GONE", entries=1)
+    script.write(AT_BETA)
+
+
+def uploaded_documents():
+    uploads("uploaded_documents", False)
+
+
+def restart_between_uploads():
+    uploads("restart_between_uploads", True)
+
+
+def unknown_receiver():
+    script = Script("unknown_receiver")
+    script.issue()
+    script.act("ALPH", "TRANSFER", EXPORT, "BETA/NOBODY", sent=[1], place="PARTING")
+    script.deliver(1, "BENV", [2], reason="PARTY", standing=True)
+    script.deliver(2, "DONE", place="HELD", possessor=EXPORT)
+    script.act("ALPH", "TRANSFER", EXPORT, AGENT, sent=[3], place="PARTING")
+    script.deliver(3, "RECE", [4])
+    script.deliver(1, "BENV", [5], reason="PARTY", standing=True)
+    script.deliver(4, "DONE", place="GONE", entries=1)
+    script.write({"acts": ["GAMM"], "end": "GAMM", "entries": 1, "holder": EXPORT, "possessor": AGENT})
+
+
+def return_before_the_answer():
+    script = Script("return_before_the_answer")
+    script.begin()
+    script.deliver(1, "RECE", [2])
+    script.act("BETA", "TRANSFER", IMPORT, EXPORT, sent=[3], place="PARTING", entries=1)
+    script.deliver(3, "RECE", [4])
+    script.deliver(2, "IGNORED", reason="NOT_PARTING")
+    script.deliver(4, "DONE", place="GONE", entries=2)
+    script.write({"acts": ["ALPH"], "end": "ALPH", "entries": 2, "holder": IMPORT, "possessor": EXPORT})
+
+
+def to_another_platform():
+    """What is delivered elsewhere than where it is for does no harm."""
+    script = Script("to_another_platform")
+    script.begin()
+    script.deliver(1, "BENV", [2], at="GAMM", reason="DESTINATION", standing=False)
+    script.deliver(2, "IGNORED", reason="SIGNATURE")
+    script.deliver(1, "RECE", [3])
+    script.deliver(3, "IGNORED", at="GAMM", reason="NOT_PARTING")
+    script.deliver(1, "BENV", [4], at="ALPH", reason="DESTINATION", standing=False)
+    script.deliver(3, "DONE", place="GONE")
+    for at, place in (("ALPH", "GONE"), ("BETA", "HELD"), ("GAMM", "ABSENT")):
+        script.ask(at, place=place)
+    script.write(AT_BETA)
+
+
+def surrender():
+    script = Script("surrender")
+    script.move()
+    script.act("BETA", "SURRENDER_FOR_DELIVERY", IMPORT, sent=[3], possessor=CARRIER, holder=IMPORT, state="ASKED")
+    script.deliver(3, "RECE", [4])
+    script.deliver(4, "DONE", place="GONE", entries=2)
+    script.act("ALPH", "SURRENDER_REFUSED", CARRIER, sent=[5], possessor=IMPORT, state="LIVE")
+    script.deliver(5, "RECE", [6])
+    script.deliver(6, "DONE", place="GONE", entries=3)
+    script.act("BETA", "SURRENDER_FOR_DELIVERY", IMPORT, sent=[7], state="ASKED")
+    script.deliver(7, "RECE", [8])
+    script.deliver(8, "DONE", place="GONE", entries=4)
+    script.act("ALPH", "SURRENDER_ACCEPTED", CARRIER, place="HELD", entries=4, state="ENDED")
+    script.act("ALPH", "ENDORSE", EXPORT, BANK, answer="NOT_ALLOWED", rule="F3")
+    script.write({"acts": [], "end": "ALPH", "entries": 4, "holder": CARRIER, "possessor": CARRIER, "state": "ENDED"})
+
+
+def two_bills_of_two_carriers():
+    """Bills are numbered as they are signed, wherever; before it is signed here a bill has a name alone."""
+    roster = dict(THREE_PLATFORMS, carriers=CARRIERS + [{"code": "BOAT", "party": IMPORT, "provider": "SMDG"}])
+    script = Script("two_bills_of_two_carriers", roster)
+    other = dict(DOCUMENT, carrierCode="BOAT", carrierCodeListProvider="SMDG")
+    name = model.bill_of(other)
+    script.ask("BETA", name, bill=name, place="ABSENT")
+    script.issue()
+    script.event({"at": "BETA", "do": "SIGN", "document": other, "party": IMPORT}, "DONE", bill=2, holder=IMPORT)
+    script.ask("BETA", name, bill=2, place="HELD")
+    script.act("BETA", "ISSUE", IMPORT, AGENT, number=2, bill=2, sent=[1], place="PARTING")
+    script.act("ALPH", "TRANSFER", EXPORT, AGENT, sent=[2], place="PARTING")
+    script.deliver(2, "RECE", [3])
+    script.deliver(1, "RECE", [4])
+    script.deliver(3, "DONE", bill=1, place="GONE")
+    script.deliver(4, "DONE", bill=2, place="GONE")
+    at_gamm = {"acts": ["GAMM"], "end": "GAMM", "entries": 1, "possessor": AGENT}
+    script.write(at_gamm, at_gamm)
+
+
+# ---- bodies from outside
+
+SIGN = {"actor": CARRIER, "kind": "SIGN", "time": 0}
+ISSUE = {"actor": CARRIER, "kind": "ISSUE", "recipient": EXPORT, "time": 0}
+
+
+def transfer(actor, recipient):
+    return {"actor": actor, "kind": "TRANSFER", "recipient": recipient, "time": 0}
+
+
+def entry_of(platform, transactions, previous=None, **changed):
+    """An entry's value; it names the text before it."""
+    entry = {"attempt": 1, "bill": BILL, "platform": platform, "transactions": transactions, **changed}
+    if previous is not None:
+        entry["previous"] = model.checksum(previous.encode())
+    return entry
+
+
+def body_of(texts, signer=None, document=None, **changed):
+    """A body of these signed entries, with a manifest of no documents by the last one's platform."""
+    manifest = {"bill": BILL, "documents": [], "last": model.checksum(texts[-1].encode()), **changed}
+    signer = signer or model.verified(texts[-1])[0]
+    return {"chain": list(texts), "document": document or DOCUMENT, "manifest": model.sign(manifest, signer)}
+
+
+FIRST = model.sign(entry_of("ALPH", [SIGN, ISSUE, transfer(EXPORT, IMPORT)]), "ALPH")
+SECOND = model.sign(entry_of("BETA", [transfer(IMPORT, EXPORT)], FIRST), "BETA")
+THIRD_ENTRY = entry_of("ALPH", [transfer(EXPORT, IMPORT)], SECOND)
+THIRD = model.sign(THIRD_ENTRY, "ALPH")
+
+
+def chain_without_its_middle():
+    script = Script("chain_without_its_middle")
+    script.start("BETA", body_of([FIRST, THIRD]), "BENV", [1], reason="LINK", index=1, standing=False)
+    forged = model.sign(THIRD_ENTRY, "ALPH", model.key_of("BETA"))
+    script.start("BETA", body_of([FIRST, SECOND, forged], "ALPH"), "BSIG", [2], reason="SIGNATURE", index=2)
+    script.start("BETA", body_of([FIRST, SECOND, THIRD]), "RECE", [3])
+    script.ask("BETA", BILL, bill=BILL, place="HELD", entries=3, possessor=IMPORT)
+    script.write()
+
+
+def parted_chains():
+    """The premise that nobody forges is broken on purpose: the test signer's keys are no secret."""
+    script = Script("parted_chains")
+    script.move()
+    held = json.loads(script.sent(1))["chain"][0]
+    forged = model.sign(entry_of("ALPH", [SIGN, ISSUE, transfer(EXPORT, BANK), transfer(BANK, IMPORT)]), "ALPH")
+    body = body_of([forged])
+    script.start("BETA", body, "DISE", [3], reason="PARTS", standing=True, own=held, theirs=forged)
+    script.start("BETA", body, "DISE", [4], reason="PARTS", standing=True, own=held, theirs=forged)
+    script.write(AT_BETA)
+
+
+def forked_chains():
+    """A forged chain that reaches a platform which doesn't know the bill is accepted there: the bill line tells."""
+    script = Script("forked_chains")
+    script.move()
+    forged = model.sign(entry_of("ALPH", [SIGN, ISSUE, transfer(EXPORT, AGENT)]), "ALPH")
+    script.start("GAMM", body_of([forged]), "RECE", [3])
+    script.write(dict(AT_BETA, acts=["BETA", "GAMM"], forked=True))
+
+
+def refused_bodies():
+    """A body for each thing that can be wrong with it, in the order in which they are looked for."""
+    script = Script("refused_bodies")
+    number = 0
+
+    def refused(body, code, reason, index=None):
+        nonlocal number
+        number += 1
+        script.start("BETA", body, code, [number], reason=reason, index=index, standing=False)
+
+    good = body_of([FIRST])
+    for body in ("", "[]", {"chain": [], "document": DOCUMENT}, dict(good, document=1), dict(good, chain=[1])):
+        refused(body, "BENV", "BODY")
+    refused(dict(good, document={}), "BENV", "DOCUMENT")
+    refused(dict(good, document=dict(DOCUMENT, transportDocumentTypeCode="SWB")), "BENV", "DOCUMENT")
+    refused(dict(good, chain=[]), "BENV", "LENGTH")
+    refused(dict(good, chain=[FIRST] * 65), "BENV", "LENGTH")
+    refused(dict(good, chain=["a.b"]), "BSIG", "SIGNATURE", 0)
+    refused(dict(good, chain=[FIRST[:-1] + "!"]), "BSIG", "SIGNATURE", 0)
+    refused(body_of([model.sign({"attempt": 0}, "ALPH")]), "BENV", "ENTRY", 0)
+    refused(body_of([model.sign(entry_of("ALPH", [SIGN]), "BETA")]), "BSIG", "SIGNER", 0)
+    refused(body_of([FIRST, THIRD]), "BENV", "LINK", 1)
+    refused(body_of([SECOND]), "BENV", "LINK", 0)
+    refused(body_of([model.sign(entry_of("ALPH", [SIGN], bill=ABC), "ALPH")]), "BENV", "BILL", 0)
+    refused(body_of([model.sign(entry_of("ALPH", [dict(SIGN, actor=EXPORT)]), "ALPH")]), "BENV", "CARRIER")
+    refused(body_of([model.sign(entry_of("BETA", [SIGN]), "BETA")]), "BENV", "PLATFORM", 0)
+    elsewhere = model.sign(entry_of("GAMM", [transfer(IMPORT, AGENT)], FIRST), "GAMM")
+    refused(body_of([FIRST, elsewhere]), "BENV", "PLATFORM", 1)
+    refused(body_of([model.sign(entry_of("ALPH", [SIGN, transfer(EXPORT, IMPORT)]), "ALPH")]), "BENV", "FOLD", 0)
+    refused(body_of([model.sign(entry_of("ALPH", [SIGN, ISSUE]), "ALPH")]), "BENV", "MOVE", 0)
+    moved = [SIGN, ISSUE, transfer(EXPORT, IMPORT), transfer(IMPORT, EXPORT)]
+    refused(body_of([model.sign(entry_of("ALPH", moved), "ALPH")]), "BENV", "MOVE", 0)
+    refused(body_of([FIRST], "BETA"), "BSIG", "MANIFEST_SIGNATURE")
+    refused(dict(good, manifest="a.b.c"), "BSIG", "MANIFEST_SIGNATURE")
+    refused(body_of([FIRST], documents={}), "BENV", "MANIFEST_FORM")
+    refused(body_of([FIRST], last=ABC), "BENV", "MANIFEST_NAMES")
+    refused(body_of([FIRST], bill=ABC), "BENV", "MANIFEST_NAMES")
+    refused(body_of([model.sign(entry_of("ALPH", [SIGN, ISSUE, transfer(EXPORT, AGENT)]), "ALPH")]),
+            "BENV", "DESTINATION")
+    script.ask("BETA", BILL, place="ABSENT")
+    script.start("BETA", good, "RECE", [number + 1])
+    script.start("BETA", dict(good, further=[]), "DUPE", [number + 2])
+    script.write()
+
+
+def ignored_replies():
+    """A reply from outside for each reason to ignore it; the reply that counts comes last."""
+    script = Script("ignored_replies")
+
+    def ignored(reason, kind, text):
+        script.hear("ALPH", kind, text, "IGNORED", reason=reason)
+
+    script.issue()
+    ignored("NOT_PARTING", "START_REPLY", "{}")
+    ignored("NOT_PARTING", "FINISH_REPLY", "")
+    script.endorse()
+    script.part()
+    ignored("FORM", "START_REPLY", "{}")
+    other = model.reference_text(model.reference_of(BILL, ABC))
+    ignored("REFERENCE", "START_REPLY", model.canon({"missing": [ABC], "reference": other}))
+    response = {"last": script.entry(1), "missing": [], "responseCode": "RECE", "standing": False}
+    for kind in ("START_REPLY", "FINISH_REPLY"):
+        ignored("SIGNATURE", kind, "")
+        ignored("SIGNATURE", kind, model.sign(response, "GAMM"))
+        ignored("SIGNATURE", kind, model.sign(response, "BETA", model.key_of("GAMM")))
+        ignored("FORM", kind, model.sign(dict(response, responseCode="NONE"), "BETA"))
+        ignored("FORM", kind, model.sign(dict(response, reason="PARTY"), "BETA"))
+        ignored("OTHER_ENTRY", kind, model.sign(dict(response, last=ABC), "BETA"))
+        ignored("PASSING", kind, model.sign(dict(response, responseCode="MDOC", missing=[ABC]), "BETA"))
+        ignored("PASSING", kind, model.sign(dict(response, responseCode="BENV", reason="BODY"), "BETA"))
+    ignored("SIGNATURE", "FINISH_REPLY", "{}")
+    script.hear("BETA", "FINISH_REPLY", model.sign(response, "BETA"), "IGNORED", reason="NOT_PARTING")
+    started = {"missing": [ABC], "reference": script.reference(1).upper()}
+    script.hear("ALPH", "START_REPLY", model.canon(started), "DONE", [2], place="PARTING")
+    script.hear("ALPH", "FINISH_REPLY", model.sign(response, "BETA"), "DONE", place="GONE", entries=1)
+    script.write({"acts": [], "end": "ALPH", "entries": 0, "forked": False})
+
+
+def foreign_uploads():
+    """Bytes from outside for an upload; the replies are for nobody, so a script says where they go."""
+    script = Script("foreign_uploads")
+    script.issue()
+    script.attach(b"abc", "A")
+    script.endorse()
+    script.part()
+    reference = script.reference(1)
+
+    def put(data, named, reply, sent=(), **members):
+        script.event({"at": "BETA", "bytes": base64.b64encode(data).decode(), "checksum": named, "foreign": "PUT",
+                      "reference": reference}, reply, sent, **members)
+
+    put(b"abc", ABC, "UNKNOWN_REFERENCE")
+    script.start("BETA", script.sent(1), "STARTED", [2], missing=[ABC], reference=reference)
+    put(b"{}", EMPTY, "INCD", [3], reason="NOT_LISTED", standing=False)
+    put(b"{}", ABC, "INCD", [4], reason="BYTES", standing=False)
+    script.event({"at": "BETA", "foreign": "FINISH", "reference": reference}, "MDOC", [5], missing=[ABC])
+    put(b"abc", ABC, "STORED")
+    put(b"abc", ABC, "STORED")
+    script.event({"at": "BETA", "foreign": "FINISH", "reference": "urn:uuid:" + reference.upper()}, "RECE", [6])
+    script.event({"at": "BETA", "foreign": "FINISH", "reference": "{%s}" % reference}, "DUPE", [7])
+    script.deliver(6, "NO_MESSAGE")
+    script.deliver(6, "DONE", at="ALPH", place="GONE")
+    script.event({"show": 6}, "SHOWN", **{"from": "BETA"}, kind="FINISH_REPLY", to=None)
+    script.write(AT_BETA)
+
+
+# ---- refusals
+
+def other_partys_platform():
+    script = Script("other_partys_platform")
+    script.sign()
+    script.act("ALPH", "ISSUE", IMPORT, EXPORT, answer="NOT_OURS")
+    script.write(NEW)
+
+
+def no_bill_before_not_ours():
+    script = Script("no_bill_before_not_ours")
+    script.act("ALPH", "TRANSFER", IMPORT, EXPORT, answer="NO_BILL")
+    script.write()
+
+
+def not_the_carrier():
+    script = Script("not_the_carrier")
+    script.sign(party=EXPORT, answer="NOT_CARRIER")
+    script.sign(dict(DOCUMENT, carrierCode="OCNM"), answer="NOT_CARRIER")
+    script.sign(dict(DOCUMENT, carrierCodeListProvider="SMDG"), answer="NOT_CARRIER")
+    script.write()
+
+
+def documents_of_no_bill():
+    """A document for each fault; the first member that is wrong is told."""
+    script = Script("documents_of_no_bill")
+    wrong = {"transportDocumentReference": ("", "123456789012345678901", 1), "carrierCode": ("", "OCNLL", "ocnl", None),
+             "carrierCodeListProvider": ("SCAC", 1), "transportDocumentTypeCode": ("AWB", 1),
+             "isToOrder": ("true", 0, None)}
+    for document in (1, None, [], "BOL"):
+        script.sign(document, answer="DOCUMENT", fault="FORM", field="transportDocumentReference")
+    for field, values in wrong.items():
+        without = {name: it for name, it in DOCUMENT.items() if name != field}
+        for document in [without] + [dict(DOCUMENT, **{field: value}) for value in values]:
+            script.sign(document, answer="DOCUMENT", fault="FORM", field=field)
+    script.sign(dict(DOCUMENT, transportDocumentTypeCode="SWB"), answer="DOCUMENT", fault="NOT_TITLE")
+    script.sign({name: it for name, it in DOCUMENT.items() if name not in ("carrierCode", "isToOrder")},
+                answer="DOCUMENT", fault="FORM", field="carrierCode")
+    script.sign(dict(DOCUMENT, transportDocumentReference="\U0001f6a2" * 20), bill=1, place="HELD")
+    script.write(NEW)
+
+
+def nobody_here():
+    script = Script("nobody_here")
+    script.issue()
+    script.act("ALPH", "TRANSFER", EXPORT, "ALPH/NOBODY", answer="NO_PARTY", party="ALPH/NOBODY")
+    script.act("ALPH", "TRANSFER", EXPORT, "OMEG/NOBODY", answer="NO_PARTY", party="OMEG/NOBODY")
+    script.act("ALPH", "SURRENDER_FOR_DELIVERY", EXPORT, "OMEG/NOBODY", answer="NO_PARTY", party="OMEG/NOBODY")
+    script.write(NEW)
+
+
+def rules_of_titles():
+    """A refusal by each rule that a script meets."""
+    script = Script("rules_of_titles")
+
+    def refused(rule, kind, party, recipient=None):
+        script.act("ALPH", kind, party, recipient, answer="NOT_ALLOWED", rule=rule)
+
+    script.sign()
+    refused("F4", "TRANSFER", CARRIER, EXPORT)
+    refused("F5", "ISSUE", CARRIER)
+    refused("F6", "ISSUE", EXPORT, EXPORT)
+    script.event({"at": "ALPH", "bill": 1, "do": "ISSUE", "party": CARRIER, "recipient": EXPORT}, "DONE")
+    refused("F4", "ISSUE", CARRIER, EXPORT)
+    refused("F5", "SURRENDER_FOR_DELIVERY", EXPORT, CARRIER)
+    refused("F7", "TRANSFER", BANK, EXPORT)
+    refused("F7", "ENDORSE", CARRIER, BANK)
+    refused("F9", "TRANSFER", EXPORT, EXPORT)
+    script.act("ALPH", "ENDORSE", EXPORT, BANK, holder=BANK)
+    refused("F8", "ENDORSE", EXPORT, BANK)
+    refused("F8", "SURRENDER_FOR_AMENDMENT", EXPORT)
+    script.act("ALPH", "TRANSFER", EXPORT, BANK, possessor=BANK)
+    refused("F9", "ENDORSE", BANK, BANK)
+    refused("F4", "SURRENDER_ACCEPTED", CARRIER)
+    script.act("ALPH", "SURRENDER_FOR_AMENDMENT", BANK, state="ASKED", holder=BANK, possessor=CARRIER)
+    refused("F4", "TRANSFER", BANK, EXPORT)
+    refused("F6", "SURRENDER_ACCEPTED", BANK)
+    script.act("ALPH", "SURRENDER_REFUSED", CARRIER, state="LIVE", holder=BANK, possessor=BANK)
+    script.act("ALPH", "SURRENDER_FOR_AMENDMENT", BANK, state="ASKED")
+    script.act("ALPH", "SURRENDER_ACCEPTED", CARRIER, state="ENDED", holder=CARRIER, possessor=CARRIER)
+    refused("F3", "ISSUE", CARRIER, EXPORT)
+    script.attach(b"abc", "A", "NOT_ALLOWED", rule="F3")
+    script.write({"acts": [], "end": "ALPH", "entries": 0, "state": "ENDED"})
+
+
+def no_message():
+    script = Script("no_message")
+    script.deliver(9, "NO_MESSAGE")
+    script.event({"show": 1}, "NO_MESSAGE")
+    script.deliver(model.MOST_NUMBER, "NO_MESSAGE", at="BETA")
+    script.write()
+
+
+def unknown_reference():
+    script = Script("unknown_reference")
+    script.event({"at": "BETA", "foreign": "FINISH", "reference": "447816bf-8f01-cfea-4141-40de5dae2223"},
+                 "UNKNOWN_REFERENCE")
+    script.write()
+
+
+# ---- attachments and limits
+
+def attached_twice():
+    script = Script("attached_twice")
+    script.issue()
+    script.attach(b"abc", "A")
+    script.attach(b"abc", "B")
+    script.endorse()
+    script.part()
+    script.deliver(1, "STARTED", [2], missing=[ABC])
+    script.write(dict(NEW, acts=[]))
+
+
+def documents_limit():
+    script = Script("documents_limit")
+    script.issue()
+    for at in range(16):
+        script.attach(b"%d" % at, "document %d" % at)
+    script.attach(b"16", "document 16", "LIMIT", which="DOCUMENTS")
+    script.attach(b"0", "document 0 again")
+    script.event({"at": "ALPH", "bill": 1, "bytes": "YWJj", "do": "ATTACH", "media": "text/plain", "name": "A",
+                  "party": BANK}, "NOT_ALLOWED", rule="F7")
+    script.endorse()
+    script.part()
+    missing = [model.checksum(b"%d" % at) for at in range(16)]
+    script.deliver(1, "STARTED", [2], missing=missing)
+    script.deliver(2, "DONE", list(range(3, 20)))
+    for at in range(16):
+        script.deliver(3 + at, "STORED")
+    script.deliver(19, "RECE", [20])
+    script.write(AT_BETA)
+
+
+def transactions_limit():
+    """After 31 transactions that stay only a move is left; a surrender that stays needs a further place."""
+    script = Script("transactions_limit")
+    script.issue()
+    holders = [EXPORT, BANK]
+    for at in range(29):
+        script.act("ALPH", "TRANSFER", holders[at % 2], holders[1 - at % 2], possessor=holders[1 - at % 2])
+    script.act("ALPH", "TRANSFER", BANK, EXPORT, answer="LIMIT", which="TRANSACTIONS")
+    script.act("ALPH", "TRANSFER", BANK, IMPORT, sent=[1], place="PARTING")
+    script.deliver(1, "RECE", [2])
+    script.write({"acts": ["BETA"], "end": "BETA", "entries": 1, "holder": EXPORT, "possessor": IMPORT})
+
+
+def entries_limit():
+    """A chain of 64 entries is received, and goes nowhere else."""
+    script = Script("entries_limit")
+    script.issue()
+    here, there = ("ALPH", EXPORT), ("BETA", IMPORT)
+    for at in range(64):
+        script.act(here[0], "TRANSFER", here[1], there[1], sent=[2 * at + 1], entries=at)
+        script.deliver(2 * at + 1, "RECE", [2 * at + 2])
+        script.deliver(2 * at + 2, "DONE", place="GONE", entries=at + 1)
+        here, there = there, here
+    script.act("ALPH", "TRANSFER", EXPORT, IMPORT, answer="LIMIT", which="ENTRIES")
+    script.act("ALPH", "TRANSFER", EXPORT, BANK, place="HELD", entries=64)
+    script.write({"acts": ["ALPH"], "end": "ALPH", "entries": 64, "holder": EXPORT, "possessor": BANK})
+
+
+# ---- one of each reply
+
+def every_reply():
+    script = Script("every_reply")
+    script.deliver(1, "NO_MESSAGE")
+    script.ask("BETA", BILL, bill=BILL, place="ABSENT")
+    script.act("ALPH", "ISSUE", CARRIER, EXPORT, answer="NO_BILL")
+    script.sign({}, answer="DOCUMENT", fault="FORM")
+    script.sign(party=EXPORT, answer="NOT_CARRIER")
+    script.issue()
+    script.sign(answer="KNOWN_BILL")
+    script.act("ALPH", "TRANSFER", IMPORT, EXPORT, answer="NOT_OURS")
+    script.act("ALPH", "TRANSFER", EXPORT, "ALPH/NOBODY", answer="NO_PARTY")
+    script.act("ALPH", "TRANSFER", CARRIER, EXPORT, answer="NOT_ALLOWED", rule="F7")
+    script.event({"at": "ALPH", "bill": 1, "resend": True}, "NOT_PARTING", place="HELD")
+    script.attach(b"abc", "A")
+    for at in range(15):
+        script.attach(b"%d" % at, "document %d" % at)
+    script.attach(b"15", "document 15", "LIMIT", which="DOCUMENTS")
+    script.endorse()
+    script.part()
+    script.act("ALPH", "TRANSFER", EXPORT, IMPORT, answer="NOT_HERE", place="PARTING")
+    script.start("BETA", "", "BENV", [2], reason="BODY")
+    forged = dict(json.loads(script.sent(1)), chain=["a.b.c"])
+    script.start("BETA", forged, "BSIG", [3], reason="SIGNATURE", index=0)
+    reference = script.reference(1)
+    script.event({"at": "BETA", "foreign": "FINISH", "reference": reference}, "UNKNOWN_REFERENCE")
+    script.deliver(1, "STARTED", [4])
+    script.deliver(4, "DONE", list(range(5, 22)))
+    script.deliver(21, "MDOC", [22])
+    script.deliver(5, "STORED")
+    script.event({"at": "BETA", "bytes": "", "checksum": EMPTY, "foreign": "PUT", "reference": reference},
+                 "INCD", [23], reason="NOT_LISTED")
+    for number in range(6, 21):
+        script.deliver(number, "STORED")
+    script.event({"restart": "BETA"}, "OPENED")
+    script.deliver(21, "RECE", [24])
+    script.deliver(21, "DUPE", [25])
+    script.event({"show": 21}, "SHOWN", **{"from": "ALPH"}, to="BETA", kind="FINISH", bytes="")
+    script.deliver(22, "IGNORED", reason="PASSING")
+    script.deliver(24, "DONE", place="GONE")
+    forged = model.sign(entry_of("ALPH", [SIGN, ISSUE, transfer(EXPORT, IMPORT)]), "ALPH")
+    script.start("BETA", body_of([forged]), "DISE", [26], reason="PARTS", standing=True)
+    script.write(AT_BETA)
+
+
+def bad_line():
+    """Its third line names a platform that the roster doesn't list."""
+    lines = [{"roster": ONE_PLATFORM}, {"at": "ALPH", "do": "SIGN", "document": DOCUMENT, "now": 1000, "party": CARRIER},
+             {"at": "BETA", "bill": 1, "do": "ISSUE", "now": 2000, "party": CARRIER, "recipient": EXPORT}]
+    script = "".join(model.canon(line) + "\n" for line in lines)
+    answers, bad = model.run(script.encode())
+    assert bad == 3 and len(answers) == 1
+    for end, text in ((".jsonl", script), (".out", answers[0] + "\n")):
+        with open(os.path.join(HERE, "bad_line" + end), "w", encoding="utf-8") as file:
+            file.write(text)
+
+
+def main():
+    for make in (transfer_to_another_platform, repeated_delivery, restart_while_parting, uploaded_documents,
+                 restart_between_uploads, unknown_receiver, return_before_the_answer, to_another_platform, surrender,
+                 two_bills_of_two_carriers, chain_without_its_middle, parted_chains, forked_chains, refused_bodies,
+                 ignored_replies, foreign_uploads, other_partys_platform, no_bill_before_not_ours, not_the_carrier,
+                 documents_of_no_bill, nobody_here, rules_of_titles, no_message, unknown_reference, attached_twice,
+                 documents_limit, transactions_limit, entries_limit, every_reply, bad_line):
+        make()
+
+
+if __name__ == "__main__":
+    main()
