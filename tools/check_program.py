@@ -1,20 +1,29 @@
 #!/usr/bin/env python3
-"""Runs the built program on each script of examples/ and tries each of its exits.
+"""Runs the built program on each script of examples/, on each good and bad line of bad_lines.py, on attachments and
+documents at their limits, and tries each of its exits.
+
+    tools/check_program.py [PROGRAM]   another program instead of the proved one
 
 Its last line is 'N passed, M failed', and it ends with status 1 where something failed.
 """
+import base64
+import concurrent.futures
+import json
 import os
 import subprocess
 import sys
 
+import bad_lines
+import model
 from program import PROGRAM, TOP, is_built
 
 EXAMPLES = os.path.join(TOP, "examples")
 
 USAGE = "ebl: usage\nebl: the words are in ebl --help\n"
+BAD_LINE = "ebl: line %d is not a script line\n"
 
 # An exit for each script of examples/ that doesn't end by 0, and its line on standard error.
-ENDS = {"bad_line": (3, "ebl: line 3 is not a script line\n")}
+ENDS = {"bad_line": (3, BAD_LINE % 3)}
 
 
 def run(words, given=b"", out=subprocess.PIPE):
@@ -42,13 +51,16 @@ def exits():
     yield "an unknown word", run(["driven"]) == (2, b"", USAGE)
     yield "a word too many", run(["drive", "drive"]) == (2, b"", USAGE)
     yield "a word that is no text", run([b"\xff"]) == (2, b"", USAGE)
-    yield "an empty script", run(["drive"]) == (3, b"", "ebl: line 1 is not a script line\n")
-    yield "a roster alone", run(["drive"], read("first_run.jsonl").split(b"\n")[0]) == (0, b"", "")
+    yield "an empty script", run(["drive"]) == (3, b"", BAD_LINE % 1)
+    roster = read("first_run.jsonl").split(b"\n")[0]
+    yield "a roster alone", run(["drive"], roster) == (0, b"", "")
+    yield "a second line feed at the end", run(["drive"], roster + b"\n\n") == (3, b"", BAD_LINE % 2)
     yield "100,001 lines", lines_too_many()
     yield "67,108,865 bytes", run(["drive"], b" " * 67_108_865) == (4, b"", "ebl: the input is too long\n")
     empty = b"{}\n44136fa355b3678a1146ad16f7e8649e94fb4fc21fe77e8310c060f61caaff8a\n"
     yield "canon", run(["canon"], b"{}") == (0, empty, "")
-    for text, why in ((b"{", "NOT_JSON"), (b"{\"a\":1e3,\"\\u0061\":2}", "REPEATED"), (b"24000.5e0", "FRACTION"), (b"9007199254740992", "RANGE")):
+    for text, why in ((b"{", "NOT_JSON"), (b"{\"a\":1e3,\"\\u0061\":2}", "REPEATED"), (b"24000.5e0", "FRACTION"),
+                      (b"9007199254740992", "RANGE")):
         yield "canon of " + text.decode(), run(["canon"], text) == (5, b"", "ebl: JSON is refused: %s\n" % why)
     yield "a source that fails", source_fails()
     yield "a sink that fails", sink_fails()
@@ -62,7 +74,7 @@ def lines_too_many():
     lines = read("first_run.jsonl").split(b"\n")
     script = lines[0] + b"\n" + (lines[4] + b"\n") * 100_000
     code, out, err = run(["drive"], script)
-    return (code, err) == (3, "ebl: line 100001 is not a script line\n") and out.count(b"\n") == 99_999
+    return (code, err) == (3, BAD_LINE % 100_001) and out.count(b"\n") == 99_999
 
 
 def source_fails():
@@ -78,14 +90,97 @@ def sink_fails():
     return (code, err) == (11, "ebl: write fault\n")
 
 
+# ---- lines
+
+def is_told(script, number):
+    """Whether a script ends at its line of this number, with nothing more written than the answers before it."""
+    code, out, err = run(["drive"], b"\n".join(script))
+    return (code, err) == (3, BAD_LINE % number) and out.count(b"\n") == max(0, number - 2)
+
+
+def refused_lines():
+    """(what, a script, the number of its bad line) of each line that is none."""
+    roster = next(bad_lines.roster_rows())[1]
+    good = b'{"show":1}'
+    for what, line, is_good in bad_lines.later_rows():
+        if not is_good:
+            yield what, [roster, good, line, good], 3
+    for what, line, is_good in bad_lines.roster_rows():
+        if not is_good:
+            yield what, [line, good], 1
+
+
+def good_lines():
+    """(what, a script, how many events it has) of all lines that are good."""
+    roster = next(bad_lines.roster_rows())[1]
+    events = [line for _, line, is_good in bad_lines.later_rows() if is_good]
+    yield "all good lines", [roster, *events], len(events)
+    for what, line, is_good in bad_lines.roster_rows():
+        if is_good:
+            yield what, [line, b'{"show":1}'], 1
+
+
+def lines():
+    for what, script, events in good_lines():
+        code, out, err = run(["drive"], b"\n".join(script))
+        told = [json.loads(row) for row in out.splitlines()]
+        yield what, (code, err) == (0, "") and [row["event"] for row in told if "event" in row] == list(
+            range(1, events + 1)) and out == model.text_of(b"\n".join(script))
+    rows = list(refused_lines())
+    with concurrent.futures.ThreadPoolExecutor(len(os.sched_getaffinity(0))) as pool:
+        for (what, _, _), holds in zip(rows, pool.map(lambda row: is_told(*row[1:]), rows)):
+            yield "a bad line: " + what, holds
+
+
+# ---- limits of what is large
+
+def limits():
+    """(what, the run is as it should be) of scripts that are too large to be stored."""
+    most = base64.b64encode(bytes(model.MOST_BYTES)).decode()
+    other = base64.b64encode(b"1" + bytes(model.MOST_BYTES - 1)).decode()
+    for what, files, wanted in (
+            ("a document of 2,097,153 bytes", [base64.b64encode(bytes(model.MOST_BYTES + 1)).decode()],
+             "LIMIT DOCUMENT_SIZE"),
+            ("documents of 4,194,304 bytes together, twice", [most, other, most, ""], "DONE"),
+            ("documents of 4,194,305 bytes together", [most, other, "MQ=="], "LIMIT DOCUMENT_BYTES")):
+        yield what, last_answer([attached(at, file) for at, file in enumerate(files)]) == wanted
+    for length, wanted in ((model.MOST_DOCUMENT, "DONE"), (model.MOST_DOCUMENT + 1, "DOCUMENT TOO_LARGE")):
+        yield "a bill of %d bytes" % length, last_answer([signed(length)]) == wanted
+
+
+def attached(at, data):
+    return {"at": "ALPH", "bill": 1, "bytes": data, "do": "ATTACH", "media": "text/plain", "name": "file %d" % at,
+            "party": "ALPH/EXPORT"}
+
+
+def signed(length):
+    """A SIGN of a document whose canonical text has this many bytes."""
+    document = json.loads(read("known_bill.jsonl").split(b"\n")[1])["document"]
+    document["further"] = "x" * (length - len(model.canon(dict(document, further=""))))
+    return {"at": "ALPH", "do": "SIGN", "document": document, "party": "ALPH/CARRIER"}
+
+
+def last_answer(events):
+    """The last answer's words to these events behind a bill that was issued."""
+    script = read("first_run.jsonl").split(b"\n")[:3] + [json.dumps(event).encode() for event in events]
+    code, out, _ = run(["drive"], b"\n".join(script))
+    row = [row for row in map(json.loads, out.splitlines()) if "event" in row][-1]
+    words = [row["reply"], *(row[name] for name in ("which", "fault") if name in row)]
+    return " ".join(words) if code == 0 else "exit %d" % code
+
+
 def main():
-    if not is_built():
+    global PROGRAM
+    if len(sys.argv) == 2:
+        PROGRAM = sys.argv[1]
+    elif not is_built():
         sys.exit("no proved program of these sources: run make program first")
     passed = failed = 0
-    for what, holds in [*examples(), *exits()]:
-        passed, failed = passed + bool(holds), failed + (not holds)
-        if not holds:
-            print("failed: " + what)
+    for rows in (examples(), limits(), lines(), exits()):
+        for what, holds in rows:
+            passed, failed = passed + bool(holds), failed + (not holds)
+            if not holds:
+                print("failed: " + what, flush=True)
     print("%d passed, %d failed" % (passed, failed))
     sys.exit(1 if failed else 0)
 
