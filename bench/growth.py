@@ -17,6 +17,10 @@ SIZES = (1_000, 10_000, 100_000)
 ROSTER = {"roster": {"platforms": ["ALPH"], "parties": ["ALPH/BANK", "ALPH/CARRIER", "ALPH/EXPORT"],
                      "carriers": [{"provider": "NMFTA", "code": "OCNL", "party": "ALPH/CARRIER"}]}}
 
+HOLDERS = ["ALPH/EXPORT", "ALPH/BANK"]
+# With the SIGN and the ISSUE these are all the transactions that a bill may have on one platform.
+TRANSFERS = 29
+
 
 def sign(number):
     document = {"carrierCode": "OCNL", "carrierCodeListProvider": "NMFTA", "isToOrder": True,
@@ -24,8 +28,8 @@ def sign(number):
     return {"at": "ALPH", "do": "SIGN", "document": document, "now": number, "party": "ALPH/CARRIER"}
 
 
-def act(deed, party, recipient):
-    return {"at": "ALPH", "bill": 1, "do": deed, "party": party, "recipient": recipient}
+def act(bill, deed, party, recipient):
+    return {"at": "ALPH", "bill": bill, "do": deed, "party": party, "recipient": recipient}
 
 
 def signs(lines):
@@ -34,10 +38,13 @@ def signs(lines):
 
 
 def transfers(lines):
-    """One bill goes to and fro."""
-    holders = ["ALPH/EXPORT", "ALPH/BANK"]
-    moves = [act("TRANSFER", holders[k % 2], holders[(k + 1) % 2]) for k in range(lines - 3)]
-    return [ROSTER, sign(1), act("ISSUE", "ALPH/CARRIER", "ALPH/EXPORT")] + moves
+    """Each bill goes to and fro as often as the limit on its transactions allows."""
+    events, bill = [], 0
+    while len(events) < lines - 1:
+        bill += 1
+        events += [sign(bill), act(bill, "ISSUE", "ALPH/CARRIER", "ALPH/EXPORT")]
+        events += [act(bill, "TRANSFER", HOLDERS[k % 2], HOLDERS[(k + 1) % 2]) for k in range(TRANSFERS)]
+    return [ROSTER] + events[:lines - 1]
 
 
 def text(lines):
