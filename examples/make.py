@@ -312,6 +312,29 @@ def parted_chains():
     script.write(AT_BETA)
 
 
+def texts_of_disputes():
+    """The texts of a dispute where one chain is a part of the other, where the own one is empty, and while parting."""
+    script = Script("texts_of_disputes")
+
+    def disputed(number, at, texts, **parts):
+        absent = {name: None for name in ("own", "theirs") if name not in parts}
+        script.start(at, body_of(texts), "DISE", [number], reason="PARTS", standing=True, **parts, **absent)
+
+    script.issue()
+    disputed(1, "ALPH", [FIRST, SECOND], theirs=FIRST)
+    script.start("BETA", body_of([FIRST, SECOND, THIRD]), "RECE", [2])
+    disputed(3, "BETA", [FIRST], own=SECOND, theirs=FIRST)
+    fourth = model.sign(entry_of("BETA", [transfer(IMPORT, AGENT)], THIRD), "BETA")
+    fifth = model.sign(entry_of("GAMM", [transfer(AGENT, IMPORT)], fourth), "GAMM")
+    disputed(4, "BETA", [FIRST, SECOND, THIRD, fourth, fifth], own=THIRD, theirs=fourth)
+    script.act("BETA", "TRANSFER", IMPORT, AGENT, sent=[5], place="PARTING", entries=3)
+    parting = json.loads(script.sent(5))["chain"][3]
+    other = model.sign(entry_of("BETA", [transfer(IMPORT, EXPORT)], THIRD), "BETA")
+    back = model.sign(entry_of("ALPH", [transfer(EXPORT, IMPORT)], other), "ALPH")
+    disputed(6, "BETA", [FIRST, SECOND, THIRD, other, back], own=parting, theirs=other)
+    script.write({"acts": ["ALPH"], "end": "BETA", "entries": 3, "forked": False})
+
+
 def forked_chains():
     """A forged chain that reaches a platform which doesn't know the bill is accepted there: the bill line tells."""
     script = Script("forked_chains")
@@ -427,6 +450,27 @@ def foreign_uploads():
     script.write(AT_BETA)
 
 
+def asked_documents():
+    """Documents are sent in the manifest's order, each once, whatever the order in which they are asked for."""
+    script = Script("asked_documents")
+    script.issue()
+    for data in (b"abc", b"{}", b"1"):
+        script.attach(data, "A")
+    script.endorse()
+    script.part()
+    one = model.checksum(b"1")
+    asked = {"further": 1, "missing": [one, model.checksum(b"2"), ABC, one], "reference": script.reference(1)}
+    script.hear("ALPH", "START_REPLY", " " + model.canon(asked), "IGNORED", reason="SIGNATURE")
+    script.hear("ALPH", "START_REPLY", model.canon(dict(asked, missing=[])), "IGNORED", reason="FORM")
+    script.hear("ALPH", "START_REPLY", model.canon(dict(asked, missing=[ABC] * 17)), "IGNORED", reason="FORM")
+    script.hear("ALPH", "START_REPLY", model.canon(asked), "DONE", [2, 3, 4], place="PARTING")
+    for number, data in ((2, b"abc"), (3, b"1")):
+        script.event({"show": number}, "SHOWN", **{"from": "ALPH"}, to="BETA", kind="PUT",
+                     bytes=base64.b64encode(data).decode())
+    script.event({"show": 4}, "SHOWN", **{"from": "ALPH"}, to="BETA", kind="FINISH", bytes="")
+    script.write(dict(NEW, acts=[]))
+
+
 # ---- refusals
 
 def other_partys_platform():
@@ -476,6 +520,19 @@ def nobody_here():
     script.act("ALPH", "TRANSFER", EXPORT, "OMEG/NOBODY", answer="NO_PARTY", party="OMEG/NOBODY")
     script.act("ALPH", "SURRENDER_FOR_DELIVERY", EXPORT, "OMEG/NOBODY", answer="NO_PARTY", party="OMEG/NOBODY")
     script.write(NEW)
+
+
+def asker_of_no_platform():
+    """Who asked for a surrender is on a platform that the roster doesn't list, so it can't be refused."""
+    script = Script("asker_of_no_platform")
+    asker = "OMEG/ASKER"
+    first = model.sign(entry_of("ALPH", [SIGN, dict(ISSUE, recipient=asker)]), "ALPH")
+    surrender = {"actor": asker, "kind": "SURRENDER_FOR_DELIVERY", "time": 0}
+    second = model.sign(entry_of("OMEG", [surrender], first), "OMEG")
+    script.start("ALPH", body_of([first, second]), "RECE", [1])
+    script.act("ALPH", "SURRENDER_REFUSED", CARRIER, number=BILL, answer="NO_PARTY", party=asker)
+    script.act("ALPH", "SURRENDER_ACCEPTED", CARRIER, number=BILL, place="HELD", state="ENDED", entries=2)
+    script.write()
 
 
 def rules_of_titles():
@@ -636,7 +693,8 @@ def every_reply():
 
 def bad_line():
     """Its third line names a platform that the roster doesn't list."""
-    lines = [{"roster": ONE_PLATFORM}, {"at": "ALPH", "do": "SIGN", "document": DOCUMENT, "now": 1000, "party": CARRIER},
+    lines = [{"roster": ONE_PLATFORM},
+             {"at": "ALPH", "do": "SIGN", "document": DOCUMENT, "now": 1000, "party": CARRIER},
              {"at": "BETA", "bill": 1, "do": "ISSUE", "now": 2000, "party": CARRIER, "recipient": EXPORT}]
     script = "".join(model.canon(line) + "\n" for line in lines)
     answers, bad = model.run(script.encode())
@@ -649,10 +707,11 @@ def bad_line():
 def main():
     for make in (transfer_to_another_platform, repeated_delivery, restart_while_parting, uploaded_documents,
                  restart_between_uploads, unknown_receiver, return_before_the_answer, to_another_platform, surrender,
-                 two_bills_of_two_carriers, chain_without_its_middle, parted_chains, forked_chains, refused_bodies,
-                 ignored_replies, foreign_uploads, other_partys_platform, no_bill_before_not_ours, not_the_carrier,
-                 documents_of_no_bill, nobody_here, rules_of_titles, no_message, unknown_reference, attached_twice,
-                 documents_limit, transactions_limit, entries_limit, every_reply, bad_line):
+                 two_bills_of_two_carriers, chain_without_its_middle, parted_chains, texts_of_disputes, forked_chains,
+                 refused_bodies, ignored_replies, foreign_uploads, asked_documents, other_partys_platform,
+                 no_bill_before_not_ours, not_the_carrier, documents_of_no_bill, nobody_here, asker_of_no_platform,
+                 rules_of_titles, no_message, unknown_reference, attached_twice, documents_limit, transactions_limit,
+                 entries_limit, every_reply, bad_line):
         make()
 
 
