@@ -148,6 +148,34 @@ def limits():
         yield "a bill of %d bytes" % length, last_answer([signed(length)]) == wanted
 
 
+    for what, script in long_texts():
+        yield what, run(["drive"], script) == (0, model.text_of(script), "")
+
+
+def long_texts():
+    """(what, a script) of signed texts at the limits of their lengths: entries in a start, and answers to one."""
+    lines = read("transfer_to_another_platform.jsonl").split(b"\n")[:5]
+    world = model.World(model.roster_in(lines[0]))
+    for line in lines[1:]:
+        world.step(json.loads(line))
+    body = json.loads(world.sent[0]["data"])
+    name = model.checksum(body["chain"][0].encode())
+    for text in around(model.verified(body["chain"][0])[1], "ALPH", model.MOST_TEXT):
+        start = {"at": "BETA", "body": json.dumps(dict(body, chain=[text])), "foreign": "START"}
+        yield "an entry's text of %d bytes" % len(text), b"\n".join([lines[0], json.dumps(start).encode()])
+    answer = {"last": name, "missing": [], "responseCode": "RECE", "standing": False}
+    for text in around(answer, "BETA", model.MOST_RESPONSE):
+        reply = {"at": "ALPH", "bill": 1, "foreign": "FINISH_REPLY", "text": text}
+        yield "an answer's text of %d bytes" % len(text), b"\n".join([*lines, json.dumps(reply).encode()])
+
+
+def around(payload, platform, most):
+    """The longest signed text within a length and the shortest past it: a further member makes the payload long."""
+    more = (most - len(model.sign(dict(payload, further=""), platform))) * 3 // 4
+    texts = [model.sign(dict(payload, further="x" * at), platform) for at in range(more - 4, more + 5)]
+    return [text for text in texts if len(text) <= most][-1], [text for text in texts if len(text) > most][0]
+
+
 def attached(at, data):
     return {"at": "ALPH", "bill": 1, "bytes": data, "do": "ATTACH", "media": "text/plain", "name": "file %d" % at,
             "party": "ALPH/EXPORT"}

@@ -552,7 +552,9 @@ def _is_foreign(value):
                 and bytes_in(value.get("bytes")) is not None)
     if kind == "FINISH":
         return reference_in(value.get("reference")) is not None
-    return kind in ("START_REPLY", "FINISH_REPLY") and _is_bill(value.get("bill")) and isinstance(value.get("text"), str)
+    if kind not in ("START_REPLY", "FINISH_REPLY"):
+        return False
+    return _is_bill(value.get("bill")) and isinstance(value.get("text"), str)
 
 
 # The members that say which event an object is: the first of them that it has.

@@ -34,7 +34,8 @@ CARRIERS = [{"provider": "NMFTA", "code": "OCNL", "party": "ALPH/ONE"},
 ROSTER = {"roster": {"platforms": PLATFORMS, "parties": PARTIES, "carriers": CARRIERS}}
 FILES = [b"abc", b"{}", b"", b"packing list"]
 # Further members of a document: they are unread, but part of the bill's name.
-FURTHER = [{}, {}, {"grossWeight": 24000.5, "\u20ac": None}, {"\ufb33": -0.5, "\U0001f600": ["\u007f\n\"", {"b": 0, "a": True}]}]
+FURTHER = [{}, {}, {"grossWeight": 24000.5, "\u20ac": None},
+           {"\ufb33": -0.5, "\U0001f600": ["\u007f\n\"", {"b": 0, "a": True}]}]
 
 
 def line_of(value):
