@@ -1,5 +1,5 @@
--- Replies to a transfer that is under way from here: they ask for documents, settle it, regain the bill, or are ignored,
--- by the first that applies.
+-- Replies to a transfer that is under way from here: they ask for documents, settle it, regain the bill, or are
+-- ignored, by the first that applies.
 use Rattle.std.specs.Prelude.{◌≡◌, ◌≢◌, ◌⊎◌, ◌==◌, ℕ, List, [], ◌∷◌, Bool, true, false, Option, Some, None, Result, Ok, Err, if◌then◌else◌}
 use Rattle.ebl_base.specs.Checksum.{checksum_eq}
 use Rattle.ebl_base.specs.declared.checksum.Checksum.{Checksum}

@@ -1,16 +1,16 @@
 -- One platform as a machine: what each request comes to, by its shard's diary. Only the
 -- signatures of texts that are made are free.
 --
--- | Request      | Frame                                                       | Reply and messages                       |
--- |--------------|-------------------------------------------------------------|------------------------------------------|
--- | Command      | by the plan: none, one record, or Parted                    | a refusal; or Done, after Parted a Start |
--- | Start        | none; Declined; Begun; Begun and Taken; no Begun twice      | Started, or a signed answer              |
--- | Put          | Stored, unless the bytes are there                          | UnknownReference, INCD, Stored           |
--- | Finish       | as a Start on the last Begun, without a Begun               | UnknownReference, or a signed answer     |
--- | StartReply   | none where it asks for documents; else as a FinishReply     | Ignored; or Done, with Puts and a Finish |
--- | FinishReply  | Settled; Regained; or none                                  | Ignored; or Done                         |
--- | Resend       | none                                                        | NotParting; or Done, with the Start      |
--- | Ask          | none                                                        | Done                                     |
+-- | Request      | Frame                                                   | Reply and messages                       |
+-- |--------------|---------------------------------------------------------|------------------------------------------|
+-- | Command      | by the plan: none, one record, or Parted                | a refusal; or Done, after Parted a Start |
+-- | Start        | none; Declined; Begun; Begun and Taken; no Begun twice  | Started, or a signed answer              |
+-- | Put          | Stored, unless the bytes are there                      | UnknownReference, INCD, Stored           |
+-- | Finish       | as a Start on the last Begun, without a Begun           | UnknownReference, or a signed answer     |
+-- | StartReply   | none where it asks for documents; else as a FinishReply | Ignored; or Done, with Puts and a Finish |
+-- | FinishReply  | Settled; Regained; or none                              | Ignored; or Done                         |
+-- | Resend       | none                                                    | NotParting; or Done, with the Start      |
+-- | Ask          | none                                                    | Done                                     |
 use Rattle.std.specs.Prelude.{◌⊎◌, List, [], None}
 use Rattle.ebl_base.specs.declared.checksum.Checksum.{Checksum}
 use Rattle.ebl_base.specs.declared.moment.Moment.{Moment}

@@ -1,5 +1,5 @@
--- What a body shows before any diary is looked at, or the first thing that is wrong with it: its form, the document, the
--- chain, the manifest's signature, the manifest's form, the manifest's names.
+-- What a body shows before any diary is looked at, or the first thing that is wrong with it: its form, the document,
+-- the chain, the manifest's signature, the manifest's form, the manifest's names.
 use Rattle.std.specs.Prelude.{◌≡◌, ◌≢◌, ◌⊎◌, ◌≤◌, ◌-◌, ℕ, List, Option, Some, None, Ok, Err, length, option_map, slice_get}
 use Rattle.ebl_base.specs.declared.chain.ChainLink.{ChainLink}
 use Rattle.ebl_base.specs.declared.checksum.Checksum.{Checksum}

@@ -30,8 +30,8 @@ use Rattle.bill_diary.specs.Searches.{first_bytes, last_body, last_parted_record
 
 -- ---- a transfer from here
 
--- the chain with the entry that is parting at its end, that entry, the manifest with its text, and where the entry moves
--- possession
+-- the chain with the entry that is parting at its end, that entry, the manifest with its text, and where the entry
+-- moves possession
 pub record TransferRecord : Type 0 where
   pub chain : List ChainLink
   pub entry : ChainLink

@@ -170,8 +170,8 @@ pub fn taken_entry_is_answered_as_a_duplicate()
     body_shows_one_thing_or_is_refused();
 }
 
-/// What nothing speaks against is received, at a start and at a finish: a Taken is written, with the Begun where that is
-/// new, and RECE is answered.
+/// What nothing speaks against is received, at a start and at a finish: a Taken is written, with the Begun where that
+/// is new, and RECE is answered.
 pub fn body_without_objection_is_received()
     ensures start { (roster : RosterRecord) (keys : Keys) (me : PlatformCode) (diary : List Frame) (body : List ℕ)
         → (s : ShownRecord) (step : Step) → Shows roster keys body s
