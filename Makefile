@@ -25,12 +25,13 @@ install: program
 	@install -m 755 crates/ebl_cli/out/ebl_cli "$(DESTDIR)$(PREFIX)/bin/ebl"
 	@echo "installed: $(DESTDIR)$(PREFIX)/bin/ebl"
 
-# The gate, and then the program's examples and exits, which the gate doesn't run.
+# The gate, and then the program's examples, exits and random scripts, which the gate doesn't run.
 test:
 	@PYTHONPATH=tools python3 -c 'import program; program.need_toolchain()'
 	rt ci
 	@test -x crates/ebl_cli/out/ebl_cli || (cd crates/ebl_cli && rt run -- --version > /dev/null)
 	python3 tools/check_program.py
+	python3 tools/random_scripts.py
 
 lint:
 	@tools/lint.py
