@@ -1,0 +1,105 @@
+//! Outcomes in words.
+use ebl_base::{LimitKind, PlaceTag};
+use pint_responses::Response;
+use platform_requests::{Reply, View};
+use std::alloc::Global;
+use std::process::Abort;
+use std::test::Fail;
+use title_fold::{Title, possessor, title_holder};
+
+/// Asserts that a line has this text.
+pub(crate) fn says<R: Abort>(rt: &R, line: String, text: &str) {
+    assert_eq!(rt; line.as_str(), text);
+}
+
+fn place_word(tag: PlaceTag) -> &'static str {
+    match tag {
+        PlaceTag::Absent => "ABSENT",
+        PlaceTag::Held => "HELD",
+        PlaceTag::Parting => "PARTING",
+        PlaceTag::Gone => "GONE",
+    }
+}
+
+fn limit_word(limit: LimitKind) -> &'static str {
+    match limit {
+        LimitKind::Entries => "ENTRIES",
+        LimitKind::Transactions => "TRANSACTIONS",
+        LimitKind::DocumentSize => "DOCUMENT_SIZE",
+        LimitKind::Documents => "DOCUMENTS",
+        LimitKind::DocumentBytes => "DOCUMENT_BYTES",
+    }
+}
+
+fn state_word(title: Title) -> &'static str {
+    match title {
+        Title::Signed { .. } => "SIGNED",
+        Title::Live { .. } => "LIVE",
+        Title::Asked { .. } => "ASKED",
+        Title::Ended { .. } => "ENDED",
+    }
+}
+
+// Where a bill is, how many entries its chain has, and its title's state, possessor and holder.
+fn view_words(alloc: Global, view: &View) -> Result<String, Fail> {
+    let place = place_word(view.place);
+    let entries = view.entries;
+    match view.title {
+        Some(title) => {
+            let state = state_word(title);
+            let (by, of) = (possessor(title).to_text(), title_holder(title).to_text());
+            let (by, of) = (by.as_str(), of.as_str());
+            Ok(format!(in alloc; "DONE {place} {entries} {state} {by} {of}")?)
+        }
+        None => Ok(format!(in alloc; "DONE {place} {entries}")?),
+    }
+}
+
+// A response's code, reason, index, whether it stands, how many documents are missing, and which evidence it has.
+fn response_words(alloc: Global, response: &Response) -> Result<String, Fail> {
+    let mut words = String::from_str(alloc, response.code.as_str())?;
+    if let Some(reason) = response.reason {
+        words.push_str(" ")?;
+        words.push_str(reason.as_str())?;
+        if let Some(index) = reason.index() {
+            words.push_str(format!(in alloc; " {index}")?.as_str())?;
+        }
+    }
+    if response.standing {
+        words.push_str(" standing")?;
+    }
+    let missing = response.missing.as_slice().len();
+    if missing > 0 {
+        words.push_str(format!(in alloc; " missing {missing}")?.as_str())?;
+    }
+    if response.evidence.own.is_some() {
+        words.push_str(" own")?;
+    }
+    if response.evidence.theirs.is_some() {
+        words.push_str(" theirs")?;
+    }
+    Ok(words)
+}
+
+fn more_words(alloc: Global, reply: &Reply, word: &str) -> Result<String, Fail> {
+    let first = reply.as_str();
+    Ok(format!(in alloc; "{first} {word}")?)
+}
+
+/// A reply in words.
+pub(crate) fn reply_words(alloc: Global, reply: &Reply) -> Result<String, Fail> {
+    match reply {
+        Reply::Done(view) => view_words(alloc, view),
+        Reply::Answer { response, .. } => response_words(alloc, response),
+        Reply::Started { missing, .. } => {
+            let count = missing.as_slice().len();
+            Ok(format!(in alloc; "STARTED {count}")?)
+        }
+        Reply::NotHere(tag) | Reply::NotParting(tag) => more_words(alloc, reply, place_word(*tag)),
+        Reply::NoParty(party) => more_words(alloc, reply, party.to_text().as_str()),
+        Reply::NotAllowed(rule) => more_words(alloc, reply, rule.as_str()),
+        Reply::Limit(limit) => more_words(alloc, reply, limit_word(*limit)),
+        Reply::Ignored(reason) => more_words(alloc, reply, reason.as_str()),
+        _ => Ok(String::from_str(alloc, reply.as_str())?),
+    }
+}
