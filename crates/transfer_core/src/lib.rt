@@ -11,8 +11,6 @@ mod shard;
 mod shard_desk;
 mod showing;
 mod starting;
-#[cfg(test)]
-mod tests;
 mod transfer;
 mod uploading;
 
