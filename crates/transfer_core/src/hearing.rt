@@ -94,7 +94,8 @@ fn record_of_answer<G: KeyRing>(
 ) -> Result<Result<Record, IgnoreReason>, NoMemory>
     requires { IsSound me d.now }
     ensures ended { IfOk result (λ r. IfOk r (IsEnded (G.keys ring.now) (history bill d.now) bill bytes.now)) }
-    ensures ignored { IfOk result (λ r. IfErr r (IsAnswerIgnored (G.keys ring.now) (history bill d.now) bill bytes.now)) }
+    ensures ignored { IfOk result (λ r.
+        IfErr r (IsAnswerIgnored (G.keys ring.now) (history bill d.now) bill bytes.now)) }
 {
     match under_way(alloc, me, d, bill)? {
         Ok(t) => match ending_of(alloc, ring, &t, bytes)? {

@@ -119,8 +119,10 @@ fn read_envelope<G: KeyRing>(
     document: &Document,
     body: &Body,
 ) -> Result<Envelope, Stop>
-    ensures ok { IfOk result (λ e. Envelops roster.now (G.keys ring.now) document.now (body_view body.now) e.chain e.manifest) }
-    ensures err { IfErr result (IsStop (IsEnvelopeRefused roster.now (G.keys ring.now) document.now (body_view body.now))) }
+    ensures ok { IfOk result (λ e.
+        Envelops roster.now (G.keys ring.now) document.now (body_view body.now) e.chain e.manifest) }
+    ensures err { IfErr result
+        (IsStop (IsEnvelopeRefused roster.now (G.keys ring.now) document.now (body_view body.now))) }
 {
     let chain = match check(alloc, roster, ring, document, &body.chain) {
         Ok(chain) => chain,
