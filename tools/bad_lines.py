@@ -1,7 +1,7 @@
 """Lines of scripts, good and bad: each member of each event and of the roster in each form that it may have or not.
 
-A row is (what it shows, the line, whether it is a line of a script). What is good and bad stands here by hand, after the
-forms of docs/forms.md; values are written as JSON, so that a number's spelling counts.
+A row is (what it shows, the line, whether it is a line of a script). What is good and bad stands here by hand, after
+the forms of docs/forms.md; values are written as JSON, so that a number's spelling counts.
 """
 import json
 
