@@ -4,7 +4,7 @@ use Rattle.std.proofs.Math.Bool.{not}
 use Rattle.std.specs.Prelude.{All, filter, find, is_some, option_map, slice_get}
 use Rattle.std.specs.Option.{option_map_or}
 use Rattle.std.proofs.lemmas.Option.{slice_get-map}
-use Rattle.std.proofs.lemmas.List.{append_assoc, append-nil, drop-drop, map-append}
+use Rattle.std.proofs.lemmas.List.{append_assoc, drop-drop, map-append}
 use Rattle.std.proofs.lemmas.List.Elements.{All-drop, All-head, All-map, All-tail, All-take}
 use Rattle.ebl_base.specs.PlatformCode.{code_eq}
 use Rattle.ebl_base.specs.declared.checksum.Checksum.{Checksum}
@@ -134,15 +134,6 @@ one_more_given i place ps shards ds d s small here there same so_far =
     ∙ ap (λ (x : List Frame). map given_diary ds
     ++ record { platform = d.platform; diary = x } ∷ left_from i (place + 1) ps shards) same
     ∙ ap (λ (xs : List ShardDiary). map given_diary ds ++ xs) (sym (one_left i place d.platform ps shards s small here there))
-    ∙ so_far
-
-pub none_left_over : (i place : ℕ) (ps : List PlatformCode) (shards : List ShardState) (ds : List PlatformDiary)
-    → drop place ps ≡ []
-    → map given_diary ds ++ left_from i place ps shards ≡ map (shard_diary i) (grouped ps shards)
-    → map given_diary ds ≡ map (shard_diary i) (grouped ps shards)
-none_left_over i place ps shards ds none so_far =
-    sym (append-nil (map given_diary ds))
-    ∙ ap (λ (qs : List PlatformCode). map given_diary ds ++ map (shard_diary i) (grouped qs (drop (16 * place) shards))) (sym none)
     ∙ so_far
 
 -- ---- no shard is loose

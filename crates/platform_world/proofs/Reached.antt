@@ -47,7 +47,7 @@ use Rattle.platform_world.specs.Machine.{AreForListed, MachineRecord, receiver_o
 use Rattle.platform_world.specs.Platforms.{PlatformsRecord, TakesAt, grouped, states_of}
 use Rattle.platform_world.specs.Script.{IsNested, names_listed}
 use Rattle.platform_world.specs.State.{AreFresh, IsBetweenListed, IsPathBetweenListed, IsReached, MayAsk, MayTake, WorldState, world_of}
-use Rattle.platform_world.specs.Step.{IsAt, IsPathOf, message_parcel, reply_bill, reply_content, reply_parcel, sends}
+use Rattle.platform_world.specs.Step.{IsAt, message_parcel, reply_bill, reply_content, reply_parcel, sends}
 use Rattle.platform_world.specs.World.{PlatformState, ShardState, WorldRecord, shard_at, with_shard}
 use Rattle.platform_world.proofs.Attempts.{attempts_within}
 
@@ -218,23 +218,7 @@ sends_between roster path reply own between are =
     (reply_between roster path.from path.sender (option_or path.brought (reply_bill reply))
     (reply_content path.kind reply) between.from between.sender)
 
-pub path_between : (w : WorldRecord) (a : Asking) (path : ReplyPath) → MayAsk w a → IsPathOf a path
-    → IsPathBetweenListed w.roster path
-path_between w a path may is = record {
-  from = subst (λ (p : PlatformCode). has_platform w.roster p ≡ true) (sym is.from) may.listed;
-  sender = subst (λ (o : Option Sender). IfSome o (λ s. has_platform w.roster s.platform ≡ true)) (sym is.sender)
-      may.sender;
-}
-
 -- ---- what stays so
-
--- one event more was taken
-pub reached_later : (w : WorldRecord) (n : ℕ) → IsReached w n → IsReached w (n + 1)
-reached_later w n reached = record {
-  written = within_more w.platforms n reached.written;
-  between = reached.between;
-  named = reached.named;
-}
 
 -- a shard was asked
 pub reached_asked : {M : Type 0} (seen : M → MachineRecord) (w : WorldState M) (platforms : PlatformsRecord M)
@@ -255,14 +239,6 @@ reached_asked seen w platforms p i now request out fails reached same takes kept
 -- what was sent, and the bills that were signed, are these
 abbrev with_lists : WorldRecord → List Parcel → List Checksum → WorldRecord
 with_lists w sent signed = record { roster = w.roster; platforms = w.platforms; sent = sent; signed = signed }
-
-pub reached_same : (w : WorldRecord) (n : ℕ) (sent : List Parcel) (signed : List Checksum) → IsReached w n
-    → sent ≡ w.sent → signed ≡ w.signed → IsReached (with_lists w sent signed) n
-reached_same w n sent signed reached same_sent same_signed = record {
-  written = reached.written;
-  between = subst (All (IsBetweenListed w.roster)) (sym same_sent) reached.between;
-  named = subst (All IsChecksum) (sym same_signed) reached.named;
-}
 
 pub reached_sent : (w : WorldRecord) (n : ℕ) (sent parcels : List Parcel) (signed : List Checksum) → IsReached w n
     → All (IsBetweenListed w.roster) parcels → sent ≡ w.sent ++ parcels → signed ≡ w.signed

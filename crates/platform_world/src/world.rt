@@ -217,6 +217,7 @@ impl<M: Machine> World<M> {
         let signing = is_sign(&asking.request);
         let shard = shard_of(alloc, &asking.request)?;
         let now = moment_or_first(asking.now);
+        // Counted before it is asked: no diary has more frames than events were counted, even where memory runs out.
         self.events += 1;
         let out = self
             .platforms

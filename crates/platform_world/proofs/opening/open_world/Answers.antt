@@ -1,4 +1,4 @@
-use Rattle.std.proofs.Common.{◌≡◌, ◌*◌, ℕ, length, ap, arith}
+use Rattle.std.proofs.Common.{◌*◌, length, ap}
 use Rattle.platform_world.proofs.Rings.{opened-by}
 use Rattle.platform_world.proofs.opening.open_world.Goals as goal
 
