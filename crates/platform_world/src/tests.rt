@@ -1,4 +1,6 @@
-//! What lines give, and what events come to, by small tables.
+//! What lines give, and what events come to, by small tables; and a short script.
+mod transfer;
+
 use crate::*;
 use answer_lines::{Answer, Content, Parcel};
 use ebl_base::{ByteList, Checksum, PlatformCode};
