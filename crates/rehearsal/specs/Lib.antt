@@ -1,0 +1,6 @@
+pub mod Draws
+pub mod Roster
+pub mod Events
+pub mod Run
+pub mod Summary
+pub mod Progress
