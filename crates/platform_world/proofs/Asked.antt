@@ -1,5 +1,5 @@
 -- What a request that was taken makes of the world.
-use Rattle.std.proofs.Common.{◌≡◌, ◌≢◌, ◌⊎◌, inl, inr, ◌≤◌, Bool, true, false, List, [], ◌++◌, length, Option, None, Result, Ok, Err, refl, sym, ap, subst, ◌∙◌, arith}
+use Rattle.std.proofs.Common.{ℕ, ◌≡◌, ◌≢◌, ◌⊎◌, inl, inr, ◌≤◌, Bool, true, false, List, [], ◌++◌, length, Option, None, Result, Ok, Err, refl, sym, ap, subst, ◌∙◌, arith}
 use Rattle.std.specs.Prelude.{IfOk, OnErr, OnOk, option_map}
 use Rattle.std.specs.Option.{option_to_list, option_or}
 use Rattle.std.proofs.lemmas.List.{append-nil, length-append}
@@ -14,6 +14,7 @@ use Rattle.platform_requests.specs.declared.reply.Reply.{Reply}
 use Rattle.platform_requests.specs.declared.reply.Reply.TheVariants as replies
 use Rattle.platform_machine.specs.Complete.{is_failure}
 use Rattle.platform_machine.specs.Machine.{MayBeAsked}
+use Rattle.world_script.specs.Event.{EventRecord}
 use Rattle.answer_lines.specs.Lines.{IsWritable}
 use Rattle.answer_lines.specs.declared.answer.Answer.{Answer}
 use Rattle.answer_lines.specs.declared.answer.Answer.TheVariants.{Replied}
@@ -27,7 +28,8 @@ use Rattle.platform_world.specs.Happening as happening
 use Rattle.platform_world.specs.Machine.{MachineRecord}
 use Rattle.party_roster.specs.RosterRecord.{RosterRecord}
 use Rattle.platform_world.specs.Platforms.{PlatformsRecord, TakesAt, states_of}
-use Rattle.platform_world.specs.State.{HasHappened, HasHappenedWhole, IsCutShort, IsFollowed, MayAsk, WorldState, bill_by, is_sign, world_of}
+use Rattle.platform_world.specs.Run.{line_after}
+use Rattle.platform_world.specs.State.{HasHappened, HasHappenedWhole, IsAnsweredWhole, IsCutShort, IsFollowed, IsSteppedWhole, MayAsk, WorldState, bill_by, is_sign, world_of}
 use Rattle.platform_world.specs.Step.{Happens, IsAt, IsPathOf, bills_signed, kind_of, parcels_of, reply_content, reply_parcel, request_bill, sends}
 use Rattle.platform_world.specs.World.{PlatformState, ShardState, WorldRecord, with_shard}
 use Rattle.platform_machine.specs.Step.{with_frame}
@@ -379,3 +381,11 @@ whole_by_count w h after out (Err e) rose so = tt
 -- what is answered at once changes nothing
 pub answered_so : (w : WorldRecord) (said : Answer) → HasHappenedWhole w (happening.answers said) said w
 answered_so w said = record { fate = whole; steps = ((refl, refl), refl, refl); whole = refl }
+
+-- an event that is taken whole, unless a count rose, is answered so
+pub whole_by_line : {R : Type 0} (w : WorldRecord) (n : ℕ) (event : EventRecord) (answer : Answer) (line : List ℕ)
+    (after : WorldRecord) → line ≡ line_after n w answer after → R ⊎ IsSteppedWhole w event answer after
+    → R ⊎ IsAnsweredWhole w n event line after
+whole_by_line w n event answer line after is (inl rose) = inl rose
+whole_by_line w n event answer line after is (inr stepped) =
+    inr (record { answer = answer; stepped = stepped; line_is = is })

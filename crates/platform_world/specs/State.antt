@@ -122,6 +122,13 @@ pub record IsAnswered (w : WorldRecord) (n : ℕ) (event : EventRecord) (line : 
   pub happens : IsStep w event fate answer after
   pub line_is : line ≡ line_after n w answer after
 
+-- so it is, and taken whole
+pub record IsAnsweredWhole (w : WorldRecord) (n : ℕ) (event : EventRecord) (line : List ℕ) (after : WorldRecord)
+    : Type 0 where
+  pub answer : Answer
+  pub stepped : IsSteppedWhole w event answer after
+  pub line_is : line ≡ line_after n w answer after
+
 -- ---- what an outcome makes of it
 
 -- the reply to a request goes from a platform of the roster, and back to one, if to any

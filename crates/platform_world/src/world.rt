@@ -14,7 +14,7 @@ ghost use Rattle.platform_world.specs.Machine.{AreForListed};
 ghost use Rattle.platform_world.specs.Platforms.{SomeRose};
 ghost use Rattle.platform_world.specs.Script.{IsNested, names_listed};
 ghost use Rattle.platform_world.specs.Standing.{standing_in};
-ghost use Rattle.platform_world.specs.State.{AreFresh, HasHappened, HasHappenedWhole, IsAnswered, IsCutShort, IsFollowed, IsPathBetweenListed, IsStepped, IsSteppedWhole, MayAsk, bill_by, is_sign, world_of};
+ghost use Rattle.platform_world.specs.State.{AreFresh, HasHappened, HasHappenedWhole, IsAnswered, IsAnsweredWhole, IsCutShort, IsFollowed, IsPathBetweenListed, IsStepped, IsSteppedWhole, MayAsk, bill_by, is_sign, world_of};
 ghost use Rattle.platform_world.specs.Step.{IsAt};
 ghost use Rattle.platform_world.specs.World.{opening};
 
@@ -141,7 +141,8 @@ impl<M: Machine> World<M> {
         bill_standing(alloc, bill, diaries.as_slice())
     }
 
-    /// Takes an event of a line (`event_in`), and answers it by its line.
+    /// Takes an event of a line (`event_in`), and answers it by its line. Unless the ring of some shard failed to sign,
+    /// the event is taken whole: `SIGN` is answered for no other reason.
     ///
     /// Out of memory, the platforms are those before the event, or those after the whole of it; what it sends and signs
     /// may be missing then.
@@ -152,6 +153,9 @@ impl<M: Machine> World<M> {
         requires few { self.old.events < 4294967295 }
         ensures ok { IfOk result (λ line. IsAnswered (world_of M.seen self.old) (self.old.events + 1)
             (event_view event) line (world_of M.seen self.new)) }
+        ensures whole { IfOk result (λ line. SomeRose M.faults self.old.platforms.shards self.new.platforms.shards
+            ⊎ IsAnsweredWhole (world_of M.seen self.old) (self.old.events + 1) (event_view event) line
+            (world_of M.seen self.new)) }
         ensures short { OnErr result (IsCutShort (world_of M.seen self.old)
             (comes_to self.old.signed self.old.sent (event_view event)) (world_of M.seen self.new)) }
         ensures events { OnOk result (self.new.events ≡ self.old.events + 1) }
@@ -170,8 +174,6 @@ impl<M: Machine> World<M> {
     }
 
     /// Takes an event, as `step` does, and gives its answer. No line is written.
-    ///
-    /// Unless the ring of some shard failed to sign, the event is taken whole.
     pub fn take(&mut self, alloc: Global, event: Event) -> Result<Answer, NoMemory>
         requires form { IsEvent (event_view event) }
         requires nests { IsNested (event_view event) }
