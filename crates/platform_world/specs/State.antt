@@ -54,8 +54,8 @@ pub record IsBetweenListed (roster : RosterRecord) (parcel : Parcel) : Type 0 wh
   pub from : has_platform roster parcel.from ≡ true
   pub to : IfSome parcel.to (λ to. has_platform roster to ≡ true)
 
--- each diary has at most as many frames as events were taken, parcels are between platforms of the roster, and the bills
--- that were signed are well-formed
+-- each diary has at most as many frames as events were taken, parcels are between platforms of the roster, and the
+-- bills that were signed are well-formed
 pub record IsReached (w : WorldRecord) (events : ℕ) : Type 0 where
   pub written : (p : PlatformCode) (i : ℕ) (s : ShardState) → shard_at p i w.platforms ≡ Some s
       → length s.diary ≤ events
