@@ -9,7 +9,6 @@ use Rattle.bill_diary.specs.declared.frame.Frame.{Frame}
 use Rattle.bill_diary.specs.History.{bill_of, history}
 use Rattle.bill_diary.specs.Searches.{kept_in}
 use Rattle.title_register.specs.declared.standing.Standing.{Standing}
-use Rattle.title_register.specs.declared.change.Change.{Change}
 use Rattle.title_register.specs.declared.room.Room.{Room}
 use Rattle.title_register.specs.Standing.{nothing, standing_of, standing_with}
 

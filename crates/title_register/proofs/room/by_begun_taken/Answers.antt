@@ -1,6 +1,5 @@
 -- A Begun that is taken changes what its Taken does.
-use Rattle.std.proofs.Common.{◌≡◌, ◌∷◌, ◌++◌, List, Option, IfOk, Bor, is_some, true, reverse, refl, sym, ap, subst, ◌∙◌}
-use Rattle.std.specs.Prelude.{option_copied}
+use Rattle.std.proofs.Common.{◌≡◌, ◌∷◌, ◌++◌, List, Option, IfOk, is_some, true, reverse, refl, sym, ap, subst, ◌∙◌}
 use Rattle.ebl_base.specs.declared.chain.ChainLink.{ChainLink}
 use Rattle.bill_chain.specs.Chain.{last_of}
 use Rattle.bill_diary.specs.declared.frame.Frame.TheVariants.{BegunTaken}

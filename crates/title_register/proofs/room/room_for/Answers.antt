@@ -1,5 +1,5 @@
 -- A bill that is found stands as its records say.
-use Rattle.std.proofs.Common.{◌≡◌, sym, ap, ◌∙◌}
+use Rattle.std.proofs.Common.{sym, ap, ◌∙◌}
 use Rattle.ebl_base.specs.declared.checksum.Checksum.{Checksum}
 use Rattle.bill_diary.specs.History.{history}
 use Rattle.title_register.specs.Standing.{standing_of}

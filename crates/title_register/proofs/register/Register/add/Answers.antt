@@ -1,5 +1,5 @@
 -- The bill of the frame stands as with it, and every other bill as before.
-use Rattle.std.proofs.Common.{◌≡◌, List, Some, sym, ap, subst, ◌∙◌}
+use Rattle.std.proofs.Common.{◌≡◌, List, sym, ap, subst, ◌∙◌}
 use Rattle.bill_diary.specs.declared.frame.Frame.{Frame}
 use Rattle.bill_diary.specs.History.{history}
 use Rattle.title_register.specs.declared.room.Room.{Room}
