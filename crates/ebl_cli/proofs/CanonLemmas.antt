@@ -7,13 +7,14 @@ use Rattle.canonical_json.specs.Value.{Value}
 use Rattle.canonical_json.specs.Reading.{Reads}
 use Rattle.canonical_json.specs.declared.fault.ReadError.{ReadError}
 use Rattle.ebl_cli.specs.declared.command.Command.{Command}
-use Rattle.ebl_cli.specs.declared.command.Command.TheVariants.{Drive, Canon}
+use Rattle.ebl_cli.specs.declared.command.Command.TheVariants.{Drive, Canon, Rehearse}
 use Rattle.ebl_cli.specs.declared.status.Status.{Status}
 use Rattle.ebl_cli.specs.declared.status.Status.TheVariants.{Done, Usage, ReadFault, TooLong, BadJson, BadScript, WrongRacks, WriteFault, NoMemory}
 use Rattle.ebl_cli.specs.Output.{complete, bad_json, stopped, Wrote}
 use Rattle.ebl_cli.specs.Canon.{Canonizes, IsRefusal, canonical_lines}
 use Rattle.ebl_cli.specs.Status.{EndsAs, EndsAsLast, Outputs}
 use Rattle.ebl_cli.proofs.DriveLemmas.{stops_at_once}
+use Rattle.ebl_cli.proofs.RehearseLemmas.{rehearsal_stops}
 
 -- memory may run out before it writes
 pub canon_stops : (text : List ℕ) (now : Option (List ℕ)) → Wrote (Canonizes text) stopped now now
@@ -45,3 +46,4 @@ pub command_stops : (command : Command) (rings : List Keys) (text : List ℕ) (n
     → Wrote (Outputs (Some command) rings text) stopped now now
 command_stops Drive rings text now = stops_at_once text rings now
 command_stops Canon rings text now = canon_stops text now
+command_stops (Rehearse seed bills steps) rings text now = rehearsal_stops seed bills steps rings now

@@ -1,4 +1,6 @@
 mod RunLemmas
 mod DriveLemmas
+mod RehearseLemmas
 mod CanonLemmas
 mod SafeLemmas
+mod ReadLemmas

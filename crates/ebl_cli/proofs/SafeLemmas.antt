@@ -10,7 +10,7 @@ use Rattle.platform_world.specs.Run as runs
 use Rattle.platform_world.specs.Run.{IsRunOf, Run, RunsLines}
 use Rattle.world_safety.specs.Safety.{HasEnoughRings, StaysSafe}
 use Rattle.ebl_cli.specs.declared.command.Command.{Command}
-use Rattle.ebl_cli.specs.declared.command.Command.TheVariants.{Drive, Canon}
+use Rattle.ebl_cli.specs.declared.command.Command.TheVariants.{Drive, Canon, Rehearse}
 use Rattle.ebl_cli.specs.declared.status.Status.{Status}
 use Rattle.ebl_cli.specs.declared.status.Status.TheVariants.{Done, Usage, ReadFault, TooLong, BadJson, BadScript, WrongRacks, WriteFault, NoMemory}
 use Rattle.ebl_cli.specs.Output.{Output}
@@ -94,6 +94,8 @@ wrote_safe_by always named Drive (Some script) text rings status old new is read
     subst (λ (t : List ℕ). WroteSafeRun status t rings old new) read (wrote_safe always text rings status old new ends)
 wrote_safe_by always named Canon (Some script) text rings status old new is read ends driven =
     let no : Some Canon ≡ Some Drive = is ∙ driven in cc no
+wrote_safe_by always named (Rehearse seed bills steps) (Some script) text rings status old new is read ends driven =
+    let no : Some (Rehearse seed bills steps) ≡ Some Drive = is ∙ driven in cc no
 
 -- nothing was written, whatever the source has
 pub nothing_safe : StaysSafeAlways → (left : Option (List ℕ)) (rings : List Keys) (status : Status)

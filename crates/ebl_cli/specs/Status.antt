@@ -5,11 +5,12 @@ use Rattle.ebl_edge.specs.Sink.{AppendsFirst}
 use Rattle.ebl_cli.specs.declared.status.Status.{Status}
 use Rattle.ebl_cli.specs.declared.status.Status.TheVariants.{Done, Usage, ReadFault, TooLong, BadJson, BadScript, WrongRacks, WriteFault, NoMemory}
 use Rattle.ebl_cli.specs.declared.command.Command.{Command}
-use Rattle.ebl_cli.specs.declared.command.Command.TheVariants.{Drive, Canon}
+use Rattle.ebl_cli.specs.declared.command.Command.TheVariants.{Drive, Canon, Rehearse}
 use Rattle.signed_envelope.specs.KeyRing.{Keys}
 use Rattle.ebl_cli.specs.Output.{Output, complete, bad_line, few_rings, bad_json, stopped, Wrote, WroteFirst}
 use Rattle.ebl_cli.specs.Drive.{Drives}
 use Rattle.ebl_cli.specs.Canon.{Canonizes}
+use Rattle.ebl_cli.specs.Rehearse.{WritesRehearsal}
 
 -- the program's exit for a status
 unfoldable pub exit_of : Status → ℕ
@@ -23,11 +24,12 @@ exit_of ReadFault = 10
 exit_of WriteFault = 11
 exit_of NoMemory = 12
 
--- what a command writes of what it read, with these rings of keys
+-- what a command writes of what it read, with these rings of keys; a rehearsal reads nothing
 abbrev pub Outputs : Option Command → List Keys → List ℕ → Output → Type 0
 Outputs None rings text out = ⊥
 Outputs (Some Drive) rings script out = Drives script rings out
 Outputs (Some Canon) rings text out = Canonizes text out
+Outputs (Some (Rehearse seed bills steps)) rings text out = WritesRehearsal seed bills steps rings out
 
 -- what was written where it ends so
 abbrev pub EndsAs : Status → (Output → Type 0) → Option (List ℕ) → Option (List ℕ) → Type 0

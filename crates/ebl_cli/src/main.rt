@@ -5,6 +5,7 @@ mod canon;
 mod command;
 mod program;
 mod reading;
+mod rehearse;
 mod run;
 mod status;
 #[cfg(test)]

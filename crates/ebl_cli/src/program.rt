@@ -22,6 +22,9 @@ usage:
                   each bill
   ebl canon       reads one JSON value from standard input, and writes its canonical
                   text (RFC 8785) and that text's SHA-256 checksum
+  ebl rehearse SEED BILLS STEPS
+                  runs three platforms with commands, deliveries, resends and restarts
+                  that are drawn from a seed, and writes one line that sums it up
   ebl --help      writes this text
   ebl --version   writes the version
 
@@ -35,8 +38,10 @@ a script's first line has the roster, each later one an event, by one of these m
 examples:
   ebl drive < examples/first_run.jsonl
   printf '{}' | ebl canon
+  ebl rehearse 7 50 2000
 
-limits: 67,108,864 bytes of input, 100,000 lines of a script; whole numbers of at most
+limits: a seed of at most 9,223,372,036,854,775,807, 1 to 1,000 bills, 1 to 20,000 steps,
+as decimal digits with no zero in front; 67,108,864 bytes of input, 100,000 lines of a script; whole numbers of at most
 2^53 - 1 in size, decimals of at most 15 digits, no exponents; no name twice in an
 object; values nest at most 127 deep. The input is read to its end before the first
 line is written.

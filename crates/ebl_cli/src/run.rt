@@ -1,12 +1,13 @@
 //! The top call: a script comes in, answer lines and bill lines go out.
-ghost use Rattle.std.specs.Prelude.{◌≡◌, ◌↔◌, ◌+◌, ◌*◌, ◌<◌, ◌≤◌, None, Some, length, map, IfOk, IfSome};
+ghost use Rattle.std.specs.Prelude.{◌≡◌, ◌↔◌, ◌+◌, ◌*◌, ◌<◌, ◌≤◌, None, Some, false, true, length, map, option_map, vec_len, IfOk, IfSome, IsErrOf};
 ghost use Rattle.ebl_base.specs.Faults.{Rose};
 ghost use Rattle.ebl_base.specs.Parts.{parts_of};
 ghost use Rattle.party_roster.specs.RosterForm.{IsRoster};
 ghost use Rattle.platform_world.specs.Run.{bill_lines};
 ghost use Rattle.platform_world.specs.State.{world_of};
 ghost use Rattle.platform_world.specs.World.{opening};
-ghost use Rattle.ebl_cli.specs.Command.{command_of};
+ghost use Rattle.ebl_cli.specs.Command.{IsInRange, command_of, reads_source};
+ghost use Rattle.ebl_cli.specs.declared.reading.ReadStop.TheVariants.{ReadFault, TooLong};
 ghost use Rattle.ebl_cli.specs.Drive.{Drives, DrivesRoster, IsLineAnswered, WritesFrom, first_bad, first_bad_line, needed_rings, rings_for};
 ghost use Rattle.ebl_cli.specs.Safe.{WroteSafeRun};
 ghost use Rattle.ebl_cli.specs.Status.{EndsAs, EndsAsLast, Outputs, IsAfterRead, IsBeforeWrite, IsCausedBy, IsCommandEnd};
@@ -14,6 +15,7 @@ ghost use Rattle.ebl_cli.specs.Status.{EndsAs, EndsAsLast, Outputs, IsAfterRead,
 use crate::canon::canon;
 use crate::command::{Command, command_of};
 use crate::reading::{MOST_BYTES, ReadStop, read_all};
+use crate::rehearse::rehearse;
 use crate::status::Status;
 use ebl_base::{ByteList, NoMemory, first_part};
 use ebl_edge::{Sink, Source};
@@ -29,10 +31,12 @@ pub const MOST_LINES: u32 = 100_000;
 
 /// Runs the command that the words name over the source. `drive` takes a script over several platforms, and writes the
 /// line that answers each of its events, and then a line for each bill that it signed. `canon` takes one JSON value,
-/// and writes its canonical text and its checksum, each in a line.
+/// and writes its canonical text and its checksum, each in a line. `rehearse` takes three numbers, and writes the line
+/// that sums up a generated run; it reads nothing.
 ///
 /// The words don't include the program's name. The source is read to its end before the first line is written. Under
-/// `drive` each platform of the roster takes sixteen rings, in the roster's order; further ones stay unused.
+/// `drive` and `rehearse` each platform of the roster takes sixteen rings, in the roster's order; further ones stay
+/// unused.
 pub fn run_ebl<S: Source, K: Sink, G: KeyRing + Drop>(
     alloc: Global,
     words: &Vec<String>,
@@ -43,7 +47,8 @@ pub fn run_ebl<S: Source, K: Sink, G: KeyRing + Drop>(
     ensures usage { (result ≡ Status.Usage) ↔ (command_of words.now.items ≡ None) }
     ensures read_fault { result ≡ Status.ReadFault → Rose (S.faults source.old) (S.faults source.new) }
     ensures too_long { result ≡ Status.TooLong → IfSome (S.left source.old) (λ script. MOST_BYTES < length script) }
-    ensures not_too_long { IsAfterRead result → IfSome (S.left source.old) (λ script. length script ≤ MOST_BYTES) }
+    ensures not_too_long { option_map reads_source (command_of words.now.items) ≡ Some true → IsAfterRead result
+        → IfSome (S.left source.old) (λ script. length script ≤ MOST_BYTES) }
     ensures write_fault { result ≡ Status.WriteFault → Rose (K.faults sink.old) (K.faults sink.new) }
 
     // Why a script ends so: its first bad line, and the rings that came for its roster.
@@ -60,6 +65,7 @@ pub fn run_ebl<S: Source, K: Sink, G: KeyRing + Drop>(
     ensures safe { command_of words.now.items ≡ Some Command.Drive → IfSome (S.left source.old) (λ script.
         WroteSafeRun result script (map G.keys rings.items) (K.written sink.old) (K.written sink.new)) }
     ensures untouched { IsBeforeWrite result → sink.new ≡ sink.old }
+    ensures unread { option_map reads_source (command_of words.now.items) ≡ Some false → source.new ≡ source.old }
     ensures source_later { S.faults source.old ≤ S.faults source.new }
     ensures sink_later { K.faults sink.old ≤ K.faults sink.new }
 {
@@ -67,13 +73,30 @@ pub fn run_ebl<S: Source, K: Sink, G: KeyRing + Drop>(
     let Some(command) = command_of(words) else {
         return Status::Usage;
     };
-    let text = match read_all(alloc, source) {
+    let text = match text_for(alloc, command, source) {
         Ok(text) => text,
         Err(ReadStop::ReadFault) => return Status::ReadFault,
         Err(ReadStop::TooLong) => return Status::TooLong,
         Err(ReadStop::NoMemory) => return Status::NoMemory,
     };
     run_command(alloc, command, text.as_slice(), sink, rings)
+}
+
+// What a command reads: the whole source, or nothing.
+fn text_for<S: Source>(alloc: Global, command: Command, source: &mut S) -> Result<Vec<u8>, ReadStop>
+    ensures ok { IfOk result (λ bytes. reads_source command ≡ true
+        → IfSome (S.left source.old) (λ script. bytes.items ≡ script)) }
+    ensures fits { IfOk result (λ bytes. vec_len bytes ≤ MOST_BYTES) }
+    ensures read_fault { IsErrOf result ReadFault → Rose (S.faults source.old) (S.faults source.new) }
+    ensures too_long { IsErrOf result TooLong → IfSome (S.left source.old) (λ script. MOST_BYTES < length script) }
+    ensures unread { reads_source command ≡ false → source.new ≡ source.old }
+    ensures later { S.faults source.old ≤ S.faults source.new }
+{
+    if command.reads_source() {
+        read_all(alloc, source)
+    } else {
+        Ok(Vec::new(alloc))
+    }
 }
 
 fn run_command<K: Sink, G: KeyRing + Drop>(
@@ -83,6 +106,7 @@ fn run_command<K: Sink, G: KeyRing + Drop>(
     sink: &mut K,
     rings: Vec<G>,
 ) -> Status
+    requires { IsInRange command }
     ensures cause { command ≡ Command.Drive → IsCausedBy result (first_bad_line (parts_of 10 text.now))
         (length rings.items) (rings_for (parts_of 10 text.now)) }
     ensures ends { EndsAs result (Outputs (Some command) (map G.keys rings.items) text.now)
@@ -94,6 +118,9 @@ fn run_command<K: Sink, G: KeyRing + Drop>(
     match command {
         Command::Drive => drive(alloc, text, sink, rings),
         Command::Canon => canon(alloc, text, sink),
+        Command::Rehearse { seed, bills, steps } => rehearse(
+            alloc, seed, bills, steps, sink, rings,
+        ),
     }
 }
 

@@ -4,7 +4,7 @@ use canonical_json::ReadError;
 /// How a run of the program ends. The first of these that fits, in the order of the variants but for `Done`.
 #[derive(Clone, Copy, Debug, PartialEq, Eq)]
 pub enum Status {
-    /// Each line was answered, and the bill lines stand.
+    /// Each line was answered, and the bill lines stand; or the one line of the command does.
     Done,
     /// The words are no command.
     Usage,

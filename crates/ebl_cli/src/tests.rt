@@ -1,4 +1,5 @@
 //! The top call over memory: what is written, to the byte, and each status.
+use crate::command::command_of;
 use crate::run::run_ebl;
 use crate::status::Status;
 use canonical_json::ReadError;
@@ -42,9 +43,13 @@ const FOURTH_ANSWER: &str =
 {"acts":["ALPH"],"bill":1,"end":"ALPH","entries":0,"forked":false,"holder":"ALPH/BANK","possessor":"ALPH/BANK","state":"LIVE"}
 "#;
 
-fn words_of(alloc: Global, word: &str) -> Result<Vec<String>, NoMemory> {
-    let word = String::from_str(alloc, word)?;
-    Ok(vec![in alloc; word]?)
+// The words of a command line.
+fn words_of(alloc: Global, line: &str) -> Result<Vec<String>, NoMemory> {
+    let mut words = Vec::new(alloc);
+    for word in line.split_whitespace() {
+        words.push(String::from_str(alloc, word)?)?;
+    }
+    Ok(words)
 }
 
 fn text_of(alloc: Global, pieces: &[&str]) -> Result<ByteList, NoMemory> {
@@ -64,7 +69,7 @@ fn rings(alloc: Global, count: usize) -> Result<Vec<KeyedRing>, NoMemory> {
     Ok(rings)
 }
 
-// Runs the command of this word on the pieces of a text with rings for three platforms, and compares the status and the
+// Runs the command of these words on the pieces of a text with rings for three platforms, and compares the status and the
 // bytes written.
 fn expect_of(
     rt: &impl Abort,
@@ -189,6 +194,50 @@ fn too_few_rings(rt: HostRuntime) -> Result<(), Fail> {
     expect_with(&rt, alloc, "drive", bad, 47, Status::BadScript(3), b"")?;
     expect_with(&rt, alloc, "drive", &[THREE], 48, Status::Done, b"")?;
     expect_with(&rt, alloc, "drive", &[THREE], 49, Status::Done, b"")?;
+    Ok(())
+}
+
+#[test]
+fn smallest_rehearsal(rt: HostRuntime) -> Result<(), Fail> {
+    let alloc = rt.alloc();
+    let line =
+        b"{\"bills\":1,\"entries\":0,\"events\":3,\"forked\":false,\"replies\":{\"DONE\":2,\"NOT_HERE\":1}}\n";
+    expect_of(&rt, alloc, "rehearse 7 1 1", &[], Status::Done, line)?;
+    let lacking = Status::WrongRacks {
+        given: 47,
+        needed: 48,
+    };
+    expect_with(&rt, alloc, "rehearse 7 1 1", &[], 47, lacking, b"")?;
+    Ok(())
+}
+
+#[test]
+fn numbers_of_a_rehearsal(rt: HostRuntime) -> Result<(), Fail> {
+    let alloc = rt.alloc();
+    for line in ["rehearse 0 1 1", "rehearse 9223372036854775807 1000 20000"] {
+        assert!(rt; command_of(&words_of(alloc, line)?).is_some(), "{line}");
+    }
+    let refused = [
+        "rehearse",
+        "rehearse 7",
+        "rehearse 7 1",
+        "rehearse 7 1 1 1",
+        "rehearse 9223372036854775808 1 1",
+        "rehearse 18446744073709551623 1 1",
+        "rehearse 7 0 1",
+        "rehearse 7 1001 1",
+        "rehearse 7 1 0",
+        "rehearse 7 1 20001",
+        "rehearse +7 1 1",
+        "rehearse -7 1 1",
+        "rehearse 07 1 1",
+        "rehearse 7 01 1",
+        "rehearse 7 1 1.0",
+        "rehearse seven 1 1",
+    ];
+    for line in refused {
+        assert!(rt; command_of(&words_of(alloc, line)?).is_none(), "{line}");
+    }
     Ok(())
 }
 
