@@ -15,6 +15,7 @@ import sys
 
 import bad_lines
 import model
+import rehearsal
 from program import PROGRAM, TOP, is_built
 
 EXAMPLES = os.path.join(TOP, "examples")
@@ -77,16 +78,16 @@ def lines_too_many():
     return (code, err) == (3, BAD_LINE % 100_001) and out.count(b"\n") == 99_999
 
 
-def source_fails():
+def source_fails(words=("drive",), ends=(10, b"", b"ebl: read fault\n")):
     folder = os.open(EXAMPLES, os.O_RDONLY)
-    ended = subprocess.run([PROGRAM, "drive"], stdin=folder, stdout=subprocess.PIPE, stderr=subprocess.PIPE)
+    ended = subprocess.run([PROGRAM, *words], stdin=folder, stdout=subprocess.PIPE, stderr=subprocess.PIPE)
     os.close(folder)
-    return (ended.returncode, ended.stdout, ended.stderr) == (10, b"", b"ebl: read fault\n")
+    return (ended.returncode, ended.stdout, ended.stderr) == ends
 
 
-def sink_fails():
+def sink_fails(words=("drive",)):
     with open("/dev/full", "wb") as full:
-        code, _, err = run(["drive"], read("first_run.jsonl"), out=full)
+        code, _, err = run(words, read("first_run.jsonl"), out=full)
     return (code, err) == (11, "ebl: write fault\n")
 
 
@@ -197,6 +198,30 @@ def last_answer(events):
     return " ".join(words) if code == 0 else "exit %d" % code
 
 
+# ---- rehearsals
+
+def rehearsals():
+    """(what, the run is as it should be) of the word `rehearse`."""
+    smallest = b'{"bills":1,"entries":0,"events":3,"forked":false,"replies":{"DONE":2,"NOT_HERE":1}}\n'
+    yield "the smallest rehearsal", run(["rehearse", "7", "1", "1"]) == (0, smallest, "")
+    for numbers in ((7, 50, 2_000), (2**63 - 1, 1, 300), (0, 200, 1)):
+        words = ["rehearse", *map(str, numbers)]
+        line = rehearsal.line_of(*numbers).encode()
+        yield " ".join(words), run(words) == (0, line, "")
+        yield " ".join(words) + ", once more", run(words) == (0, line, "")
+    for words in ("7 1000 1", "7 1 20000"):
+        code, out, err = run(["rehearse", *words.split()])
+        yield "rehearse " + words, (code, err) == (0, "") and out.count(b"\n") == 1
+    yield "a rehearsal reads nothing", source_fails(["rehearse", "7", "1", "1"], (0, smallest, b""))
+    yield "a rehearsal into a sink that fails", sink_fails(["rehearse", "7", "1", "1"])
+    for words in ("", "7", "7 1", "7 1 1 1", "7 0 1", "7 1001 1", "7 1 0", "7 1 20001", "9223372036854775808 1 1",
+                  "18446744073709551623 1 1", "+7 1 1", "-7 1 1", "07 1 1", "7 01 1", "7 1 01", "7 1 1.0", "7 1 1e0",
+                  "seven 1 1", "7 1 \u0661"):
+        yield "rehearse " + words, run(["rehearse", *words.split()]) == (2, b"", USAGE)
+    for words in (["7", "1", ""], ["7", "", "1"], ["", "1", "1"], [" 7", "1", "1"], ["7", "1", b"\xff"]):
+        yield "rehearse %r" % words, run(["rehearse", *words]) == (2, b"", USAGE)
+
+
 def main():
     global PROGRAM
     if len(sys.argv) == 2:
@@ -204,7 +229,7 @@ def main():
     elif not is_built():
         sys.exit("no proved program of these sources: run make program first")
     passed = failed = 0
-    for rows in (examples(), limits(), lines(), exits()):
+    for rows in (examples(), limits(), lines(), exits(), rehearsals()):
         for what, holds in rows:
             passed, failed = passed + bool(holds), failed + (not holds)
             if not holds:
