@@ -45,7 +45,8 @@ fn has_in_chain(alloc: Global, one: &SentText, text: &SignedText) -> Result<bool
 }
 
 fn has_in_body(alloc: Global, bytes: &[u8], text: &SignedText) -> Result<bool, NoMemory>
-    ensures { IfOk result (λ has. IsTrue has ↔ ((parts : BodyRecord) × ReadsAs bytes.now parts × IsAmong text.now parts.chain)) }
+    ensures { IfOk result (λ has. IsTrue has
+        ↔ ((parts : BodyRecord) × ReadsAs bytes.now parts × IsAmong text.now parts.chain)) }
 {
     texts_have_one_body();
     match Body::read(alloc, bytes) {
