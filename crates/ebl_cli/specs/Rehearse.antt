@@ -1,5 +1,5 @@
--- What `rehearse` writes: the line that sums a rehearsal up, from the opening of its roster. Where too few rings of keys
--- came, nothing is written.
+-- What `rehearse` writes: the line that sums a rehearsal up, from the opening of its roster. Where too few rings of
+-- keys came, nothing is written.
 use Rattle.std.specs.Prelude.{◌≡◌, ◌⊎◌, ℕ, List, [], MatchBool, length, nat_lt}
 use Rattle.signed_envelope.specs.KeyRing.{Keys}
 use Rattle.platform_world.specs.World.{opening}

@@ -69,8 +69,8 @@ fn rings(alloc: Global, count: usize) -> Result<Vec<KeyedRing>, NoMemory> {
     Ok(rings)
 }
 
-// Runs the command of these words on the pieces of a text with rings for three platforms, and compares the status and the
-// bytes written.
+// Runs the command of these words on the pieces of a text with rings for three platforms, and compares the status and
+// the bytes written.
 fn expect_of(
     rt: &impl Abort,
     alloc: Global,
