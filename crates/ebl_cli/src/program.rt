@@ -41,10 +41,10 @@ examples:
   ebl rehearse 7 50 2000
 
 limits: a seed of at most 9,223,372,036,854,775,807, 1 to 1,000 bills, 1 to 20,000 steps,
-as decimal digits with no zero in front; 67,108,864 bytes of input, 100,000 lines of a script; whole numbers of at most
-2^53 - 1 in size, decimals of at most 15 digits, no exponents; no name twice in an
-object; values nest at most 127 deep. The input is read to its end before the first
-line is written.
+as decimal digits with no zero in front; 67,108,864 bytes of input, 100,000 lines of a
+script; whole numbers of at most 2^53 - 1 in size, decimals of at most 15 digits, no
+exponents; no name twice in an object; values nest at most 127 deep. The input is read
+to its end before the first line is written.
 
 exits: 0 done; 2 usage; 3 a line is not a script line; 4 the input is too long;
 5 JSON is refused; 6 too few rings of keys; 10 read fault; 11 write fault; 12 no memory
