@@ -1,6 +1,7 @@
 -- Which commands the form allows.
 use Rattle.std.specs.Prelude.{◌≡◌, false, IfSome, IsTrue}
 use Rattle.std.specs.Str.{IsUtf8}
+use Rattle.ebl_base.specs.declared.limits.TheConstants.{MAX_DOCUMENT_MEDIA, MAX_DOCUMENT_NAME}
 use Rattle.base64.specs.GeneralPurpose.{IsBytes}
 use Rattle.canonical_json.specs.Lawful.{IsLawful, HasTexts}
 use Rattle.document_checksum.specs.Digest.{IsChecksum}
@@ -16,5 +17,5 @@ IsCommand (signs document) = IsLawful document × HasTexts document
 IsCommand (acts bill kind recipient) =
     IsChecksum bill × (begins_a_bill kind ≡ false) × IfSome recipient IsParty
 IsCommand (attaches bill name media bytes) =
-    IsChecksum bill × (IsTrue (is_plain_text 128 name) × IsUtf8 name)
-    × (IsTrue (is_plain_text 64 media) × IsUtf8 media) × IsBytes bytes
+    IsChecksum bill × (IsTrue (is_plain_text MAX_DOCUMENT_NAME name) × IsUtf8 name)
+    × (IsTrue (is_plain_text MAX_DOCUMENT_MEDIA media) × IsUtf8 media) × IsBytes bytes

@@ -1,6 +1,7 @@
 -- Which JSON values are commands, and the first wrong member of another value.
 use Rattle.std.specs.Prelude.{◌≡◌, ℕ, Bool, true, false, List, Result, Ok, Err, codes, if◌then◌else◌}
 use Rattle.std.specs.Str.{bytes_eq}
+use Rattle.ebl_base.specs.declared.limits.TheConstants.{MAX_DOCUMENT_MEDIA, MAX_DOCUMENT_NAME}
 use Rattle.canonical_json.specs.Value.{Value}
 use Rattle.canonical_json.specs.Field.{member_of, text_of}
 use Rattle.json_forms.specs.Reading.{required, unless_malformed, required_checksum, optional_party}
@@ -37,8 +38,8 @@ act_of kind v =
 abbrev pub attachment_of : Value → Result CommandRecord CommandField
 attachment_of v =
     required fields.Bill (required_checksum (codes "bill") v) (λ bill.
-    required fields.Name (required_plain_text (codes "name") 128 v) (λ name.
-    required fields.Media (required_plain_text (codes "media") 64 v) (λ media.
+    required fields.Name (required_plain_text (codes "name") MAX_DOCUMENT_NAME v) (λ name.
+    required fields.Media (required_plain_text (codes "media") MAX_DOCUMENT_MEDIA v) (λ media.
     required fields.Bytes (required_bytes (codes "bytes") v) (λ bytes.
     Ok (attaches bill name media bytes)))))
 

@@ -9,16 +9,10 @@ ghost use Rattle.holder_commands.specs.Reading.{IsFault, act_of, attachment_of, 
 use crate::command::Command;
 use crate::fault::{CommandFault, CommandField};
 use canonical_json::{Json, member_of, text_of};
-use ebl_base::{CharList, Kind};
+use ebl_base::{CharList, Kind, MAX_DOCUMENT_MEDIA, MAX_DOCUMENT_NAME};
 use envelope_manifest::required_plain_text;
 use json_forms::{optional_party, required_bytes, required_checksum};
 use std::alloc::Global;
-
-/// The most bytes of an attached document's name.
-const NAME_MOST: usize = 128;
-
-/// The most bytes of its media type.
-const MEDIA_MOST: usize = 64;
 
 impl Command {
     /// The command that a value is: an object with `do`, `ATTACH` or the text of a kind, and then, as [`CommandField`]
@@ -123,10 +117,10 @@ fn read_attachment(alloc: Global, json: &Json) -> Result<Command, CommandFault>
     let Some(bill) = required_checksum(json, "bill") else {
         return Err(CommandFault::CommandForm(CommandField::Bill));
     };
-    let Some(name) = required_plain_text(json, "name", NAME_MOST) else {
+    let Some(name) = required_plain_text(json, "name", MAX_DOCUMENT_NAME) else {
         return Err(CommandFault::CommandForm(CommandField::Name));
     };
-    let Some(media) = required_plain_text(json, "media", MEDIA_MOST) else {
+    let Some(media) = required_plain_text(json, "media", MAX_DOCUMENT_MEDIA) else {
         return Err(CommandFault::CommandForm(CommandField::Media));
     };
     let Some(bytes) = required_bytes(alloc, json, "bytes")? else {
