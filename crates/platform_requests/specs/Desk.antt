@@ -1,6 +1,7 @@
 -- What a desk may be asked, and what it gives then.
 use Rattle.std.specs.Prelude.{◌≡◌, ◌≤◌, ◌⊎◌, ℕ, List, [], ◌∷◌, ◌++◌, Bool, true, false, IsTrue, length}
 use Rattle.std.specs.List.{list_all}
+use Rattle.ebl_base.specs.declared.limits.TheConstants.{MAX_DOCUMENTS}
 use Rattle.canonical_json.specs.Value.{depth}
 use Rattle.ebl_base.specs.declared.moment.Moment.{Moment}
 use Rattle.holder_commands.specs.Command.{CommandRecord, signs, acts, attaches}
@@ -62,7 +63,7 @@ AtMostOne test messages = (messages ≡ []) ⊎ ((m : Message) × (messages ≡ 
 abbrev pub ArePutsAndFinish : List Message → Type 0
 ArePutsAndFinish messages =
     (puts : List Message) × (last : List Message) × (messages ≡ puts ++ last) × IsTrue (list_all is_put puts)
-    × (length puts ≤ 16) × AtMostOne is_finish last
+    × (length puts ≤ MAX_DOCUMENTS) × AtMostOne is_finish last
 
 -- the messages that may come of a request: of a Resend at most one, a Start; of a reply to a Start the Puts and the
 -- Finish; of a reply to a Finish none
@@ -78,5 +79,5 @@ MayGive (asks bill) messages = Unit {0}
 
 -- a Started names 1 to 16 documents
 abbrev pub NamesMissing : Reply → Type 0
-NamesMissing (replies.Started reference missing) = (1 ≤ length missing) × (length missing ≤ 16)
+NamesMissing (replies.Started reference missing) = (1 ≤ length missing) × (length missing ≤ MAX_DOCUMENTS)
 NamesMissing reply = Unit {0}

@@ -8,9 +8,7 @@ use crate::message::Message;
 use crate::outcome::Outcome;
 use crate::reply::Reply;
 use crate::request::Request;
-
-/// The most additional documents of a bill.
-const MOST_PUTS: usize = 16;
+use ebl_base::MAX_DOCUMENTS;
 
 /// Whether every desk may give this outcome for this request.
 pub fn suits(request: &Request, outcome: &Outcome) -> bool
@@ -39,7 +37,7 @@ fn names_missing(reply: &Reply) -> bool
     ensures { IsTrue result → NamesMissing reply.now }
 {
     match reply {
-        Reply::Started { missing, .. } => 1 <= missing.len() && missing.len() <= MOST_PUTS,
+        Reply::Started { missing, .. } => 1 <= missing.len() && missing.len() <= MAX_DOCUMENTS,
         _ => true,
     }
 }
@@ -68,7 +66,7 @@ fn are_puts_and_finish(messages: &[Message]) -> bool
     ensures { IsTrue result → ArePutsAndFinish messages.now }
 {
     let puts = puts_in_front(messages);
-    puts <= MOST_PUTS && is_at_most_a_finish(&messages[puts..])
+    puts <= MAX_DOCUMENTS && is_at_most_a_finish(&messages[puts..])
 }
 
 // How many Puts are in front.
