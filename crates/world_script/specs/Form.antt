@@ -1,6 +1,7 @@
 -- Which events the rows of a script allow.
 use Rattle.std.specs.Prelude.{◌≢◌, ◌≤◌, ℕ, IfSome, IsTrue}
 use Rattle.std.specs.Str.{IsUtf8}
+use Rattle.ebl_base.specs.declared.limits.TheConstants.{MAX_DOCUMENT_MEDIA, MAX_DOCUMENT_NAME}
 use Rattle.base64.specs.GeneralPurpose.{IsBytes}
 use Rattle.canonical_json.specs.Lawful.{IsLawful, HasTexts}
 use Rattle.document_checksum.specs.Digest.{IsChecksum}
@@ -31,8 +32,8 @@ abbrev pub IsDeed : DeedRecord → Type 0
 IsDeed (signs document) = IsLawful document × HasTexts document
 IsDeed (acts bill kind recipient) = IsBillName bill × (kind ≢ kinds.Sign) × IfSome recipient IsParty
 IsDeed (attaches bill name media bytes) =
-    IsBillName bill × (IsTrue (is_plain_text 128 name) × IsUtf8 name)
-    × (IsTrue (is_plain_text 64 media) × IsUtf8 media) × IsBytes bytes
+    IsBillName bill × (IsTrue (is_plain_text MAX_DOCUMENT_NAME name) × IsUtf8 name)
+    × (IsTrue (is_plain_text MAX_DOCUMENT_MEDIA media) × IsUtf8 media) × IsBytes bytes
 
 -- texts, references, names and bytes in their forms
 abbrev pub IsForeign : ForeignRecord → Type 0

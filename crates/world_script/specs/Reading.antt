@@ -2,6 +2,7 @@
 use Rattle.std.specs.Prelude.{◌≡◌, ⊤, ℕ, Bool, true, List, Option, Some, None, Result, Ok, Err, codes, is_some, option_map, option_and_then, if◌then◌else◌}
 use Rattle.std.specs.Option.{option_or}
 use Rattle.std.specs.Str.{bytes_eq}
+use Rattle.ebl_base.specs.declared.limits.TheConstants.{MAX_DOCUMENT_MEDIA, MAX_DOCUMENT_NAME}
 use Rattle.canonical_json.specs.Value.{Value}
 use Rattle.canonical_json.specs.Field.{member_of, text_of, flag_of}
 use Rattle.json_forms.specs.Reading.{required, unless_malformed, required_checksum, required_number, required_party, required_platform, optional, optional_party, platform_in}
@@ -68,8 +69,8 @@ act_of kind v =
 abbrev pub attachment_of : Value → Result DeedRecord EventFault
 attachment_of v =
     required EventForm (named_bill v) (λ bill.
-    required EventForm (required_plain_text (codes "name") 128 v) (λ name.
-    required EventForm (required_plain_text (codes "media") 64 v) (λ media.
+    required EventForm (required_plain_text (codes "name") MAX_DOCUMENT_NAME v) (λ name.
+    required EventForm (required_plain_text (codes "media") MAX_DOCUMENT_MEDIA v) (λ media.
     required EventForm (required_bytes (codes "bytes") v) (λ bytes.
     Ok (attaches bill name media bytes)))))
 

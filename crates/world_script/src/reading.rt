@@ -14,7 +14,10 @@ use crate::event::Event;
 use crate::fault::EventFault;
 use crate::foreign::Foreign;
 use canonical_json::{Json, flag_of, member_of, text_of};
-use ebl_base::{CharList, Copied, Kind, MAX_WHOLE_NUMBER, Moment, Reference};
+use ebl_base::{
+    CharList, Copied, Kind, MAX_DOCUMENT_MEDIA, MAX_DOCUMENT_NAME, MAX_WHOLE_NUMBER, Moment,
+    Reference,
+};
 use envelope_manifest::required_plain_text;
 use json_forms::{
     optional_party, platform_in, required_bytes, required_checksum, required_number,
@@ -22,12 +25,6 @@ use json_forms::{
 };
 use std::alloc::Global;
 use upload_state::reference_from;
-
-/// The most bytes of an attached document's name.
-const NAME_MOST: usize = 128;
-
-/// The most bytes of its media type.
-const MEDIA_MOST: usize = 64;
 
 impl Event {
     /// The event that a line's value is, by the first of these marks that is a member of it: `do`, `deliver`,
@@ -213,10 +210,10 @@ fn read_attachment(alloc: Global, json: &Json) -> Result<Deed, EventFault>
     let Some(bill) = named_bill(json) else {
         return Err(EventFault::EventForm);
     };
-    let Some(name) = required_plain_text(json, "name", NAME_MOST) else {
+    let Some(name) = required_plain_text(json, "name", MAX_DOCUMENT_NAME) else {
         return Err(EventFault::EventForm);
     };
-    let Some(media) = required_plain_text(json, "media", MEDIA_MOST) else {
+    let Some(media) = required_plain_text(json, "media", MAX_DOCUMENT_MEDIA) else {
         return Err(EventFault::EventForm);
     };
     let Some(bytes) = required_bytes(alloc, json, "bytes")? else {
