@@ -1,6 +1,7 @@
 -- Legal diaries of a platform, under a roster and a ring of keys: sound ones whose texts are rightly signed, whose
 -- parties and platforms the roster lists, and whose chains were judged so.
 use Rattle.std.specs.Prelude.{◌≡◌, ℕ, true, List, [], ◌∷◌, Some}
+use Rattle.ebl_base.specs.declared.limits.TheConstants.{MAX_SIGNED_TEXT}
 use Rattle.ebl_base.specs.declared.chain.ChainLink.{ChainLink}
 use Rattle.ebl_base.specs.declared.checksum.Checksum.{Checksum}
 use Rattle.ebl_base.specs.declared.platform_code.PlatformCode.{PlatformCode}
@@ -30,7 +31,7 @@ use Rattle.transfer_judge.specs.Judgement.{judgement_of}
 
 -- the text is signed by the platform within 16,384 bytes
 abbrev pub IsSignedBy : Keys → PlatformCode → SignedText → Type 0
-IsSignedBy keys who text = (value : Value) × IsSigned keys 16384 text.0 who value
+IsSignedBy keys who text = (value : Value) × IsSigned keys MAX_SIGNED_TEXT text.0 who value
 
 -- ---- what the roster and the ring add
 

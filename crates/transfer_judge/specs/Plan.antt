@@ -1,6 +1,7 @@
 -- What a platform makes of a party's command: the first refusal that applies; or one record, or an entry that moves the
 -- bill to another platform, or nothing.
 use Rattle.std.specs.Prelude.{◌≡◌, ◌<◌, ℕ, ◌+◌, Bool, not, ◌||◌, ◌&&◌, List, [], ◌∷◌, ◌++◌, Option, Some, None, Result, Ok, Err, length, count_by, nat_lt, nat_le, if◌then◌else◌}
+use Rattle.ebl_base.specs.declared.limits.TheConstants.{MAX_CHAIN_ENTRIES, MAX_DOCUMENT_SIZE, MAX_DOCUMENTS, MAX_DOCUMENTS_SIZE, MAX_ENTRY_TRANSACTIONS}
 use Rattle.canonical_json.specs.Value.{Value}
 use Rattle.document_checksum.specs.Digest.{checksum_of}
 use Rattle.ebl_base.specs.PlatformCode.{code_eq}
@@ -155,8 +156,8 @@ entry_by me bill h known since t = record {
 abbrev pub plan_move : PlatformCode → Checksum → List Record → List ChainLink → List Transaction → Transaction → Title
     → Plan
 plan_move me bill h known since t after =
-    on_room (nat_lt (length known) 64) Entries (
-    on_room (nat_le (length since + 1) 32) Transactions (
+    on_room (nat_lt (length known) MAX_CHAIN_ENTRIES) Entries (
+    on_room (nat_le (length since + 1) MAX_ENTRY_TRANSACTIONS) Transactions (
     Ok (Part (entry_by me bill h known since t) (pieces_of h) (possessor after).platform)))
 
 -- any other leaves room for what has to follow
@@ -194,8 +195,8 @@ piece_by name media bytes = record { name = name; media = media; size = length b
 abbrev pub plan_bytes : Checksum → List Piece → List ℕ → List ℕ → List ℕ → Plan
 plan_bytes bill pieces name media bytes =
     if lists pieces (checksum_of bytes) then Ok Nothing else (
-    on_room (nat_lt (length pieces) 16) Documents (
-    on_room (nat_le (total_size pieces + length bytes) 4194304) DocumentBytes (
+    on_room (nat_lt (length pieces) MAX_DOCUMENTS) Documents (
+    on_room (nat_le (total_size pieces + length bytes) MAX_DOCUMENTS_SIZE) DocumentBytes (
     Ok (Add (Attached bill (piece_by name media bytes) bytes)))))
 
 -- an attachment by the possessor, of at most 2,097,152 bytes, to a bill that is held
@@ -204,7 +205,7 @@ abbrev pub plan_attachment : List Record → Checksum → Party → List ℕ →
 plan_attachment h bill party name media bytes known since =
     on_title (title_by known since) (λ title.
     on_rule (attach_refusal title party) (
-    on_room (nat_le (length bytes) 2097152) DocumentSize (
+    on_room (nat_le (length bytes) MAX_DOCUMENT_SIZE) DocumentSize (
     plan_bytes bill (pieces_of h) name media bytes)))
 
 -- an attachment to a bill, by the bill's records

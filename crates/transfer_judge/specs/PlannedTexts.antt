@@ -1,5 +1,6 @@
 -- What an entry that was planned becomes: a link and a manifest, whose texts the platform signs.
 use Rattle.std.specs.Prelude.{◌≡◌, ℕ, ◌≤◌, true, List, [], ◌∷◌, ◌++◌, Some}
+use Rattle.ebl_base.specs.declared.limits.TheConstants.{MAX_SIGNED_TEXT}
 use Rattle.canonical_json.specs.Value.{depth}
 use Rattle.document_checksum.specs.Digest.{checksum_of}
 use Rattle.ebl_base.specs.Moment.{IsMoment}
@@ -46,7 +47,7 @@ pub record IsHandedIn (party : Party) (command : CommandRecord) (now : Moment) :
 pub record IsLinkOf (keys : Keys) (me : PlatformCode) (entry : Entry) (link : ChainLink) : Type 0 where
   pub has_entry : link.entry ≡ entry
   pub name : link.name ≡ checksum_of link.text.0
-  pub signed : IsSigned keys 16384 link.text.0 me (entry_value entry)
+  pub signed : IsSigned keys MAX_SIGNED_TEXT link.text.0 me (entry_value entry)
 
 -- the manifest names the bill and the link and lists the documents, and the platform signed its written form
 pub record IsManifestOf (keys : Keys) (me : PlatformCode) (link : ChainLink) (documents : List Piece)
@@ -54,7 +55,7 @@ pub record IsManifestOf (keys : Keys) (me : PlatformCode) (link : ChainLink) (do
   pub names_bill : manifest.bill ≡ link.entry.bill
   pub names_link : manifest.last ≡ link.name
   pub lists : manifest.documents ≡ documents
-  pub signed : IsSigned keys 16384 text.0 me (manifest_value manifest)
+  pub signed : IsSigned keys MAX_SIGNED_TEXT text.0 me (manifest_value manifest)
 
 -- ---- what a plan says
 

@@ -1,5 +1,6 @@
 -- What a judgement's answer is to hold so that it can be sealed.
 use Rattle.std.specs.Prelude.{◌≤◌, length}
+use Rattle.ebl_base.specs.declared.limits.TheConstants.{MAX_DOCUMENTS}
 use Rattle.bill_diary.specs.Texts.{AreCompact}
 use Rattle.transfer_judge.specs.declared.judgement.Judgement.{Judgement}
 use Rattle.transfer_judge.specs.declared.judgement.Judgement.TheVariants.{Declined, Parts, Missing}
@@ -8,5 +9,5 @@ use Rattle.transfer_judge.specs.declared.judgement.Judgement.TheVariants.{Declin
 abbrev pub CanBeSealed : Judgement → Type 0
 CanBeSealed (Declined code reason evidence) = AreCompact evidence
 CanBeSealed (Parts evidence) = AreCompact evidence
-CanBeSealed (Missing checksums) = length checksums ≤ 16
+CanBeSealed (Missing checksums) = length checksums ≤ MAX_DOCUMENTS
 CanBeSealed judgement = Unit {0}

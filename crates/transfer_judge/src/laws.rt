@@ -1,5 +1,6 @@
 //! Laws of legal diaries and of judgements. Each function does nothing: its contract is the law.
 ghost use Rattle.std.specs.Prelude.{◌≡◌, ◌≤◌, ℕ, List, [], ◌∷◌, ◌++◌, length};
+ghost use Rattle.ebl_base.specs.declared.limits.TheConstants.{MAX_DOCUMENTS};
 ghost use Rattle.signed_envelope.specs.KeyRing.{Keys};
 ghost use Rattle.party_roster.specs.RosterRecord.{RosterRecord};
 ghost use Rattle.bill_diary.specs.declared.record.Record.TheVariants.{Signed, Begun};
@@ -71,6 +72,6 @@ pub fn begun_changes_no_judgement()
 pub fn what_is_judged_can_be_sealed()
     ensures { (roster : RosterRecord) (me : PlatformCode) (bill : Checksum) (diary : List Frame)
         → (chain : List ChainLink) (manifest : Manifest)
-        → IsSound me diary → LinksAreTheirTexts chain → length manifest.documents ≤ 16
+        → IsSound me diary → LinksAreTheirTexts chain → length manifest.documents ≤ MAX_DOCUMENTS
         → CanBeSealed (judgement_of roster me bill (newest_first diary) chain manifest) }
 {}

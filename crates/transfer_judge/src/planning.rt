@@ -1,5 +1,6 @@
 //! Planning: what a party's command comes to, by a diary.
 ghost use Rattle.std.specs.Prelude.{◌≡◌, ◌+◌, ◌≤◌, ◌<◌, IsTrue, IfOk, IfErr, Ok, count_by, length, nat_le};
+ghost use Rattle.ebl_base.specs.declared.limits.TheConstants.{MAX_DOCUMENT_SIZE, MAX_DOCUMENTS_SIZE};
 ghost use Rattle.canonical_json.specs.View.{view};
 ghost use Rattle.envelope_manifest.specs.Manifest.{total_size};
 ghost use Rattle.bill_chain.specs.Chain.{last_name};
@@ -388,7 +389,7 @@ fn plan_bytes(
     media: &CharList,
     bytes: &ByteList,
 ) -> Result<Planned, PlanRefusal>
-    requires { length bytes.now ≤ 2097152 }
+    requires { length bytes.now ≤ MAX_DOCUMENT_SIZE }
     ensures ok { IfOk result (λ planned.
         plan_bytes bill pieces.now name.now media.now bytes.now ≡ Ok planned) }
     ensures err { IfErr result (IsRefusal (plan_bytes bill pieces.now name.now media.now bytes.now)) }
@@ -425,8 +426,8 @@ fn lists(pieces: &[Piece], checksum: Checksum) -> bool
 
 // Whether a document of this size fits beside others.
 fn fits_beside(pieces: &[Piece], size: u32) -> bool
-    requires { size ≤ 2097152 }
-    ensures { result ≡ nat_le (total_size pieces.now + size) 4194304 }
+    requires { size ≤ MAX_DOCUMENT_SIZE }
+    ensures { result ≡ nat_le (total_size pieces.now + size) MAX_DOCUMENTS_SIZE }
 {
     let mut room = MAX_DOCUMENTS_SIZE - size;
     for piece in pieces {
