@@ -1,5 +1,6 @@
 -- Answers to other platforms: what they are about, how a refusal is said, and when a reply is one, sealed.
 use Rattle.std.specs.Prelude.{◌≡◌, ◌≤◌, ℕ, Bool, false, List, [], Option, Some, None, length}
+use Rattle.ebl_base.specs.declared.limits.TheConstants.{MAX_SEALED_RESPONSE}
 use Rattle.ebl_base.specs.Reason.{code_for}
 use Rattle.ebl_base.specs.Reference.{reference_of}
 use Rattle.ebl_base.specs.declared.checksum.Checksum.{Checksum}
@@ -68,4 +69,4 @@ pub record IsAnswer (keys : Keys) (me : PlatformCode) (response : Response) (rep
   pub reply_is : reply ≡ Answer response (record { 0 = text })
   pub signature : Signature
   pub composed : IsComposed keys text me (response_value response) signature
-  pub fits : length text ≤ 65536
+  pub fits : length text ≤ MAX_SEALED_RESPONSE

@@ -1,6 +1,7 @@
 -- What a party's command comes to, by its plan: a refusal; nothing, or one record, that is done; or an entry that is
 -- signed, written as Parted, and started.
 use Rattle.std.specs.Prelude.{◌≡◌, ◌≤◌, List, [], ◌∷◌, ◌++◌, Some, None, Ok, Err, length}
+use Rattle.ebl_base.specs.declared.limits.TheConstants.{MAX_SIGNED_TEXT}
 use Rattle.ebl_base.specs.declared.chain.ChainLink.{ChainLink}
 use Rattle.ebl_base.specs.declared.checksum.Checksum.{Checksum}
 use Rattle.ebl_base.specs.declared.entry.Entry.{Entry}
@@ -60,7 +61,7 @@ pub record IsSignedEntry (keys : Keys) (me : PlatformCode) (entry : Entry) (link
   pub name_is : link.name ≡ checksum_of link.text.0
   pub signature : Signature
   pub composed : IsComposed keys link.text.0 me (entry_value entry) signature
-  pub fits : length link.text.0 ≤ 16384
+  pub fits : length link.text.0 ≤ MAX_SIGNED_TEXT
 
 -- the manifest of a bill, its last entry's name and its documents
 abbrev pub manifest_for : Checksum → Checksum → List Piece → Manifest
@@ -70,7 +71,7 @@ manifest_for bill last documents = record { bill = bill; last = last; documents 
 pub record IsSignedManifest (keys : Keys) (me : PlatformCode) (manifest : Manifest) (text : SignedText) : Type 0 where
   pub signature : Signature
   pub composed : IsComposed keys text.0 me (manifest_value manifest) signature
-  pub fits : length text.0 ≤ 16384
+  pub fits : length text.0 ≤ MAX_SIGNED_TEXT
 
 -- the bill is held, and the start of its known chain with the link is sent to the platform
 pub record SendsStartWith (bill : Checksum) (h : List Record) (link : ChainLink) (manifest_text : SignedText)

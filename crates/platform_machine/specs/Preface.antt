@@ -1,6 +1,7 @@
 -- What a body shows before any diary is looked at, or the first thing that is wrong with it: its form, the document,
 -- the chain, the manifest's signature, the manifest's form, the manifest's names.
 use Rattle.std.specs.Prelude.{◌≡◌, ◌≢◌, ◌⊎◌, ◌≤◌, ◌-◌, ℕ, List, Option, Some, None, Ok, Err, length, option_map, slice_get}
+use Rattle.ebl_base.specs.declared.limits.TheConstants.{MAX_SIGNED_TEXT}
 use Rattle.ebl_base.specs.declared.chain.ChainLink.{ChainLink}
 use Rattle.ebl_base.specs.declared.checksum.Checksum.{Checksum}
 use Rattle.ebl_base.specs.declared.reason.Reason.{Reason}
@@ -39,7 +40,7 @@ AreNames bill end manifest = (manifest.bill ≡ bill) × (manifest.last ≡ end.
 pub record Manifests (keys : Keys) (bill : Checksum) (end : ChainLink) (text : SignedText) (manifest : Manifest)
     : Type 0 where
   pub payload : Value
-  pub signed : IsSigned keys 16384 text.0 end.entry.platform payload
+  pub signed : IsSigned keys MAX_SIGNED_TEXT text.0 end.entry.platform payload
   pub manifest_is : manifest_of payload ≡ Ok manifest
   pub form : IsManifest manifest
   pub names : AreNames bill end manifest
@@ -47,18 +48,18 @@ pub record Manifests (keys : Keys) (bill : Checksum) (end : ChainLink) (text : S
 -- it isn't signed by that platform
 abbrev pub IsUnsigned : Keys → ChainLink → SignedText → Type 0
 IsUnsigned keys end text =
-    (why : BadSigned) × (why ≢ bad.NoMemory) × envelope.IsRefused keys 16384 (Some end.entry.platform) text.0 why
+    (why : BadSigned) × (why ≢ bad.NoMemory) × envelope.IsRefused keys MAX_SIGNED_TEXT (Some end.entry.platform) text.0 why
 
 -- it is, and its payload is no manifest
 abbrev pub IsOtherForm : Keys → ChainLink → SignedText → Type 0
 IsOtherForm keys end text =
-    (payload : Value) × (field : ManifestField) × IsSigned keys 16384 text.0 end.entry.platform payload
+    (payload : Value) × (field : ManifestField) × IsSigned keys MAX_SIGNED_TEXT text.0 end.entry.platform payload
     × (manifest_of payload ≡ Err field)
 
 -- it is a manifest, of another bill or entry
 abbrev pub NamesOthers : Keys → Checksum → ChainLink → SignedText → Type 0
 NamesOthers keys bill end text =
-    (payload : Value) × (manifest : Manifest) × IsSigned keys 16384 text.0 end.entry.platform payload
+    (payload : Value) × (manifest : Manifest) × IsSigned keys MAX_SIGNED_TEXT text.0 end.entry.platform payload
     × (manifest_of payload ≡ Ok manifest) × ¬ AreNames bill end manifest
 
 -- the first of these that applies

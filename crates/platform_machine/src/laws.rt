@@ -1,5 +1,6 @@
 //! Laws of the machine. Each function does nothing: its contract is the law.
 ghost use Rattle.std.specs.Prelude.{◌≡◌, ◌≤◌, ℕ, List, [], ◌∷◌, ◌++◌, Some, None, true, false};
+ghost use Rattle.ebl_base.specs.declared.limits.TheConstants.{MAX_CHAIN_ENTRIES};
 ghost use Rattle.canonical_json.specs.Value.{Value};
 ghost use Rattle.holder_commands.specs.Command.{CommandRecord};
 ghost use Rattle.signed_envelope.specs.KeyRing.{Keys};
@@ -53,9 +54,9 @@ pub fn judgements_have_answers_that_can_be_sealed()
 /// The known chain of a bill has at most 64 entries in a sound diary, and still where one record more is written.
 pub fn known_chains_have_at_most_64_entries()
     ensures now { (me : PlatformCode) (diary : List Frame) (bill : Checksum) → IsSound me diary
-        → entries_at (place_of (history bill diary)) ≤ 64 }
+        → entries_at (place_of (history bill diary)) ≤ MAX_CHAIN_ENTRIES }
     ensures then { (me : PlatformCode) (diary : List Frame) (bill : Checksum) (r : Record) → IsSound me diary
-        → entries_at (place_of (history bill (diary ++ One r ∷ []))) ≤ 64 }
+        → entries_at (place_of (history bill (diary ++ One r ∷ []))) ≤ MAX_CHAIN_ENTRIES }
 {}
 
 /// In a sound diary a bill that is parting has its transfer under way: its last Parted is of the entry, which moves
