@@ -1,5 +1,6 @@
 //! What a party's command comes to.
 ghost use Rattle.std.specs.Prelude.{◌≡◌, ◌≢◌, ◌≤◌, List, [], Err, Some, IfOk, length};
+ghost use Rattle.ebl_base.specs.declared.limits.TheConstants.{MAX_SIGNED_TEXT};
 ghost use Rattle.ebl_base.specs.Faults.{Rose};
 ghost use Rattle.chain_entry.specs.Form.{IsEntry};
 ghost use Rattle.envelope_manifest.specs.Manifest.{AreDocuments, IsManifest};
@@ -254,7 +255,7 @@ fn signed<G: KeyRing>(
     requires short { length (canon (view payload.now)) ≤ 9000 }
     ensures ok { IfOk result (λ text.
         (s : Signature) × IsComposed (G.keys ring.old) text.0 me (view payload.now) s) }
-    ensures fits { IfOk result (λ text. length text.0 ≤ 16384) }
+    ensures fits { IfOk result (λ text. length text.0 ≤ MAX_SIGNED_TEXT) }
     ensures sign { result ≡ Err Sign → Rose (G.faults ring.old) (G.faults ring.new) }
     ensures later { G.faults ring.old ≤ G.faults ring.new }
     ensures same { G.keys ring.new ≡ G.keys ring.old }
