@@ -1,5 +1,6 @@
 -- Honest texts: what comes from outside has no text that a platform of the roster signed and hasn't sent.
 use Rattle.std.specs.Prelude.{◌≡◌, ◌⊎◌, ℕ, true, List}
+use Rattle.ebl_base.specs.declared.limits.TheConstants.{MAX_SEALED_RESPONSE, MAX_SIGNED_TEXT}
 use Rattle.canonical_json.specs.Value.{Value}
 use Rattle.ebl_base.specs.declared.platform_code.PlatformCode.{PlatformCode}
 use Rattle.ebl_base.specs.declared.signed_text.SignedText.{SignedText}
@@ -40,11 +41,11 @@ WasSentAsReply sent bytes = (from : PlatformCode) × IsAmong (sent_reply from by
 abbrev pub IsHonestBody : RosterRecord → Rings → List Sent → List ℕ → Type 0
 IsHonestBody roster rings sent body =
     (parts : BodyRecord) → ReadsAs body parts → (text : SignedText) → IsAmong text parts.chain
-    → IsSignedByListed roster rings 16384 text.0 → WasSentInChain sent text
+    → IsSignedByListed roster rings MAX_SIGNED_TEXT text.0 → WasSentInChain sent text
 
 -- a foreign reply is honest: if a platform of the roster signed it, then it was sent as a reply
 abbrev pub IsHonestReply : RosterRecord → Rings → List Sent → List ℕ → Type 0
-IsHonestReply roster rings sent bytes = IsSignedByListed roster rings 65536 bytes → WasSentAsReply sent bytes
+IsHonestReply roster rings sent bytes = IsSignedByListed roster rings MAX_SEALED_RESPONSE bytes → WasSentAsReply sent bytes
 
 -- what a request brings was sent, or it is honest; a document, a finish and a command bring no text that is signed
 abbrev pub Comes : RosterRecord → Rings → List Sent → RequestRecord → Type 0
