@@ -1,5 +1,6 @@
 -- What was sent, as code keeps it and as runs see it.
 use Rattle.std.specs.Prelude.{◌≡◌, ℕ, Bool, false, List, bytes_eq}
+use Rattle.ebl_base.specs.declared.limits.TheConstants.{MAX_SIGNED_TEXT}
 use Rattle.ebl_base.specs.declared.platform_code.PlatformCode.{PlatformCode}
 use Rattle.ebl_base.specs.declared.signed_text.SignedText.{SignedText}
 use Rattle.signed_envelope.specs.KeyRing.{Keys}
@@ -29,7 +30,7 @@ HasInChain (sent_reply from bytes) text = ⊥
 -- each of the texts that a platform of the roster signed was sent in a chain
 abbrev pub AreHonest : RosterRecord → Keys → List Sent → List SignedText → Type 0
 AreHonest roster keys sent texts =
-    (text : SignedText) → IsAmong text texts → IsSignedByListed roster (one_ring keys) 16384 text.0
+    (text : SignedText) → IsAmong text texts → IsSignedByListed roster (one_ring keys) MAX_SIGNED_TEXT text.0
     → WasSentInChain sent text
 
 -- what was sent is a reply with these bytes

@@ -1,5 +1,6 @@
 //! Whether a body or a reply that comes from outside is honest.
 ghost use Rattle.std.specs.Prelude.{◌≡◌, ◌≢◌, ◌↔◌, false, IfOk, IsTrue, map};
+ghost use Rattle.ebl_base.specs.declared.limits.TheConstants.{MAX_SIGNED_TEXT};
 ghost use Rattle.platform_requests.specs.Request.{request_view};
 ghost use Rattle.signed_envelope.specs.declared.fault.BadSigned.TheVariants as causes;
 ghost use Rattle.run_safety.specs.Honest.{Comes, IsHonestBody, IsHonestReply, IsSignedByListed, WasSentInChain};
@@ -101,7 +102,7 @@ fn is_honest_text<G: KeyRing>(
     text: &SignedText,
 ) -> Result<bool, NoMemory>
     ensures { IfOk result (λ honest. IsTrue honest
-        ↔ (IsSignedByListed roster.now (one_ring (G.keys ring.now)) 16384 text.now.0
+        ↔ (IsSignedByListed roster.now (one_ring (G.keys ring.now)) MAX_SIGNED_TEXT text.now.0
         → WasSentInChain (map sent_view sent.now) text.now)) }
 {
     if is_signed_by_listed(alloc, roster, ring, text.0.as_slice(), MAX_SIGNED_TEXT)? {
