@@ -2,6 +2,8 @@
 use Rattle.std.specs.Prelude.{ℕ, ◌≤◌, nat_le, Bool, true, false, ◌&&◌, List, [], map, length, codes, Option, Some, None, if◌then◌else◌}
 use Rattle.std.specs.List.{list_all}
 use Rattle.std.specs.Str.Parse.{digits_value}
+use Rattle.http_heads.specs.declared.head.TheConstants.{MAX_FIELDS}
+use Rattle.http_heads.specs.declared.fields.TheConstants.{MAX_BODY}
 use Rattle.httparse.specs.Grammar.{RequestHead, ReadsRequest}
 use Rattle.httparse.specs.Spans.{name_and_value}
 use Rattle.http_heads.specs.Fields.{Fields, is_text, values, first_of, has_one, keeps_open, is_length}
@@ -13,7 +15,7 @@ use Rattle.http_heads.specs.declared.plan.Plan.TheVariants.{Refuse, Await}
 
 -- a body of so many bytes, at most 4,194,304
 abbrev pub within : Route → ℕ → Bool → Plan
-within route n keeps = if nat_le n 4194304 then Await route n keeps else Refuse PayloadTooLarge
+within route n keeps = if nat_le n MAX_BODY then Await route n keeps else Refuse PayloadTooLarge
 
 -- by the lengths that are stated, which are texts: the first of them, and all
 abbrev pub sized : Route → Bool → Option (List ℕ) → List (List ℕ) → Plan
@@ -35,7 +37,7 @@ plan method target minor fields =
 
 -- the piece is a whole head with at most 64 fields
 abbrev pub IsHead : List ℕ → RequestHead → Type 0
-IsHead piece h = ReadsRequest piece h [] × (length h.fields ≤ 64)
+IsHead piece h = ReadsRequest piece h [] × (length h.fields ≤ MAX_FIELDS)
 
 -- what a piece up to its first empty line asks for: as its head says, or 400 where it is no head
 pub data IsPlan (piece : List ℕ) : Plan → Type 0 where
@@ -46,4 +48,4 @@ pub data IsPlan (piece : List ℕ) : Plan → Type 0 where
 -- a body that is awaited has at most 4,194,304 bytes
 abbrev pub IsBounded : Plan → Type 0
 IsBounded (Refuse status) = Unit {0}
-IsBounded (Await route n keeps) = n ≤ 4194304
+IsBounded (Await route n keeps) = n ≤ MAX_BODY

@@ -1,6 +1,7 @@
 -- Where the head of a request ends: behind the first empty line after a line that isn't empty. A line ends in LF; it is
 -- empty where nothing or one CR stands before that.
 use Rattle.std.specs.Prelude.{ℕ, ◌+◌, ◌==◌, List, [], ◌∷◌, take, if◌then◌else◌, Result, Ok, Err}
+use Rattle.http_heads.specs.declared.scan.TheConstants.{MAX_HEAD}
 use Rattle.http_heads.specs.declared.scan.Scan.{Scan}
 use Rattle.http_heads.specs.declared.scan.Scan.TheVariants.{Blank, BlankReturn, Text, Start, Return, End}
 
@@ -28,4 +29,4 @@ scan n s (b ∷ bytes) = scan_on (n + 1) (step s b) (scan (n + 1) (step s b) byt
 
 -- a head has at most 16,384 bytes
 abbrev pub head_end : List ℕ → Result ℕ Scan
-head_end b = scan 0 Blank (take 16384 b)
+head_end b = scan 0 Blank (take MAX_HEAD b)
