@@ -1,5 +1,6 @@
 -- What stands at the front of a byte list, and how a whole list is cut into requests.
 use Rattle.std.specs.Prelude.{◌≡◌, ◌≢◌, ℕ, nat_le, Bool, List, [], ◌∷◌, length, take, drop, if◌then◌else◌, Option, Some, None, Result, Ok, Err, MatchBool, slice_range}
+use Rattle.http_heads.specs.declared.scan.TheConstants.{MAX_HEAD}
 use Rattle.http_heads.specs.declared.scan.Scan.{Scan}
 use Rattle.http_heads.specs.declared.status.Status.{Status}
 use Rattle.http_heads.specs.declared.status.Status.TheVariants.{BadRequest}
@@ -39,7 +40,7 @@ next_by (Await route n keeps) after =
 -- where the head ends; without an end within 16,384 bytes there is no head
 abbrev pub OnHead : Result ℕ Scan → List ℕ → Next → Type 0
 OnHead (Ok n) b next = (p : Plan) × IsPlan (take n b) p × (next ≡ next_by p (drop n b))
-OnHead (Err s) b next = next ≡ (if nat_le 16384 (length b) then refused BadRequest else short)
+OnHead (Err s) b next = next ≡ (if nat_le MAX_HEAD (length b) then refused BadRequest else short)
 
 -- what stands at the front of the list
 abbrev pub IsNext : List ℕ → Next → Type 0

@@ -1,6 +1,7 @@
 -- What reading into the buffer does.
 use Rattle.std.specs.Prelude.{◌≡◌, ◌≢◌, ◌⊎◌, ℕ, ◌<◌, ◌≤◌, List, [], ◌++◌, length, Option, Some, None, Result, Ok, Err}
 use Rattle.std.specs.Io.KnownBytes.{Consumes, IsAtEnd}
+use Rattle.http_heads.specs.declared.scan.TheConstants.{MAX_HEAD}
 use Rattle.http_heads.specs.Scan.{head_end}
 use Rattle.http_heads.specs.declared.scan.Scan.{Scan}
 use Rattle.http_requests.specs.Next.{IsNext, short}
@@ -42,7 +43,7 @@ IsStop NoMemory buffer left = Unit {0}
 -- a head of this length, or none within 16,384 bytes
 abbrev pub HeadFound : Option ℕ → List ℕ → Type 0
 HeadFound (Some n) buffer = (head_end buffer ≡ Ok n) × (n ≤ length buffer)
-HeadFound None buffer = ((s : Scan) × (head_end buffer ≡ Err s)) × (16384 ≤ length buffer)
+HeadFound None buffer = ((s : Scan) × (head_end buffer ≡ Err s)) × (MAX_HEAD ≤ length buffer)
 
 -- fewer bytes than that came
 abbrev pub LacksBytes : LinkEnd → ℕ → List ℕ → Option (List ℕ) → Type 0

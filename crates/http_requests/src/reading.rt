@@ -1,6 +1,7 @@
 //! A link read until a whole request stands in the buffer.
 ghost use Rattle.std.specs.Prelude.{◌≡◌, ◌≢◌, ◌++◌, ◌+◌, ◌-◌, ◌<◌, ◌≤◌, ◌↔◌, ◌⊎◌, IsTrue, IsFalse, List, ℕ, Ok, Err, [], Some, None, length, drop, take, IfOk, OnOk, IfErr, OnErr, IsErrOf, vec_len};
 ghost use Rattle.std.specs.Io.KnownBytes.{Consumes, IsAtEnd};
+ghost use Rattle.http_heads.specs.declared.scan.TheConstants.{MAX_HEAD};
 ghost use Rattle.ebl_base.specs.Faults.{Rose};
 ghost use Rattle.http_heads.specs.Scan.{head_end, scan};
 ghost use Rattle.http_heads.specs.declared.scan.Scan.TheVariants.{Blank};
@@ -86,7 +87,7 @@ fn end_before(buffer: &[u8]) -> LinkEnd
 fn scan_on(state: Scan, seen: usize, buffer: &[u8]) -> Result<usize, Scan>
     requires scanned { scan 0 Blank (take seen buffer.now) ≡ Err state }
     requires seen { seen ≤ length buffer.now }
-    requires short { seen ≤ 16384 }
+    requires short { seen ≤ MAX_HEAD }
     ensures { result ≡ head_end buffer.now }
 {
     let until = buffer.len().min(MAX_HEAD);
