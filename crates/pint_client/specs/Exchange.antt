@@ -1,6 +1,7 @@
 -- What one exchange writes and reads.
 use Rattle.std.specs.Prelude.{◌≡◌, ◌⊎◌, ℕ, ◌≤◌, List, [], length, Option, Result, Ok, Err}
 use Rattle.std.specs.Io.KnownBytes.{Appends, Consumes, IsAtEnd}
+use Rattle.pint_client.specs.declared.receiving.TheConstants.{MAX_HEAD}
 use Rattle.ebl_edge.specs.Sink.{AppendsFirst}
 use Rattle.pint_client.specs.declared.client_fault.ClientFault.{ClientFault}
 use Rattle.pint_client.specs.declared.client_fault.ClientFault.TheVariants.{Fault, BadReply, NoMemory}
@@ -25,7 +26,7 @@ IsAnswerTo came (Err NoMemory) = Unit {0}
 -- within the first 16,384 bytes; no reply can come, or the input ended before one; a fault came before a whole reply
 abbrev pub Decides : Result Incoming ClientFault → List ℕ → Option (List ℕ) → Type 0
 Decides (Ok incoming) read left =
-    (after : List ℕ) × IsReply read incoming.status incoming.body after × ((length read ≤ 16384) ⊎ (after ≡ []))
+    (after : List ℕ) × IsReply read incoming.status incoming.body after × ((length read ≤ MAX_HEAD) ⊎ (after ≡ []))
 Decides (Err BadReply) read left = NeverHasReply read ⊎ (HasNoReply read × IsAtEnd left)
 Decides (Err Fault) read left = HasNoReply read
 Decides (Err NoMemory) read left = Unit {0}
