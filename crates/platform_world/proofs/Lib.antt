@@ -4,6 +4,7 @@ mod Shards
 mod Taken
 mod Writable
 mod MessageNumbers
+mod SignedNumbers
 mod Asked
 mod Listed
 mod Attempts

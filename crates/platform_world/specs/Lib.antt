@@ -5,5 +5,6 @@ pub mod Happening
 pub mod Step
 pub mod Script
 pub mod Run
+pub mod Signed
 pub mod State
 pub mod Standing

@@ -12,6 +12,7 @@ mod platforms;
 mod saying;
 mod script;
 mod shard;
+mod signed_bills;
 #[cfg(test)]
 mod tests;
 mod world;

@@ -1,9 +1,10 @@
 //! Numbers of messages and bills.
-ghost use Rattle.std.specs.Prelude.{◌≡◌, ◌<◌, ◌≤◌, ◌^◌, IfOk, length};
-ghost use Rattle.platform_world.specs.Run.{number_from, number_shown, numbers_sent};
+ghost use Rattle.std.specs.Prelude.{◌≡◌, ◌<◌, ◌≤◌, ◌^◌, IfOk};
+ghost use Rattle.platform_world.specs.Run.{number_shown, numbers_sent};
 
+use crate::signed_bills::SignedBills;
 use answer_lines::Answer;
-use ebl_base::{Checksum, NoMemory};
+use ebl_base::NoMemory;
 use platform_requests::Reply;
 use std::alloc::Global;
 
@@ -25,28 +26,11 @@ pub(crate) fn numbers_sent(alloc: Global, before: usize, after: usize) -> Result
 }
 
 /// The number of the bill that an answer shows, among those that were signed.
-///
-/// It looks through the bills that were signed.
-pub(crate) fn number_shown(signed: &[Checksum], answer: &Answer) -> Option<u64>
-    requires { length signed.now < 2 ^ 63 }
+pub(crate) fn number_shown(signed: &SignedBills, answer: &Answer) -> Option<u64>
     ensures { result ≡ number_shown signed.now answer.now }
 {
     match answer {
-        Answer::Replied(Reply::Done(view)) => number_of(signed, view.bill),
+        Answer::Replied(Reply::Done(view)) => signed.number_of(view.bill),
         _ => None,
     }
-}
-
-fn number_of(signed: &[Checksum], bill: Checksum) -> Option<u64>
-    requires { length signed.now < 2 ^ 63 }
-    ensures { result ≡ number_from 1 bill signed.now }
-{
-    let mut i = 0;
-    while i < signed.len() {
-        if signed[i] == bill {
-            return Some(1 + i as u64);
-        }
-        i += 1;
-    }
-    None
 }

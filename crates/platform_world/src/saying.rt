@@ -1,11 +1,12 @@
 //! The line of an event, and what it sends and signs.
-ghost use Rattle.std.specs.Prelude.{◌≡◌, ◌++◌, ◌<◌, ◌≤◌, ◌^◌, IfOk, IfSome, OnErr, OnOk, length};
+ghost use Rattle.std.specs.Prelude.{◌≡◌, ◌++◌, ◌<◌, ◌≤◌, ◌^◌, IfOk, IfSome, OnErr, OnOk};
 ghost use Rattle.std.specs.Option.{option_to_list};
 ghost use Rattle.answer_lines.specs.Lines.{IsWritable, answer_line};
 ghost use Rattle.document_checksum.specs.Digest.{IsChecksum};
 ghost use Rattle.platform_world.specs.Run.{number_shown, numbers_sent};
 
 use crate::numbers::{number_shown, numbers_sent};
+use crate::signed_bills::SignedBills;
 use answer_lines::{Answer, Parcel, answer_line};
 use ebl_base::{ByteList, Checksum, NoMemory};
 use std::alloc::Global;
@@ -17,13 +18,12 @@ pub(crate) fn line_of(
     n: u64,
     before: usize,
     after: usize,
-    signed: &[Checksum],
+    signed: &SignedBills,
     answer: &Answer,
 ) -> Result<ByteList, NoMemory>
     requires writable { IsWritable answer.now }
     requires sent { before ≤ after }
     requires few { after < 2 ^ 63 }
-    requires signed { length signed.now < 2 ^ 63 }
     ensures { IfOk result (λ line. line
         ≡ answer_line n (numbers_sent before after) (number_shown signed.now answer.now) answer.now) }
 {
@@ -43,9 +43,9 @@ pub(crate) fn send(sent: &mut Vec<Parcel>, parcels: Vec<Parcel>) -> Result<(), N
 }
 
 /// Puts a bill behind those that were signed, if there is one. Out of memory, nothing changes.
-pub(crate) fn sign(signed: &mut Vec<Checksum>, bill: Option<Checksum>) -> Result<(), NoMemory>
-    ensures ok { OnOk result (signed.new.items ≡ signed.old.items ++ option_to_list bill) }
-    ensures err { OnErr result (signed.new.items ≡ signed.old.items) }
+pub(crate) fn sign(signed: &mut SignedBills, bill: Option<Checksum>) -> Result<(), NoMemory>
+    ensures ok { OnOk result (signed.new ≡ signed.old ++ option_to_list bill) }
+    ensures err { OnErr result (signed.new ≡ signed.old) }
     ensures form { IfSome bill IsChecksum }
 {
     match bill {

@@ -23,6 +23,7 @@ use crate::machine::Machine;
 use crate::parcels::{ReplyPath, parcels_of};
 use crate::platforms::Platforms;
 use crate::saying::{line_of, send, sign};
+use crate::signed_bills::SignedBills;
 use answer_lines::{Answer, Parcel};
 use bill_lines::{Standing, bill_line, bill_standing};
 use ebl_base::{ByteList, Checksum, Moment, NoMemory};
@@ -38,7 +39,7 @@ use world_script::Event;
 pub struct World<M: Machine> {
     platforms: Platforms<M>,
     sent: Vec<Parcel>,
-    signed: Vec<Checksum>,
+    signed: SignedBills,
     events: u64,
 }
 
@@ -50,14 +51,14 @@ impl<M: Machine> Model for World<M> {
     ghost view = { λ s. record {
       platforms = s.platforms;
       sent = s.sent.items;
-      signed = s.signed.items;
+      signed = s.signed;
       events = s.events;
     } };
 
     ghost invariant = { λ s. IsReached (world_of M.seen (record {
       platforms = s.platforms;
       sent = s.sent.items;
-      signed = s.signed.items;
+      signed = s.signed;
       events = s.events;
     })) s.events };
 }
@@ -76,7 +77,7 @@ impl<M: Machine> World<M> {
         World {
             platforms,
             sent: Vec::new(alloc),
-            signed: Vec::new(alloc),
+            signed: SignedBills::new(alloc),
             events: 0,
         }
     }
@@ -168,7 +169,7 @@ impl<M: Machine> World<M> {
             self.events,
             before,
             self.sent.len(),
-            self.signed.as_slice(),
+            &self.signed,
             &answer,
         )
     }

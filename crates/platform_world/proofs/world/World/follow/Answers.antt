@@ -19,9 +19,9 @@ invariant_of-self-in_err-sign-in_default g c =
     (record {
       platforms = c.self.inside.platforms;
       sent = c.self.inside.sent.items;
-      signed = c.self.inside.signed.items;
+      signed = c.self.inside.signed;
       events = c.self.inside.events;
-    })) c.self.inside.events c.send.new.sent.items parcels c.sign.new.signed.items c.self.invariant between
+    })) c.self.inside.events c.send.new.sent.items parcels c.sign.new.signed c.self.invariant between
     c.in_ok-send-in_default.ensures.ok c.in_err-sign-in_default.ensures.err
 
 pub invariant_of-self-in_default : goal.invariant_of-self-in_default
@@ -38,8 +38,8 @@ invariant_of-self-in_default g c =
     (record {
       platforms = c.self.inside.platforms;
       sent = c.self.inside.sent.items;
-      signed = c.self.inside.signed.items;
+      signed = c.self.inside.signed;
       events = c.self.inside.events;
-    })) c.self.inside.events c.send.new.sent.items parcels c.sign.new.signed.items c.bill_by-bill.result
+    })) c.self.inside.events c.send.new.sent.items parcels c.sign.new.signed c.bill_by-bill.result
     c.self.invariant between c.in_ok-sign-in_default.ensures.form c.in_ok-send-in_default.ensures.ok
     c.in_ok-sign-in_default.ensures.ok

@@ -9,9 +9,9 @@ invariant_of-result g c =
     (record {
       platforms = c.args.platforms;
       sent = c.new.result.items;
-      signed = c.new-2.result.items;
+      signed = c.new-2.result;
       events = 0;
-    }) c.requires.fresh c.new.ensures.items c.new-2.ensures.items refl
+    }) c.requires.fresh c.new.ensures.items c.new-2.ensures refl
 
 pub returns-clause-opening : goal.returns-clause-opening
 returns-clause-opening g c =
@@ -19,6 +19,6 @@ returns-clause-opening g c =
     (record {
       platforms = c.args.platforms;
       sent = c.new.result.items;
-      signed = c.new-2.result.items;
+      signed = c.new-2.result;
       events = 0;
-    }) c.requires.fresh c.new.ensures.items c.new-2.ensures.items
+    }) c.requires.fresh c.new.ensures.items c.new-2.ensures

@@ -23,8 +23,8 @@ returns-clause-whole g c =
     let before = world_of g.M.Machine.seen c.args.self.now in
     let after = world_of g.M.Machine.seen c.take.new.self in
     let answer = c.in_ok-answer.answer in
-    let signed_is : c.as_slice.result.now ≡ c.take.new.self.signed =
-    c.as_slice.ensures.value ∙ ap (λ (w : WorldState _). w.signed) c.self-2.view_is in
+    let signed_is : c.self-2.inside.signed ≡ c.take.new.self.signed =
+    ap (λ (w : WorldState _). w.signed) c.self-2.view_is in
     let sent_before : c.len-before.result ≡ length c.self.inside.sent.items =
     grind (arith, c.len-before.ensures, c.self.inside.sent.ok) in
     let before_is : c.len-before.result ≡ length c.args.self.now.sent =
@@ -37,17 +37,17 @@ returns-clause-whole g c =
     ap (λ (w : WorldState _). w.events) c.self-2.view_is ∙ c.in_ok-answer.ensures.events in
     IfOk-weaker c.line_of.result
     (λ line. line ≡ answer_line c.self-2.inside.events (numbers_sent c.len-before.result c.len.result)
-    (number_shown c.as_slice.result.now answer) answer)
+    (number_shown c.self-2.inside.signed answer) answer)
     (λ line. SomeRose g.M.Machine.faults c.args.self.now.platforms.shards c.take.new.self.platforms.shards
     ⊎ IsAnsweredWhole before n (event_view c.args.event) line after)
     (λ line is. whole_by_line before n (event_view c.args.event) answer line after
     (is
     ∙ ap (λ (k : ℕ). answer_line k (numbers_sent c.len-before.result c.len.result)
-    (number_shown c.as_slice.result.now answer) answer) n_is
-    ∙ ap (λ (k : ℕ). answer_line n (numbers_sent k c.len.result) (number_shown c.as_slice.result.now answer) answer)
+    (number_shown c.self-2.inside.signed answer) answer) n_is
+    ∙ ap (λ (k : ℕ). answer_line n (numbers_sent k c.len.result) (number_shown c.self-2.inside.signed answer) answer)
     before_is
     ∙ ap (λ (k : ℕ). answer_line n (numbers_sent (length c.args.self.now.sent) k)
-    (number_shown c.as_slice.result.now answer) answer) after_is
+    (number_shown c.self-2.inside.signed answer) answer) after_is
     ∙ ap (λ (names : List Checksum). answer_line n
     (numbers_sent (length c.args.self.now.sent) (length c.take.new.self.sent)) (number_shown names answer) answer)
     signed_is)

@@ -16,7 +16,7 @@ ask-requires-clause-may g c =
     (asking_view c.in-Asked.asking)
     (ap (λ (w : WorldState _). comes_to w.signed w.sent (event_view c.args.event)) (sym c.self.view_is)
     ∙ ap (λ (xs : List Checksum). comes_to xs c.self.inside.sent.items (event_view c.args.event))
-    (sym c.as_slice.ensures.value)
+    (sym c.as_slice.ensures)
     ∙ ap (λ (xs : List Parcel). comes_to c.as_slice.result.now xs (event_view c.args.event))
     (sym c.as_slice-2.ensures.value)
     ∙ sym c.in_ok-answer.ensures ∙ ap happening_view c.in-Asked.is)
@@ -28,7 +28,7 @@ returns-in-Answered-clause-ok g c =
     let comes : h ≡ answers c.in-Answered.answer =
     (ap (λ (w : WorldState _). comes_to w.signed w.sent (event_view c.args.event)) (sym c.self.view_is)
     ∙ ap (λ (xs : List Checksum). comes_to xs c.self.inside.sent.items (event_view c.args.event))
-    (sym c.as_slice.ensures.value)
+    (sym c.as_slice.ensures)
     ∙ ap (λ (xs : List Parcel). comes_to c.as_slice.result.now xs (event_view c.args.event))
     (sym c.as_slice-2.ensures.value)
     ∙ sym c.in_ok-answer.ensures ∙ ap happening_view c.in-Answered.is) in
@@ -40,7 +40,7 @@ returns-in-Answered-clause-ok g c =
     (record {
       platforms = c.self.inside.platforms;
       sent = c.self.inside.sent.items;
-      signed = c.self.inside.signed.items;
+      signed = c.self.inside.signed;
       events = c.self.inside.events;
     })) =
     subst (λ (v : WorldState _). HasHappenedWhole w h c.in-Answered.answer (world_of g.M.Machine.seen v))
@@ -54,7 +54,7 @@ returns-in-Answered-clause-whole g c =
     let comes : h ≡ answers c.in-Answered.answer =
     (ap (λ (w : WorldState _). comes_to w.signed w.sent (event_view c.args.event)) (sym c.self.view_is)
     ∙ ap (λ (xs : List Checksum). comes_to xs c.self.inside.sent.items (event_view c.args.event))
-    (sym c.as_slice.ensures.value)
+    (sym c.as_slice.ensures)
     ∙ ap (λ (xs : List Parcel). comes_to c.as_slice.result.now xs (event_view c.args.event))
     (sym c.as_slice-2.ensures.value)
     ∙ sym c.in_ok-answer.ensures ∙ ap happening_view c.in-Answered.is) in
@@ -66,7 +66,7 @@ returns-in-Answered-clause-whole g c =
     (record {
       platforms = c.self.inside.platforms;
       sent = c.self.inside.sent.items;
-      signed = c.self.inside.signed.items;
+      signed = c.self.inside.signed;
       events = c.self.inside.events;
     })) =
     subst (λ (v : WorldState _). HasHappenedWhole w h c.in-Answered.answer (world_of g.M.Machine.seen v))
