@@ -48,7 +48,8 @@ pub record Manifests (keys : Keys) (bill : Checksum) (end : ChainLink) (text : S
 -- it isn't signed by that platform
 abbrev pub IsUnsigned : Keys → ChainLink → SignedText → Type 0
 IsUnsigned keys end text =
-    (why : BadSigned) × (why ≢ bad.NoMemory) × envelope.IsRefused keys MAX_SIGNED_TEXT (Some end.entry.platform) text.0 why
+    (why : BadSigned) × (why ≢ bad.NoMemory)
+    × envelope.IsRefused keys MAX_SIGNED_TEXT (Some end.entry.platform) text.0 why
 
 -- it is, and its payload is no manifest
 abbrev pub IsOtherForm : Keys → ChainLink → SignedText → Type 0
