@@ -45,7 +45,8 @@ IsHonestBody roster rings sent body =
 
 -- a foreign reply is honest: if a platform of the roster signed it, then it was sent as a reply
 abbrev pub IsHonestReply : RosterRecord → Rings → List Sent → List ℕ → Type 0
-IsHonestReply roster rings sent bytes = IsSignedByListed roster rings MAX_SEALED_RESPONSE bytes → WasSentAsReply sent bytes
+IsHonestReply roster rings sent bytes =
+    IsSignedByListed roster rings MAX_SEALED_RESPONSE bytes → WasSentAsReply sent bytes
 
 -- what a request brings was sent, or it is honest; a document, a finish and a command bring no text that is signed
 abbrev pub Comes : RosterRecord → Rings → List Sent → RequestRecord → Type 0
