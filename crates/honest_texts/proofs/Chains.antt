@@ -1,5 +1,5 @@
 -- Texts that were sent in a chain, and honest texts.
-use Rattle.std.proofs.Common.{◌≡◌, ◌⊎◌, inl, inr, ℕ, Bool, true, List, [], ◌∷◌, refl, sym, ap, subst, ◌∙◌, Decides}
+use Rattle.std.proofs.Common.{◌≡◌, inl, inr, ℕ, Bool, true, List, [], ◌∷◌, refl, sym, ap, subst, ◌∙◌, Decides}
 use Rattle.std.specs.Prelude.{bytes_eq}
 use Rattle.std.proofs.lemmas.Bool.Decides.{Decides-like}
 use Rattle.std.proofs.lemmas.Slice.Eq.{bytes_eq-Decides}
@@ -23,16 +23,6 @@ pub sent_with : (s : Sent) (sent : List Sent) (text : SignedText) → IsAmong s 
 sent_with (sent_start from body) sent text among has =
     record { from = from; body = body; among = among; parts = has.0; reads = has.1; has = has.2 }
 sent_with (sent_reply from bytes) sent text among has = absurd has
-
--- what was sent stands in the first chain, or was sent later
-pub first_or_later : (s : Sent) (sent : List Sent) (text : SignedText) → WasSentInChain (s ∷ sent) text
-    → HasInChain s text ⊎ WasSentInChain sent text
-first_or_later s sent text w = on_among w.among
-  where
-    on_among : IsAmong (sent_start w.from w.body) (s ∷ sent) → HasInChain s text ⊎ WasSentInChain sent text
-    on_among (inl same) = inl (subst (λ (x : Sent). HasInChain x text) (sym same) (w.parts, w.reads, w.has))
-    on_among (inr later) = inr
-        (record { from = w.from; body = w.body; among = later; parts = w.parts; reads = w.reads; has = w.has })
 
 -- two texts are one where their bytes are
 pub same_text-Decides : (text other : SignedText) → Decides (same_text text other) (other ≡ text)
