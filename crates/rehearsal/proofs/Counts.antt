@@ -1,5 +1,5 @@
 -- Counts of words, and sums over bill lines.
-use Rattle.std.proofs.Common.{◌≡◌, ◌<◌, ◌-◌, ℕ, zero, suc, ◌+◌, Bool, List, [], ◌∷◌, ◌++◌, get_or, length, map, min, take, refl, sym, ◌∙◌, ap, arith, append-nil}
+use Rattle.std.proofs.Common.{◌≡◌, ◌<◌, ◌-◌, ℕ, ◌+◌, Bool, List, [], ◌∷◌, ◌++◌, get_or, length, map, min, take, refl, sym, ◌∙◌, ap, arith, append-nil}
 use Rattle.std.specs.Prelude.{codes, fold, sum_by, ◌||◌}
 use Rattle.std.specs.List.{flat_map, list_any}
 use Rattle.std.proofs.lemmas.Grind.{flat_map-append}
@@ -13,11 +13,6 @@ use Rattle.bill_lines.specs.declared.standing.Standing.{Standing}
 use Rattle.platform_world.specs.Standing.{standing_in}
 use Rattle.platform_world.specs.World.{WorldRecord}
 use Rattle.rehearsal.specs.Summary.{counted, entries_in, forks_in, replies_of, summary_members, times, totals_members}
-
--- a word that came
-pub counted_some : (word : List ℕ) (n : ℕ) → 0 < n → counted word n ≡ (word, capped_value n) ∷ []
-counted_some word zero some = absurd (omega arith)
-counted_some word (suc n) some = refl
 
 -- one word more
 pub one_word_more : {X : Type 0} (f : List ℕ → List Entry) (g : X → List ℕ) (xs : List X) (i : ℕ) (d : X)

@@ -1,5 +1,5 @@
 -- The platforms and the parties of the roster have their forms.
-use Rattle.std.proofs.Common.{◌≡◌, ℕ, zero, suc, Bool, true, false, cond, List, [], ◌∷◌, Option, Some, None, Ok, find, length, get_or, refl}
+use Rattle.std.proofs.Common.{◌≡◌, ℕ, zero, suc, Bool, true, false, cond, List, [], ◌∷◌, Option, Some, None, Ok, find, get_or, refl}
 use Rattle.std.specs.Prelude.{unwrap_or}
 use Rattle.ebl_base.specs.Party.{IsParty, party_eq}
 use Rattle.ebl_base.specs.PlatformCode.{IsCode}
@@ -87,16 +87,6 @@ pub actor_made : (p : Option Party) → IsMadeParty (listed_or_carrier p)
 actor_made None = carrier_made
 actor_made (Some p) =
     each_found IsMadeParty (λ q. party_eq q p) made_roster.parties (one alph) parties_made carrier_made
-
--- ---- how many there are
-
-pub six_parties : length made_roster.parties ≡ 6
-unfolding made_roster
-six_parties = refl
-
-pub three_platforms : length made_roster.platforms ≡ 3
-unfolding made_roster
-three_platforms = refl
 
 -- ---- the whole
 
