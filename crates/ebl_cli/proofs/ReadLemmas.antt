@@ -1,6 +1,6 @@
 -- What a command writes of what it read, where the source tells its bytes.
 use Rattle.std.proofs.Common.{◌≡◌, ℕ, Bool, true, List, refl, sym, subst, ◌∙◌}
-use Rattle.std.specs.Prelude.{Option, Some, None, IfSome, option_map}
+use Rattle.std.specs.Prelude.{Option, Some, None, IfSome}
 use Rattle.signed_envelope.specs.KeyRing.{Keys}
 use Rattle.ebl_cli.specs.declared.command.Command.{Command}
 use Rattle.ebl_cli.specs.declared.command.Command.TheVariants.{Drive, Canon, Rehearse}
@@ -31,10 +31,3 @@ drive_reads named Drive is driven = refl
 drive_reads named Canon is driven = refl
 drive_reads named (Rehearse seed bills steps) is driven =
     let no : Some (Rehearse seed bills steps) ≡ Some Drive = is ∙ driven in cc no
-
--- whether the command that is named reads it
-pub names_reader : (named : Option Command) (command : Command) (b : Bool) → Some command ≡ named
-    → option_map reads_source named ≡ Some b → reads_source command ≡ b
-names_reader named command b is reads =
-    let same : Some (reads_source command) ≡ Some b =
-    subst (λ (n : Option Command). option_map reads_source n ≡ Some b) (sym is) reads in cc

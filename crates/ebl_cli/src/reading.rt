@@ -1,7 +1,7 @@
 //! A source, read to its end.
 ghost use Rattle.std.specs.Prelude.{◌≡◌, ◌<◌, ◌≤◌, length, IfOk, IfSome, IsErrOf, vec_len};
 ghost use Rattle.ebl_base.specs.Faults.{Rose};
-ghost use Rattle.ebl_cli.specs.declared.reading.ReadStop.TheVariants.{ReadFault, TooLong};
+ghost use Rattle.ebl_cli.specs.declared.reading.ReadError.TheVariants.{ReadFault, TooLong};
 
 use ebl_edge::Source;
 use std::alloc::{AllocError, Global};
@@ -14,7 +14,7 @@ const PIECE: usize = 65_536;
 
 /// Why a source was not read to its end.
 #[derive(Clone, Copy, Debug, PartialEq, Eq)]
-pub enum ReadStop {
+pub enum ReadError {
     /// The source failed.
     ReadFault,
     /// The source gave more than [`MOST_BYTES`].
@@ -23,19 +23,19 @@ pub enum ReadStop {
     NoMemory,
 }
 
-impl From<AllocError> for ReadStop {
+impl From<AllocError> for ReadError {
     ghost use Rattle.std.specs.Prelude.{◌≡◌};
-    ghost use Rattle.ebl_cli.specs.declared.reading.ReadStop.TheVariants as stops;
+    ghost use Rattle.ebl_cli.specs.declared.reading.ReadError.TheVariants as errors;
 
-    ghost from_gives = { λ _ e. e ≡ stops.NoMemory };
+    ghost from_gives = { λ _ e. e ≡ errors.NoMemory };
 
-    fn from(_: AllocError) -> ReadStop {
-        ReadStop::NoMemory
+    fn from(_: AllocError) -> ReadError {
+        ReadError::NoMemory
     }
 }
 
 /// All the bytes of a source. It stops at the first piece that passes [`MOST_BYTES`].
-pub fn read_all<S: Source>(alloc: Global, source: &mut S) -> Result<Vec<u8>, ReadStop>
+pub fn read_all<S: Source>(alloc: Global, source: &mut S) -> Result<Vec<u8>, ReadError>
     ensures ok { IfOk result (λ bytes. IfSome (S.left source.old) (λ script. bytes.items ≡ script)) }
     ensures fits { IfOk result (λ bytes. vec_len bytes ≤ MOST_BYTES) }
     ensures read_fault { IsErrOf result ReadFault → Rose (S.faults source.old) (S.faults source.new) }
@@ -47,14 +47,14 @@ pub fn read_all<S: Source>(alloc: Global, source: &mut S) -> Result<Vec<u8>, Rea
     loop {
         let count = match source.read(piece.as_mut_slice()) {
             Ok(count) => count,
-            Err(_) => return Err(ReadStop::ReadFault),
+            Err(_) => return Err(ReadError::ReadFault),
         };
         if count == 0 {
             return Ok(bytes);
         }
         bytes.extend_from_slice(&piece[..count])?;
         if bytes.len() > MOST_BYTES {
-            return Err(ReadStop::TooLong);
+            return Err(ReadError::TooLong);
         }
     }
 }

@@ -7,14 +7,14 @@ ghost use Rattle.platform_world.specs.Run.{bill_lines};
 ghost use Rattle.platform_world.specs.State.{world_of};
 ghost use Rattle.platform_world.specs.World.{opening};
 ghost use Rattle.ebl_cli.specs.Command.{IsInRange, command_of, reads_source};
-ghost use Rattle.ebl_cli.specs.declared.reading.ReadStop.TheVariants.{ReadFault, TooLong};
+ghost use Rattle.ebl_cli.specs.declared.reading.ReadError.TheVariants.{ReadFault, TooLong};
 ghost use Rattle.ebl_cli.specs.Drive.{Drives, DrivesRoster, IsLineAnswered, WritesFrom, first_bad, first_bad_line, needed_rings, rings_for};
 ghost use Rattle.ebl_cli.specs.Safe.{WroteSafeRun};
 ghost use Rattle.ebl_cli.specs.Status.{EndsAs, EndsAsLast, Outputs, IsAfterRead, IsBeforeWrite, IsCausedBy, IsCommandEnd};
 
 use crate::canon::canon;
 use crate::command::{Command, command_of};
-use crate::reading::{MOST_BYTES, ReadStop, read_all};
+use crate::reading::{MOST_BYTES, ReadError, read_all};
 use crate::rehearse::rehearse;
 use crate::status::Status;
 use ebl_base::{ByteList, NoMemory, first_part};
@@ -75,15 +75,15 @@ pub fn run_ebl<S: Source, K: Sink, G: KeyRing + Drop>(
     };
     let text = match text_for(alloc, command, source) {
         Ok(text) => text,
-        Err(ReadStop::ReadFault) => return Status::ReadFault,
-        Err(ReadStop::TooLong) => return Status::TooLong,
-        Err(ReadStop::NoMemory) => return Status::NoMemory,
+        Err(ReadError::ReadFault) => return Status::ReadFault,
+        Err(ReadError::TooLong) => return Status::TooLong,
+        Err(ReadError::NoMemory) => return Status::NoMemory,
     };
     run_command(alloc, command, text.as_slice(), sink, rings)
 }
 
 // What a command reads: the whole source, or nothing.
-fn text_for<S: Source>(alloc: Global, command: Command, source: &mut S) -> Result<Vec<u8>, ReadStop>
+fn text_for<S: Source>(alloc: Global, command: Command, source: &mut S) -> Result<Vec<u8>, ReadError>
     ensures ok { IfOk result (λ bytes. reads_source command ≡ true
         → IfSome (S.left source.old) (λ script. bytes.items ≡ script)) }
     ensures fits { IfOk result (λ bytes. vec_len bytes ≤ MOST_BYTES) }
