@@ -9,7 +9,7 @@ help:
 	@echo 'make program               proves and builds the program to deploy, crates/ebl_cli/out/ebl_cli'
 	@echo 'make install [PREFIX=DIR]  proves and builds it, and puts it at DIR/bin/ebl (DIR is $(PREFIX) otherwise)'
 	@echo 'make test                  the gate: every proof, every edit that must fail, every test, the program'\''s runs'
-	@echo 'make lint                  what the gate does not see: names in pages, heads of files, widths'
+	@echo 'make lint                  what the prover does not see: names in pages, heads of files, widths'
 	@echo
 	@echo 'tools/ebl WORD             runs the program with a word of its own (drive, canon, --help, --version), and'
 	@echo '                           ends with its exit; make ends with 2 whenever that is not 0'
@@ -25,9 +25,10 @@ install: program
 	@install -m 755 crates/ebl_cli/out/ebl_cli "$(DESTDIR)$(PREFIX)/bin/ebl"
 	@echo "installed: $(DESTDIR)$(PREFIX)/bin/ebl"
 
-# The gate, and then the program's examples, exits and random scripts, which the gate doesn't run.
+# What the prover doesn't see, the gate, and then the program's examples, exits and random scripts.
 test:
 	@PYTHONPATH=tools python3 -c 'import program; program.need_toolchain()'
+	@tools/lint.py
 	rt ci
 	@test -x crates/ebl_cli/out/ebl_cli || (cd crates/ebl_cli && rt run -- --version > /dev/null)
 	python3 tools/check_program.py
