@@ -16,7 +16,7 @@ pub record Fills (left now_left : Option (List ℕ)) (buffer now_buffer : List �
   pub consumed : Consumes left now_left piece
   pub added : now_buffer ≡ buffer ++ piece
 
--- for want of memory bytes that were read may be lost
+-- out of memory, bytes that were read may be lost
 abbrev pub Added : LinkEnd → List ℕ → List ℕ → Type 0
 Added Closed now all = now ≡ all
 Added Cut now all = now ≡ all
