@@ -13,7 +13,7 @@ use Rattle.ebl_cli.specs.Output.{Output, complete, bad_json, stopped}
 abbrev pub canonical_lines : Value → List ℕ
 canonical_lines v = canon v ++ 10 ∷ [] ++ checksum_text (checksum_of (canon v)) ++ 10 ∷ []
 
--- why a text has no value; want of memory is no reason
+-- why a text has no value; that memory ran out is no reason
 abbrev pub IsRefusal : List ℕ → ReadError → Type 0
 IsRefusal text NoMemory = ⊥
 IsRefusal text fault = IsFault text fault

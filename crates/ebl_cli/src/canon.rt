@@ -14,7 +14,7 @@ use std::alloc::Global;
 
 /// Writes the canonical text of the value that a text is (RFC 8785), and the text's SHA-256 checksum, each in a line.
 ///
-/// `BadJson` exactly where the text has no such value, and then nothing is written.
+/// `BadJson` if and only if the text has no such value; then nothing is written.
 pub fn canon<K: Sink>(alloc: Global, text: &[u8], sink: &mut K) -> Status
     ensures ends { EndsAs result (Canonizes text.now) (K.written sink.old) (K.written sink.new) }
     ensures after_read { IsCommandEnd result }
