@@ -16,7 +16,7 @@ invariant_of-self g c =
     (record {
       platforms = c.self.inside.platforms;
       sent = c.self.inside.sent.items;
-      signed = c.self.inside.signed.items;
+      signed = c.self.inside.signed;
       events = c.self.inside.events;
     }) c.take-out.new.self c.args.asking.at c.in_ok-shard.shard c.moment_or_first-now.result
     (request_view c.args.asking.request) c.take-out.result (is_failure c.take-out.result.reply) c.self.invariant
@@ -27,7 +27,7 @@ returns-clause-ok g c =
     let w : WorldState _ = (record {
       platforms = c.self.inside.platforms;
       sent = c.self.inside.sent.items;
-      signed = c.self.inside.signed.items;
+      signed = c.self.inside.signed;
       events = c.self.inside.events;
     }) in
     let asked =
@@ -35,7 +35,7 @@ returns-clause-ok g c =
     (record {
       platforms = c.take-out.new.self;
       sent = c.self.inside.sent.items;
-      signed = c.self.inside.signed.items;
+      signed = c.self.inside.signed;
       events = c.self.inside.events + 1;
     }) c.follow.new.self (asking_view c.args.asking) c.moment_or_first-now.result c.take-out.result c.in_ok-path.path
     c.is_sign-signing.result c.follow.result c.moment_or_first-now.ensures
@@ -55,7 +55,7 @@ returns-clause-whole g c =
     let w : WorldState _ = (record {
       platforms = c.self.inside.platforms;
       sent = c.self.inside.sent.items;
-      signed = c.self.inside.signed.items;
+      signed = c.self.inside.signed;
       events = c.self.inside.events;
     }) in
     let asked =
@@ -63,7 +63,7 @@ returns-clause-whole g c =
     (record {
       platforms = c.take-out.new.self;
       sent = c.self.inside.sent.items;
-      signed = c.self.inside.signed.items;
+      signed = c.self.inside.signed;
       events = c.self.inside.events + 1;
     }) c.follow.new.self (asking_view c.args.asking) c.moment_or_first-now.result c.take-out.result c.in_ok-path.path
     c.is_sign-signing.result c.follow.result c.moment_or_first-now.ensures
@@ -94,7 +94,7 @@ returns-clause-short g c =
     let w : WorldState _ = (record {
       platforms = c.self.inside.platforms;
       sent = c.self.inside.sent.items;
-      signed = c.self.inside.signed.items;
+      signed = c.self.inside.signed;
       events = c.self.inside.events;
     }) in
     let asked =
@@ -102,7 +102,7 @@ returns-clause-short g c =
     (record {
       platforms = c.take-out.new.self;
       sent = c.self.inside.sent.items;
-      signed = c.self.inside.signed.items;
+      signed = c.self.inside.signed;
       events = c.self.inside.events + 1;
     }) c.follow.new.self (asking_view c.args.asking) c.moment_or_first-now.result c.take-out.result c.in_ok-path.path
     c.is_sign-signing.result c.follow.result c.moment_or_first-now.ensures

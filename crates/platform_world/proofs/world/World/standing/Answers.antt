@@ -21,7 +21,7 @@ returns g c =
     (record {
       platforms = c.self.inside.platforms;
       sent = c.self.inside.sent.items;
-      signed = c.self.inside.signed.items;
+      signed = c.self.inside.signed;
       events = c.self.inside.events;
     }) bill ds s c.in_ok-diaries.ensures.platforms c.in_ok-diaries.ensures.histories
     (is
