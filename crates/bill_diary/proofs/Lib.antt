@@ -1,4 +1,5 @@
 pub mod HistoryLemmas
+pub mod LinkedLemmas
 pub mod PlaceLemmas
 pub mod KnownLemmas
 pub mod KnownChainsLemmas

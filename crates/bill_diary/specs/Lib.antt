@@ -9,4 +9,5 @@ pub mod Texts
 pub mod KnownChains
 pub mod Sound
 pub mod Searches
+pub mod Linked
 pub mod Titles

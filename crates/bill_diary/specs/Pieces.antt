@@ -1,6 +1,6 @@
 -- The additional documents of a bill: those listed for it, and those whose bytes are there.
-use Rattle.std.specs.Prelude.{Bool, false, not, ℕ, List, [], ◌∷◌, ◌++◌, filter, bytes_eq}
-use Rattle.std.specs.List.{list_any}
+use Rattle.std.specs.Prelude.{Bool, false, not, ℕ, List, [], ◌∷◌, ◌++◌, Option, Some, None, filter, bytes_eq}
+use Rattle.std.specs.List.{list_any, filter_map}
 use Rattle.std.specs.Option.{option_map_or}
 use Rattle.ebl_base.specs.Checksum.{checksum_eq}
 use Rattle.ebl_base.specs.declared.checksum.Checksum.{Checksum}
@@ -32,6 +32,16 @@ brings checksum r = false
 -- whether the bytes of this checksum are there for the bill: attached, or stored
 abbrev pub is_there : List Record → Checksum → Bool
 is_there h checksum = list_any (brings checksum) h
+
+-- the checksum of the bytes that a record brought, if it did
+abbrev pub brought_by : Record → Option Checksum
+brought_by (Attached bill piece bytes) = Some piece.checksum
+brought_by (Stored bill entry checksum bytes) = Some checksum
+brought_by r = None
+
+-- the checksums of the bytes that are there for the bill
+abbrev pub brought : List Record → List Checksum
+brought h = filter_map brought_by h
 
 -- whether a record brought these bytes
 abbrev pub brings_bytes : List ℕ → Record → Bool

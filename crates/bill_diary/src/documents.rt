@@ -3,11 +3,11 @@ ghost use Rattle.std.specs.Prelude.{◌≡◌, ◌++◌, IfOk, count_by, map, op
 ghost use Rattle.std.specs.Option.{option_to_list};
 ghost use Rattle.bill_diary.specs.History.{history, record_at};
 ghost use Rattle.bill_diary.specs.Pieces.{pieces_of};
-ghost use Rattle.bill_diary.specs.Searches.{attached_by, kept_in, listed, parts_bill};
+ghost use Rattle.bill_diary.specs.Searches.{attached_by, listed, parts_bill};
 ghost use Rattle.bill_diary.specs.Sound.{is_parted};
 
 use crate::begun::last_begun;
-use crate::frame::{Diary, Frame};
+use crate::frame::Diary;
 use crate::record::Record;
 use crate::record_ref::RecordRef;
 use crate::walk::History;
@@ -77,20 +77,11 @@ pub fn count_parted(d: &Diary, bill: Checksum) -> usize
 {
     let mut count = 0;
     for frame in d.as_slice() {
-        if parts_bill(kept_in(frame), bill) {
+        if parts_bill(frame.kept(), bill) {
             count += 1;
         }
     }
     count
-}
-
-// The record that a frame keeps.
-fn kept_in(frame: &Frame) -> &Record
-    ensures { result.now ≡ kept_in frame.now }
-{
-    match frame {
-        Frame::One(kept) | Frame::BegunTaken(kept) => kept,
-    }
 }
 
 // Whether a record is a Parted of a bill.

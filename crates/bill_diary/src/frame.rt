@@ -1,6 +1,10 @@
 //! Frames and diaries: what a platform writes down, in the order in which it does.
+ghost use Rattle.std.specs.Prelude.{◌≡◌};
+ghost use Rattle.bill_diary.specs.Searches.{kept_in};
+ghost use Rattle.bill_diary.specs.Linked.{bill_in};
+
 use crate::record::Record;
-use ebl_base::{Copied, Items, NoMemory};
+use ebl_base::{Checksum, Copied, Items, NoMemory};
 use std::alloc::Global;
 
 /// What is written down at once.
@@ -10,6 +14,24 @@ pub enum Frame {
     One(Record),
     /// A Begun that is taken. The Taken of the last entry of its chain follows it, and isn't kept apart.
     BegunTaken(Record),
+}
+
+impl Frame {
+    /// The record that is kept.
+    pub(crate) fn kept(&self) -> &Record
+        ensures { result.now ≡ kept_in self.now }
+    {
+        match self {
+            Frame::One(kept) | Frame::BegunTaken(kept) => kept,
+        }
+    }
+
+    /// The bill of its records.
+    pub fn bill(&self) -> Checksum
+        ensures { result ≡ bill_in self.now }
+    {
+        self.kept().bill()
+    }
 }
 
 /// Frames in the order in which they were written.

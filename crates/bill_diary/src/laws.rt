@@ -9,7 +9,8 @@ ghost use Rattle.ebl_base.specs.declared.chain.ChainLink.{ChainLink};
 ghost use Rattle.ebl_base.specs.declared.platform_code.PlatformCode.{PlatformCode};
 ghost use Rattle.ebl_base.specs.declared.transaction.Transaction.{Transaction};
 ghost use Rattle.envelope_manifest.specs.declared.manifest.Manifest.{Manifest};
-ghost use Rattle.upload_state.specs.Piece.{Fits};
+ghost use Rattle.envelope_manifest.specs.Manifest.{are_distinct, checksums_of};
+ghost use Rattle.upload_state.specs.Piece.{Fits, missing_of};
 ghost use Rattle.bill_chain.specs.Chain.{last_of};
 ghost use Rattle.bill_diary.specs.declared.record.Record.{Record};
 ghost use Rattle.bill_diary.specs.declared.record.Record.TheVariants.{Begun};
@@ -23,7 +24,7 @@ ghost use Rattle.bill_diary.specs.Standing.{Stands};
 ghost use Rattle.bill_diary.specs.Growth.{GoesOnIn};
 ghost use Rattle.bill_diary.specs.Sound.{IsSound, IsSoundHistory, MayBegin, MayStore, CameWith, MayFollowDiary, last_with_reference};
 ghost use Rattle.bill_diary.specs.Receiving.{Declination, last_declined};
-ghost use Rattle.bill_diary.specs.Pieces.{are_there};
+ghost use Rattle.bill_diary.specs.Pieces.{are_there, brought, missing_of as missing_by};
 ghost use Rattle.bill_diary.specs.Texts.{LinksAreTheirTexts, IsBodyOf, AreCompact};
 
 /// In a sound diary the known chain of a bill only grows by further frames: the names of its entries stay in front.
@@ -89,6 +90,12 @@ pub fn documents_are_stored_by_their_bytes()
     ensures { (h : List Record) (entry : Checksum) (bytes : List ℕ) (manifest : Manifest) (piece : Piece)
         → CameWith entry manifest h → Contains manifest.documents piece → Fits piece bytes
         → are_there h bytes ≡ false → MayStore h entry piece.checksum bytes }
+{}
+
+/// The documents that a history lacks are those that are missing where the checksums of its bytes are stored.
+pub fn missing_documents_are_those_not_stored()
+    ensures { (manifest : Manifest) (h : List Record) → IsTrue (are_distinct (checksums_of manifest.documents))
+        → missing_by manifest h ≡ missing_of manifest (brought h) }
 {}
 
 /// In a sound history the links of the chain that is known, and the entry that is parting, are their texts.

@@ -6,11 +6,12 @@ mod begun;
 mod bill_place;
 mod documents;
 mod frame;
+mod index;
 mod known;
 mod known_chains;
 mod laws;
 mod links;
-mod look_ups;
+mod lookups;
 mod parting;
 mod record;
 mod record_ref;
@@ -26,6 +27,7 @@ pub use begun::taken_chain;
 pub use bill_place::{BillPlace, place};
 pub use documents::{count_parted, pieces};
 pub use frame::{Diary, Frame};
+pub use index::DiaryIndex;
 pub use known::{known_chain, settled_chain};
 pub use laws::{
     begun_is_fixed_by_its_body, body_has_no_further_member, declined_evidence_is_compact,
@@ -33,9 +35,10 @@ pub use laws::{
     frame_that_may_follow_keeps_a_diary_sound, frames_of_other_bills_change_nothing,
     front_of_sound_diary_is_sound, history_of_sound_diary_is_sound, known_chain_only_grows,
     known_links_are_their_texts, last_begun_with_a_reference_is_the_last_of_its_entry,
-    place_is_what_stands, possessor_acts_where_held_and_not_ended,
+    missing_documents_are_those_not_stored, place_is_what_stands,
+    possessor_acts_where_held_and_not_ended,
 };
-pub use look_ups::{Declination, has_bytes, is_taken, last_declined};
+pub use lookups::{Declination, has_bytes, is_taken, last_declined};
 pub use record::Record;
 pub use record_ref::RecordRef;
 pub use searching::{

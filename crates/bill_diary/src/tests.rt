@@ -1,9 +1,9 @@
 //! Places of bills by short diaries. A number stands for the name of an entry; the texts are empty, since no place
 //! looks at them.
 use crate::{
-    BillPlace, Diary, Frame, History, Record, count_parted, first_bytes, has_bytes, is_taken,
-    known_chain, last_body, last_declined, last_parted_record, last_with_reference, may_act,
-    pieces, place, settled_chain, signed_text, taken_chain, title_at,
+    BillPlace, Diary, DiaryIndex, Frame, History, Record, count_parted, first_bytes, has_bytes,
+    is_taken, known_chain, last_body, last_declined, last_parted_record, last_with_reference,
+    may_act, pieces, place, settled_chain, signed_text, taken_chain, title_at,
 };
 use ebl_base::{
     ByteList, Chain, ChainLink, CharList, Checksum, Code, Copied, Entry, Evidence, Items, Kind,
@@ -337,12 +337,15 @@ fn look_ups(rt: HostRuntime) -> Result<(), Fail> {
 /// entry would tell.
 type ToldEnds = (Option<[u8; 2]>, Option<[u8; 2]>, Option<[u8; 2]>);
 
-fn told(alloc: Global, d: &Diary, n: u8) -> Result<ToldEnds, NoMemory> {
-    let history = History::of(d.as_slice(), BILL);
+fn told(alloc: Global, history: History, n: u8) -> Result<ToldEnds, NoMemory> {
     let taken = taken_chain(history.restart(), name(n)).map(ends);
     let settled = settled_chain(alloc, history.restart(), name(n))?;
     let known = known_chain(alloc, history)?;
     Ok((known.as_ref().map(ends), taken, settled.as_ref().map(ends)))
+}
+
+fn told_by(alloc: Global, d: &Diary, n: u8) -> Result<ToldEnds, NoMemory> {
+    told(alloc, History::of(d.as_slice(), BILL), n)
 }
 
 #[test]
@@ -350,12 +353,38 @@ fn chains_that_a_history_tells(rt: HostRuntime) -> Result<(), Fail> {
     let alloc = rt.alloc();
     let cast = players()?;
     let mut d = Items::new(alloc);
-    assert_eq!(rt; told(alloc, &d, 1)?, (None, None, None));
+    assert_eq!(rt; told_by(alloc, &d, 1)?, (None, None, None));
     d.push(cast.frame(alloc, Step::BegunTaken(1, 2))?)?;
-    assert_eq!(rt; told(alloc, &d, 2)?, (Some([1, 2]), Some([1, 2]), None));
+    assert_eq!(rt; told_by(alloc, &d, 2)?, (Some([1, 2]), Some([1, 2]), None));
     d.push(cast.frame(alloc, Step::Parted(3))?)?;
-    assert_eq!(rt; told(alloc, &d, 3)?, (Some([1, 2]), None, Some([1, 3])));
-    assert_eq!(rt; told(alloc, &d, 4)?, (Some([1, 2]), None, None));
+    assert_eq!(rt; told_by(alloc, &d, 3)?, (Some([1, 2]), None, Some([1, 3])));
+    assert_eq!(rt; told_by(alloc, &d, 4)?, (Some([1, 2]), None, None));
+    Ok(())
+}
+
+// The same by an index, of a diary with a frame of another bill.
+#[test]
+fn chains_that_an_indexed_history_tells(rt: HostRuntime) -> Result<(), Fail> {
+    let alloc = rt.alloc();
+    let cast = players()?;
+    let mut d = Items::new(alloc);
+    d.push(cast.frame(alloc, Step::BegunTaken(1, 2))?)?;
+    d.push(Frame::One(Record::Taken {
+        bill: name(8),
+        entry: name(2),
+    }))?;
+    d.push(cast.frame(alloc, Step::Parted(3))?)?;
+    let index = DiaryIndex::of(alloc, d.as_slice())?;
+    assert_eq!(rt; index.frames().len(), 3);
+    assert_eq!(rt;
+        told(alloc, index.history(BILL), 3)?,
+        (Some([1, 2]), None, Some([1, 3]))
+    );
+    assert_eq!(rt;
+        told(alloc, index.history_in_front(2, BILL), 2)?,
+        (Some([1, 2]), Some([1, 2]), None)
+    );
+    assert_eq!(rt; told(alloc, index.history(name(7)), 2)?, (None, None, None));
     Ok(())
 }
 

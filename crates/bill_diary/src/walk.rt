@@ -1,6 +1,8 @@
 //! The records of a diary, from the newest to the oldest.
-ghost use Rattle.std.specs.Prelude.{◌≡◌, [], ◌∷◌, MatchOption, option_map};
-ghost use Rattle.bill_diary.specs.History.{newest_first, of_bill, history, record_at, taken_after};
+ghost use Rattle.std.specs.Prelude.{◌≡◌, [], ◌∷◌, ◌++◌, ◌≤◌, IfSome, MatchOption, length, option_copied, option_map, reverse, slice_get, take, unwrap_or};
+ghost use Rattle.std.specs.Option.{option_to_list};
+ghost use Rattle.bill_diary.specs.History.{newest_first, history, record_at, records_of, taken_after};
+ghost use Rattle.bill_diary.specs.Linked.{AreLinked};
 
 use crate::frame::Frame;
 use crate::record::Record;
@@ -50,47 +52,36 @@ impl<'a> Newest<'a> {
         }
         let (frame, before) = self.frames.split_last()?;
         self.frames = before;
-        match frame {
-            Frame::One(kept) => Some(RecordRef::Kept(kept)),
-            Frame::BegunTaken(begun) => match taken_after(begun) {
-                Some(taken) => {
-                    self.begun = Some(begun);
-                    Some(taken)
-                }
-                None => Some(RecordRef::Kept(begun)),
-            },
-        }
-    }
-
-    /// What is left of a bill's records.
-    pub fn of_bill(&self, bill: Checksum) -> History<'a>
-        ensures { result ≡ of_bill bill self.now }
-    {
-        History {
-            records: Newest {
-                frames: self.frames,
-                begun: self.begun,
-            },
-            bill,
-        }
+        let (newest, begun) = newest_of(frame);
+        self.begun = begun;
+        Some(newest)
     }
 }
 
 /// What is left of a bill's history, newest first: behind a record that was handed out are those before it.
 #[derive(Drop)]
 pub struct History<'a> {
-    records: Newest<'a>,
+    frames: &'a [Frame],
+    // How many frames there are up to the one before a frame that is of the same bill, for each that is linked.
+    links: &'a [usize],
+    // The Begun of a frame whose Taken was handed out.
+    begun: Option<&'a Record>,
     bill: Checksum,
 }
 
 impl<'a> Model for History<'a> {
     ghost use Rattle.std.specs.Prelude.{List};
+    ghost use Rattle.std.specs.List.{cons_option};
+    ghost use Rattle.std.specs.Option.{option_copied};
     ghost use Rattle.bill_diary.specs.declared.record.Record.{Record};
-    ghost use Rattle.bill_diary.specs.History.{of_bill};
+    ghost use Rattle.bill_diary.specs.History.{history};
+    ghost use Rattle.bill_diary.specs.Linked.{AreLinked};
 
     ghost Value = { List Record };
 
-    ghost view = { λ s. of_bill s.bill s.records };
+    ghost view = { λ s. cons_option (option_copied s.begun) (history s.bill s.frames.now) };
+
+    ghost invariant = { λ s. AreLinked s.frames.now s.links.now };
 }
 
 impl<'a> History<'a> {
@@ -98,8 +89,18 @@ impl<'a> History<'a> {
     pub fn of(frames: &'a [Frame], bill: Checksum) -> Self
         ensures { result ≡ history bill frames.now }
     {
+        History::along(frames, &[], bill)
+    }
+
+    /// The same, where the frames are linked: it goes over those of the bill alone, and over those behind its last.
+    pub(crate) fn along(frames: &'a [Frame], links: &'a [usize], bill: Checksum) -> Self
+        requires { AreLinked frames.now links.now }
+        ensures { result ≡ history bill frames.now }
+    {
         History {
-            records: Newest::of(frames),
+            frames,
+            links,
+            begun: None,
             bill,
         }
     }
@@ -108,10 +109,18 @@ impl<'a> History<'a> {
     pub fn next(&mut self) -> Option<RecordRef<'a>>
         ensures { MatchOption result (self.old ≡ []) (λ r. self.old ≡ record_at r ∷ self.new) }
     {
-        while let Some(record) = self.records.next() {
-            if record.bill() == self.bill {
-                return Some(record);
+        if let Some(kept) = self.begun {
+            self.begun = None;
+            return Some(RecordRef::Kept(kept));
+        }
+        while let Some((frame, before)) = self.frames.split_last() {
+            if frame.bill() == self.bill {
+                let (newest, begun) = newest_of(frame);
+                self.frames = up_to_link(before, self.links);
+                self.begun = begun;
+                return Some(newest);
             }
+            self.frames = before;
         }
         None
     }
@@ -120,7 +129,36 @@ impl<'a> History<'a> {
     pub fn restart(&self) -> History<'a>
         ensures { result ≡ self.now }
     {
-        self.records.of_bill(self.bill)
+        History {
+            frames: self.frames,
+            links: self.links,
+            begun: self.begun,
+            bill: self.bill,
+        }
+    }
+}
+
+// The newest record of a frame, and the Begun before it, if there is one.
+fn newest_of(frame: &Frame) -> (RecordRef<'_>, Option<&Record>)
+    ensures { reverse (records_of frame.now) ≡ record_at result.0 ∷ option_to_list (option_copied result.1) }
+{
+    match frame {
+        Frame::One(kept) => (RecordRef::Kept(kept), None),
+        Frame::BegunTaken(begun) => match taken_after(begun) {
+            Some(taken) => (taken, Some(begun)),
+            None => (RecordRef::Kept(begun), None),
+        },
+    }
+}
+
+// The frames up to the link of the one behind them, where there is one.
+fn up_to_link<'a>(frames: &'a [Frame], links: &[usize]) -> &'a [Frame]
+    requires { IfSome (slice_get links.now (length frames.now)) (λ n. n ≤ length frames.now) }
+    ensures { result.now ≡ take (unwrap_or (slice_get links.now (length frames.now)) (length frames.now)) frames.now }
+{
+    match links.get(frames.len()) {
+        Some(link) => &frames[..*link],
+        None => frames,
     }
 }
 
