@@ -65,6 +65,11 @@ lacking_of at h (records.Regained bill entry) =
     unanswered_of (λ to. is_declined entry (at to)) lacks.Declined (settled_chain entry h)
 lacking_of at h r = []
 
+-- what the newest of some records of a bill needs and lacks, in a family
+abbrev pub newest_lacks : List Member → List Record → List Lacking
+newest_lacks family [] = []
+newest_lacks family (r ∷ before) = lacking_of (histories_of (bill_of r) family) before r
+
 -- what the records of a diary need and lack, from the oldest on
 abbrev pub lacking_in : List Member → List Record → List Lacking
 lacking_in family [] = []

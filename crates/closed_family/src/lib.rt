@@ -2,6 +2,7 @@
 #![tactic(auto)]
 
 mod family;
+mod index;
 mod lacking;
 mod laws;
 mod lookups;

@@ -6,7 +6,7 @@ ghost use Rattle.bill_diary.specs.History.{record_at};
 ghost use Rattle.closed_family.specs.Family.{histories_of, history_in, shard_of};
 ghost use Rattle.closed_family.specs.Lacking.{says};
 
-use crate::family::{Family, Member};
+use crate::index::MemberIndex;
 use crate::verdict::Lack;
 use bill_diary::{History, Record, RecordRef};
 use ebl_base::{Checksum, PlatformCode};
@@ -14,7 +14,7 @@ use ebl_base::{Checksum, PlatformCode};
 /// Whether a platform's diary of the bill has the record that says this of an entry.
 #[tactic(auto, using(crate::proofs::Searches::searches))]
 pub(crate) fn stands(
-    family: &Family,
+    family: &[MemberIndex],
     platform: PlatformCode,
     bill: Checksum,
     what: Lack,
@@ -29,18 +29,21 @@ pub(crate) fn stands(
 }
 
 // The member of a platform.
-fn member_of(family: &Family, platform: PlatformCode) -> Option<&Member>
+fn member_of<'a, 'b>(
+    family: &'b [MemberIndex<'a>],
+    platform: PlatformCode,
+) -> Option<&'b MemberIndex<'a>>
     ensures { option_copied result ≡ find (λ m. code_eq m.platform platform) family.now }
 {
-    family.as_slice().iter().find(|m| m.platform == platform)
+    family.iter().find(|m| m.platform() == platform)
 }
 
 // The same in the diary of the bill's shard.
-fn stands_in(member: &Member, bill: Checksum, what: Lack, entry: Checksum) -> bool
+fn stands_in(member: &MemberIndex, bill: Checksum, what: Lack, entry: Checksum) -> bool
     ensures { result ≡ list_any (says what entry) (history_in bill member.now) }
 {
-    match member.diaries.as_slice().get(shard_of(bill)) {
-        Some(diary) => is_said(History::of(diary.as_slice(), bill), what, entry),
+    match member.diaries().get(shard_of(bill)) {
+        Some(diary) => is_said(diary.history(bill), what, entry),
         None => false,
     }
 }

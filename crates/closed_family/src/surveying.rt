@@ -22,7 +22,8 @@ use std::alloc::Global;
 /// is closed and its texts have distinct names, and then each bill is safe.
 ///
 /// Shared names are found with about n log n comparisons of names for n texts; each text is hashed once, and each body
-/// read once. The search for what is lacking is quadratic in a diary's length.
+/// read once. What is lacking is looked for among the records of one bill at a time, which are found by about n log n
+/// comparisons of bills for n frames; only the records of a single bill may be gone over once for each of them.
 pub fn survey(alloc: Global, family: &Family) -> Result<Verdict, NoMemory>
     ensures verdict { IfOk result (IsVerdict family.now) }
     ensures consistent { IsSoundFamily family.now → IfOk result

@@ -6,7 +6,7 @@ use Rattle.closed_family.specs.declared.family.Member.{Member}
 use Rattle.closed_family.specs.declared.lacking.Lacking.{Lacking}
 use Rattle.closed_family.specs.Lacking.{first_of, lacking_in}
 use Rattle.closed_family.proofs.Lacks.{flat_first}
-use Rattle.closed_family.proofs.lacking.first_lacking.Goals as goal
+use Rattle.closed_family.proofs.lacking.first_in_members.Goals as goal
 
 pub returns-in-Some : goal.returns-in-Some
 returns-in-Some c =
@@ -14,7 +14,7 @@ returns-in-Some c =
     let Of : List (List Frame)
     → List Lacking = λ ds. flat_map (λ (d : List Frame). lacking_in family (newest_first d)) ds in
     sym (c.loop-member.invariant
-    ∙ flat_first (λ (m : Member). Of m.diaries) c.as_slice-member-items.result.now c.loop-member.member-index
+    ∙ flat_first (λ (m : Member). Of m.diaries) family c.loop-member.member-index
     c.member-item.result c.in-Some.found c.loop-member-test.true c.member-item.is
-    (ap (λ (ds : List (List Frame)). first_of (Of ds)) (sym c.as_slice.ensures) ∙ sym c.in_ok-found.ensures
+    (ap (λ (ds : List (List Frame)). first_of (Of ds)) (sym c.diaries.ensures) ∙ sym c.in_ok-found.ensures
     ∙ c.in-Some.is))
