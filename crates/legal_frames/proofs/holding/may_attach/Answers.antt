@@ -1,0 +1,26 @@
+use Rattle.std.proofs.Common.{sym, subst, ◌∙◌}
+use Rattle.upload_state.specs.Piece.{Fits}
+use Rattle.bill_diary.specs.History.{history}
+use Rattle.legal_frames.proofs.TestLemmas.{isnt, never}
+use Rattle.legal_frames.proofs.HoldingLemmas.{attach_acts, attaches}
+use Rattle.legal_frames.proofs.holding.may_attach.Goals as goal
+
+pub returns-then-not-acts : goal.returns-then-not-acts
+returns-then-not-acts c =
+    never (λ x.
+    let acts = attach_acts (history c.args.bill c.args.d.now) c.args.piece.now c.args.bytes.now x in
+    let clash = sym c.if-not-acts.true ∙ c.in_ok-acts.ensures ∙ acts in
+    cc clash)
+
+pub returns-then-not-fits : goal.returns-then-not-fits
+returns-then-not-fits c =
+    never (λ x.
+    isnt c.fits.result c.if-not-fits.true c.fits.ensures
+    (subst (Fits c.args.piece.now) (sym c.as_slice.ensures) x.fits))
+
+pub returns : goal.returns
+returns c =
+    attaches (history c.args.bill c.args.d.now) c.args.piece.now c.args.bytes.now c.in_ok-listed.listed
+    c.has_room.result c.requires (sym c.in_ok-acts.ensures ∙ c.if-not-acts.false)
+    (subst (Fits c.args.piece.now) c.as_slice.ensures (c.fits.ensures.0 c.if-not-fits.false)) c.in_ok-listed.ensures
+    c.has_room.ensures

@@ -1,0 +1,194 @@
+//! Records of a bill that is held or begins: a Signed, an Acted, an Attached.
+ghost use Rattle.std.specs.Prelude.{◌≡◌, ◌+◌, ◌≤◌, ◌↔◌, IfOk, IsTrue, Some, nat_le};
+ghost use Rattle.ebl_base.specs.declared.checksum.Checksum.{Checksum};
+ghost use Rattle.envelope_manifest.specs.Manifest.{total_size};
+ghost use Rattle.envelope_manifest.specs.Piece.{IsPiece};
+ghost use Rattle.party_roster.specs.RosterRecord.{carrier};
+ghost use Rattle.bill_diary.specs.History.{history};
+ghost use Rattle.bill_diary.specs.Pieces.{lists};
+ghost use Rattle.bill_diary.specs.Sound.{MayAct, MayAttach, most_with};
+ghost use Rattle.bill_diary.specs.Texts.{IsDocumentOf};
+ghost use Rattle.chain_entry.specs.Form.{IsTransaction};
+ghost use Rattle.record_bytes.specs.Forms.{IsSigned};
+ghost use Rattle.transfer_judge.specs.Legal.{SignsLegally};
+ghost use Rattle.legal_frames.specs.Rows.{HasRoom, IsSignBy, is_absent, stays_at, stays_on};
+
+use crate::places::is_absent;
+use bill_chain::fold_after_chain;
+use bill_diary::{BillPlace, Diary, may_act as possessor_may_act, pieces, place};
+use canonical_json::read_if_any;
+use ebl_base::{
+    ByteList, Checksum, Kind, MAX_DOCUMENTS, MAX_DOCUMENTS_SIZE, MAX_ENTRY_TRANSACTIONS, NoMemory,
+    Party, PlatformCode, Transaction,
+};
+use envelope_manifest::{Piece, PieceList};
+use party_roster::Roster;
+use std::alloc::Global;
+use title_fold::{FoldRefusal, Title, apply, moves};
+use transport_document::{Document, DocumentFault, document_texts_read_back};
+use upload_state::fits;
+
+// ---- a document is signed
+
+/// Whether a Signed of this bill may follow.
+pub(crate) fn may_sign(
+    alloc: Global,
+    roster: &Roster,
+    me: PlatformCode,
+    d: &Diary,
+    bill: Checksum,
+    document: &ByteList,
+    t: &Transaction,
+) -> Result<bool, NoMemory>
+    requires { IsSigned bill document.now t.now }
+    ensures { IfOk result (λ may. IsTrue may
+        ↔ SignsLegally roster.now me (history bill d.now) bill document.now t.now) }
+{
+    if !is_sign_by(me, t) {
+        return Ok(false);
+    }
+    let place = place(alloc, d, bill)?;
+    if !is_absent(&place) {
+        return Ok(false);
+    }
+    let document = document_of(alloc, document)?;
+    Ok(is_carrier(roster, &document, t.actor))
+}
+
+fn is_sign_by(me: PlatformCode, t: &Transaction) -> bool
+    ensures { IsTrue result ↔ IsSignBy me t.now }
+{
+    t.kind == Kind::Sign && t.recipient.is_none() && t.actor.platform == me
+}
+
+// The document of which this is the text.
+fn document_of(alloc: Global, text: &ByteList) -> Result<Document, NoMemory>
+    requires { (bill : Checksum) × IsDocumentOf bill text.now }
+    ensures { (bill : Checksum) (is : IsDocumentOf bill text.now)
+        → IfOk result (λ document. document ≡ is.document) }
+{
+    document_texts_read_back();
+    let Some(json) = read_if_any(alloc, text.as_slice())? else {
+        unreachable!()
+    };
+    match Document::of_json(alloc, &json) {
+        Ok(document) => Ok(document),
+        Err(DocumentFault::NoMemory) => Err(NoMemory),
+        Err(_) => unreachable!(),
+    }
+}
+
+// Whether a party is the roster's carrier of a document.
+fn is_carrier(roster: &Roster, document: &Document, party: Party) -> bool
+    ensures { IsTrue result ↔ (carrier roster.now document.now.provider document.now.code ≡ Some party) }
+{
+    roster.carrier(document.provider(), document.code()) == Some(party)
+}
+
+// ---- a party acts
+
+/// Whether an Acted of this bill may follow.
+pub(crate) fn may_act(
+    alloc: Global,
+    d: &Diary,
+    bill: Checksum,
+    t: &Transaction,
+) -> Result<bool, NoMemory>
+    requires { IsTransaction t.now }
+    ensures { IfOk result (λ may. IsTrue may ↔ MayAct (history bill d.now) t.now) }
+{
+    let place = place(alloc, d, bill)?;
+    Ok(stays_at(&place, t))
+}
+
+fn stays_at(place: &BillPlace, t: &Transaction) -> bool
+    ensures { result ≡ stays_at t.now place.now }
+{
+    match place {
+        BillPlace::Held { known, since } => stays_on(
+            fold_after_chain(known.as_slice(), since.as_slice()),
+            since.len(),
+            t,
+        ),
+        _ => false,
+    }
+}
+
+// Whether a transaction is taken after so many since the known chain, and stays.
+fn stays_on(title: Result<Option<Title>, FoldRefusal>, made: usize, t: &Transaction) -> bool
+    ensures { result ≡ stays_on made t.now title }
+{
+    let Ok(before) = title else { return false };
+    let Ok(after) = apply(before, t) else {
+        return false
+    };
+    !moves(before, after) && made < most_with(t.kind)
+}
+
+// How many transactions may be made since the known chain, with one of this kind that stays.
+fn most_with(kind: Kind) -> usize
+    ensures { result ≡ most_with kind }
+{
+    match kind {
+        Kind::SurrenderAccepted => MAX_ENTRY_TRANSACTIONS,
+        Kind::SurrenderForDelivery | Kind::SurrenderForAmendment => MAX_ENTRY_TRANSACTIONS - 2,
+        _ => MAX_ENTRY_TRANSACTIONS - 1,
+    }
+}
+
+// ---- a document is attached
+
+/// Whether an Attached of this bill may follow.
+pub(crate) fn may_attach(
+    alloc: Global,
+    d: &Diary,
+    bill: Checksum,
+    piece: &Piece,
+    bytes: &ByteList,
+) -> Result<bool, NoMemory>
+    requires { IsPiece piece.now }
+    ensures { IfOk result (λ may. IsTrue may ↔ MayAttach (history bill d.now) piece.now bytes.now) }
+{
+    let acts = possessor_may_act(alloc, d, bill)?;
+    if !acts {
+        return Ok(false);
+    }
+    if !fits(piece, bytes.as_slice()) {
+        return Ok(false);
+    }
+    let listed = pieces(alloc, d, bill)?;
+    Ok(has_room(&listed, piece))
+}
+
+// Whether a document is new beside others, and within the limits with them.
+fn has_room(listed: &PieceList, piece: &Piece) -> bool
+    requires { piece.now.size ≤ 2097152 }
+    ensures { IsTrue result ↔ HasRoom listed.now piece.now }
+{
+    let listed = listed.as_slice();
+    !lists(listed, piece.checksum)
+        && listed.len() < MAX_DOCUMENTS
+        && fits_beside(listed, piece.size)
+}
+
+// Whether a document with this checksum is among some that are listed.
+fn lists(listed: &[Piece], checksum: Checksum) -> bool
+    ensures { result ≡ lists listed.now checksum }
+{
+    listed.iter().any(|piece| piece.checksum == checksum)
+}
+
+// Whether a document of this size fits beside others.
+fn fits_beside(listed: &[Piece], size: u32) -> bool
+    requires { size ≤ 2097152 }
+    ensures { result ≡ nat_le (total_size listed.now + size) 4194304 }
+{
+    let mut room = MAX_DOCUMENTS_SIZE - size;
+    for piece in listed {
+        if room < piece.size {
+            return false;
+        }
+        room -= piece.size;
+    }
+    true
+}

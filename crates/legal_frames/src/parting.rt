@@ -1,0 +1,216 @@
+//! Records of a bill that is parted with: a Parted, a Settled, a Regained.
+ghost use Rattle.std.specs.Prelude.{◌≡◌, ◌≢◌, ◌+◌, ◌++◌, ◌∷◌, [], ◌↔◌, IfNone, IfOk, IfSome, IsTrue};
+ghost use Rattle.ebl_base.specs.declared.transaction.Transaction.{Transaction};
+ghost use Rattle.bill_chain.specs.Chain.{last_name};
+ghost use Rattle.bill_diary.specs.History.{history};
+ghost use Rattle.bill_diary.specs.Sound.{IsParting};
+ghost use Rattle.record_bytes.specs.Forms.{IsParted};
+ghost use Rattle.transfer_judge.specs.Legal.{PartsLegally};
+ghost use Rattle.legal_frames.specs.Rows.{IsNextAt, IsNextEntry, MovesOut, is_parting_with, leaves_on};
+
+use crate::envelope::{is_manifest_by, is_signed_by};
+use crate::places::is_parting_with;
+use bill_chain::{fold_after_chain, last_link};
+use bill_diary::{BillPlace, Diary, PartedRef, count_parted, pieces, place};
+use ebl_base::{
+    Chain, Checksum, Entry, MAX_CHAIN_ENTRIES, MAX_ENTRY_TRANSACTIONS, NoMemory, PlatformCode,
+    Transaction, TransactionList,
+};
+use envelope_manifest::{Manifest, Piece, PieceList};
+use party_roster::Roster;
+use signed_envelope::KeyRing;
+use std::alloc::Global;
+use title_fold::{FoldRefusal, Title, apply, moves, possessor};
+
+// ---- an entry is sent
+
+/// Whether a Parted may follow.
+pub(crate) fn may_part<G: KeyRing>(
+    alloc: Global,
+    roster: &Roster,
+    ring: &G,
+    me: PlatformCode,
+    d: &Diary,
+    parted: PartedRef<'_>,
+) -> Result<bool, NoMemory>
+    requires { IsParted parted.bill parted.link.now parted.manifest.now parted.manifest_text.now }
+    ensures { IfOk result (λ may. IsTrue may ↔ PartsLegally roster.now (G.keys ring.now) me
+        (history parted.entry.bill d.now) parted.entry.bill parted.entry.link.now parted.entry.manifest.now
+        parted.entry.manifest_text.now) }
+{
+    let place = place(alloc, d, parted.bill)?;
+    let attempts = count_parted(d, parted.bill);
+    if !is_next_at(
+        roster,
+        me,
+        parted.bill,
+        attempts,
+        &parted.link.entry,
+        &place,
+    ) {
+        return Ok(false);
+    }
+    let listed = pieces(alloc, d, parted.bill)?;
+    if !are_listed(parted.manifest, &listed) {
+        return Ok(false);
+    }
+    let signed = is_signed_by(alloc, ring, me, &parted.link.text)?;
+    if !signed {
+        return Ok(false);
+    }
+    is_manifest_by(
+        alloc,
+        ring,
+        me,
+        parted.bill,
+        parted.link.name,
+        parted.manifest,
+        parted.manifest_text,
+    )
+}
+
+fn is_next_at(
+    roster: &Roster,
+    me: PlatformCode,
+    bill: Checksum,
+    parted: usize,
+    entry: &Entry,
+    place: &BillPlace,
+) -> bool
+    ensures { IsTrue result ↔ IsNextAt roster.now me bill parted entry.now place.now }
+{
+    match place {
+        BillPlace::Held { known, since } => is_next(me, bill, parted, known, entry)
+            && moves_out(roster, known, since, entry.transactions.as_slice()),
+        _ => false,
+    }
+}
+
+// Whether an entry is the next attempt after a known chain.
+fn is_next(me: PlatformCode, bill: Checksum, parted: usize, known: &Chain, entry: &Entry) -> bool
+    ensures { IsTrue result ↔ IsNextEntry me bill parted known.now entry.now }
+{
+    known.len() < MAX_CHAIN_ENTRIES
+        && entry.platform == me
+        && entry.bill == bill
+        && entry.previous == last_name(known)
+        && parted.checked_add(1) == Some(entry.attempt as usize)
+        && entry.transactions.len() <= MAX_ENTRY_TRANSACTIONS
+}
+
+fn last_name(known: &Chain) -> Option<Checksum>
+    ensures { result ≡ last_name known.now }
+{
+    match last_link(known.as_slice()) {
+        Some(link) => Some(link.name),
+        None => None,
+    }
+}
+
+// Whether transactions are those made since a known chain and one more, which moves to a listed platform.
+fn moves_out(
+    roster: &Roster,
+    known: &Chain,
+    since: &TransactionList,
+    transactions: &[Transaction],
+) -> bool
+    ensures { IsTrue result ↔ MovesOut roster.now known.now since.now transactions.now }
+{
+    let Some(last) = one_more(since.as_slice(), transactions) else {
+        return false;
+    };
+    leaves_on(
+        roster,
+        fold_after_chain(known.as_slice(), since.as_slice()),
+        &last,
+    )
+}
+
+// The transaction that stands behind others.
+fn one_more(since: &[Transaction], transactions: &[Transaction]) -> Option<Transaction>
+    ensures found { IfSome result (λ last. transactions.now ≡ since.now ++ last ∷ []) }
+    ensures none { IfNone result ((last : Transaction) → transactions.now ≢ since.now ++ last ∷ []) }
+{
+    let mut rest = transactions;
+    for t in since {
+        let [other, behind @ ..] = rest else {
+            return None;
+        };
+        if !is_same_transaction(t, other) {
+            return None;
+        }
+        rest = behind;
+    }
+    match rest {
+        [last] => Some(*last),
+        _ => None,
+    }
+}
+
+fn is_same_transaction(t: &Transaction, other: &Transaction) -> bool
+    ensures { IsTrue result ↔ (t.now ≡ other.now) }
+{
+    t.kind == other.kind
+        && t.actor == other.actor
+        && t.recipient == other.recipient
+        && t.time == other.time
+}
+
+// Whether a transaction is taken on a title, and moves to a listed platform.
+fn leaves_on(roster: &Roster, title: Result<Option<Title>, FoldRefusal>, t: &Transaction) -> bool
+    ensures { result ≡ leaves_on roster.now t.now title }
+{
+    let Ok(before) = title else { return false };
+    let Ok(after) = apply(before, t) else {
+        return false
+    };
+    moves(before, after) && roster.has_platform(possessor(after).platform)
+}
+
+// Whether a manifest lists these documents.
+fn are_listed(manifest: &Manifest, listed: &PieceList) -> bool
+    ensures { IsTrue result ↔ (manifest.now.documents ≡ listed.now) }
+{
+    are_same(manifest.documents.as_slice(), listed.as_slice())
+}
+
+// Whether two lists of documents are one.
+fn are_same(listed: &[Piece], others: &[Piece]) -> bool
+    ensures { IsTrue result ↔ (listed.now ≡ others.now) }
+{
+    let mut rest = others;
+    for piece in listed {
+        let [other, behind @ ..] = rest else {
+            return false;
+        };
+        if !is_same(piece, other) {
+            return false;
+        }
+        rest = behind;
+    }
+    rest.is_empty()
+}
+
+fn is_same(piece: &Piece, other: &Piece) -> bool
+    ensures { IsTrue result ↔ (piece.now ≡ other.now) }
+{
+    piece.size == other.size
+        && piece.checksum == other.checksum
+        && piece.name.as_str() == other.name.as_str()
+        && piece.media.as_str() == other.media.as_str()
+}
+
+// ---- how it ends
+
+/// Whether a Settled or a Regained of this entry may follow.
+pub(crate) fn may_end(
+    alloc: Global,
+    d: &Diary,
+    bill: Checksum,
+    entry: Checksum,
+) -> Result<bool, NoMemory>
+    ensures { IfOk result (λ may. IsTrue may ↔ IsParting (history bill d.now) entry) }
+{
+    let place = place(alloc, d, bill)?;
+    Ok(is_parting_with(entry, &place))
+}
