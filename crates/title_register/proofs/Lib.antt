@@ -1,2 +1,7 @@
+mod ChangeLemmas
 mod RegisterLemmas
+mod StateLemmas
+mod FrameLemmas
+mod RoomLemmas
+mod LookUpLemmas
 mod AddLemmas

@@ -1,4 +1,4 @@
--- Standings among bills, and what one frame more does to a history.
+-- What is kept among bills, and what one frame more does to a history.
 use Rattle.std.proofs.Common.{◌≡◌, Bool, true, false, cond, List, [], ◌∷◌, ◌++◌, Option, Some, None, reverse, refl, sym, ap, ◌∙◌}
 use Rattle.std.specs.Prelude.{ℕ, IfSome, option_map, unwrap_or}
 use Rattle.std.specs.Option.{option_to_list, option_map_or}
@@ -16,12 +16,13 @@ use Rattle.envelope_manifest.specs.declared.manifest.Manifest.{Manifest}
 use Rattle.std.specs.Ordering.{is_eq}
 use Rattle.std.specs.BTreeMap.{BTreeMap, get, Updates}
 use Rattle.std.proofs.lemmas.Map.Text.{is_eq-slice_cmp}
-use Rattle.title_register.specs.declared.standing.Standing.{Standing}
+use Rattle.title_register.specs.declared.bill_state.BillState.{BillState}
+use Rattle.title_register.specs.BillState.{unknown}
 use Rattle.bill_diary.specs.Place.{parting, place_of, place_with, since}
 use Rattle.bill_diary.specs.History.{bill_of, taken_after, records_of, of_bill, history}
 use Rattle.bill_diary.proofs.HistoryLemmas.{history-append}
-use Rattle.title_register.specs.Standing.{left_by, nothing, placed, place_at, standing_of}
-use Rattle.title_register.specs.Register.{bill_in, standing_in}
+use Rattle.title_register.specs.Standing.{left_by, placed, place_at, standing_of}
+use Rattle.title_register.specs.Register.{bill_in, state_in}
 
 -- ---- places
 
@@ -79,12 +80,12 @@ taken_is (Stored bill entry checksum bytes) other test is = tt
 taken_is (Taken bill entry) other test is = tt
 taken_is (Declined bill entry code reason evidence) other test is = tt
 
-own_frame : (frame : Frame) → history (bill_in frame) (frame ∷ []) ≡ reverse (records_of frame)
+pub own_frame : (frame : Frame) → history (bill_in frame) (frame ∷ []) ≡ reverse (records_of frame)
 own_frame (One r) = own_on (bill_of r) r None (same (bill_of r)) tt
 own_frame (BegunTaken r) =
     own_on (bill_of r) r (taken_after r) (same (bill_of r)) (taken_is r (bill_of r) true (same (bill_of r)))
 
-other_frame : (bill : Checksum) (frame : Frame) → checksum_eq (bill_in frame) bill ≡ false
+pub other_frame : (bill : Checksum) (frame : Frame) → checksum_eq (bill_in frame) bill ≡ false
     → history bill (frame ∷ []) ≡ []
 other_frame bill (One r) is = other_on bill r None is tt
 other_frame bill (BegunTaken r) is = other_on bill r (taken_after r) is (taken_is r bill false is)
@@ -102,33 +103,41 @@ pub other_history : (diary : List Frame) (frame : Frame) (bill : Checksum) → c
 other_history diary frame bill is =
     history-append diary (frame ∷ []) bill ∙ ap (λ rs. rs ++ history bill diary) (other_frame bill frame is)
 
+-- what came with a Begun that is taken
+pub begun_received : (bill : Checksum) (chain : List ChainLink) (manifest : Manifest) (body : List ℕ) (link : ChainLink)
+    → (h : List Record) → last_of chain ≡ Some link
+    → last_begun link.name (Begun bill chain manifest body ∷ h)
+    ≡ Some (record { chain = chain; manifest = manifest })
+begun_received bill chain manifest body link h is =
+    ap (λ (b : Bool). cond b (Some (record { chain = chain; manifest = manifest })) (last_begun link.name h))
+    (ap (λ (last : Option ChainLink). option_map_or (λ (l : ChainLink). checksum_eq l.name link.name) last false) is
+    ∙ same link.name)
+
 -- the chain of a Begun that is taken is that of its Taken
 pub begun_taken : (bill : Checksum) (chain : List ChainLink) (manifest : Manifest) (body : List ℕ) (link : ChainLink)
     → (h : List Record) → last_of chain ≡ Some link
     → taken_chain link.name (Begun bill chain manifest body ∷ h) ≡ Some chain
 begun_taken bill chain manifest body link h is =
-    ap (λ (b : Bool). option_map (λ (came : Received). came.chain)
-    (cond b (Some (record { chain = chain; manifest = manifest })) (last_begun link.name h)))
-    (ap (λ (last : Option ChainLink). option_map_or (λ (l : ChainLink). checksum_eq l.name link.name) last false) is
-    ∙ same link.name)
+    ap (λ (came : Option Received). option_map (λ (c : Received). c.chain) came)
+    (begun_received bill chain manifest body link h is)
 
--- ---- standings among bills
+-- ---- what is kept among bills
 
 same_name : (a b : Checksum) → is_eq (checksum_cmp a b) ≡ true → a ≡ b
 same_name a b h = (checksum_eq-Decides a b).0 (sym (is_eq-slice_cmp a.0 b.0) ∙ h)
 
-added_on : (bills : BTreeMap Checksum Standing) (k q : Checksum) (b : Bool) → is_eq (checksum_cmp k q) ≡ b
+added_on : (bills : BTreeMap Checksum BillState) (k q : Checksum) (b : Bool) → is_eq (checksum_cmp k q) ≡ b
     → get checksum_cmp bills k ≡ None
-    → unwrap_or (cond b (Some nothing) (get checksum_cmp bills q)) nothing ≡ standing_in bills q
+    → unwrap_or (cond b (Some unknown) (get checksum_cmp bills q)) unknown ≡ state_in bills q
 added_on bills k q true e absent =
-    ap (λ (o : Option Standing). unwrap_or o nothing) (sym absent ∙ ap (get checksum_cmp bills) (same_name k q e))
+    ap (λ (o : Option BillState). unwrap_or o unknown) (sym absent ∙ ap (get checksum_cmp bills) (same_name k q e))
 added_on bills k q false e absent = refl
 
--- a bill of which there is no record changes no standing
-pub added : (bills new : BTreeMap Checksum Standing) (k q : Checksum) → Updates checksum_cmp bills new k (Some nothing)
-    → get checksum_cmp bills k ≡ None → standing_in new q ≡ standing_in bills q
+-- a bill of which there is no record changes nothing
+pub added : (bills new : BTreeMap Checksum BillState) (k q : Checksum) → Updates checksum_cmp bills new k (Some unknown)
+    → get checksum_cmp bills k ≡ None → state_in new q ≡ state_in bills q
 added bills new k q updates absent =
-    ap (λ (o : Option Standing). unwrap_or o nothing) (updates.0 q)
+    ap (λ (o : Option BillState). unwrap_or o unknown) (updates.0 q)
     ∙ added_on bills k q (is_eq (checksum_cmp k q)) refl absent
 
 pub ruleset places = (place_at-standing_of)

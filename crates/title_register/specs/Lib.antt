@@ -1,2 +1,4 @@
 pub mod Standing
+pub mod BillState
+pub mod Frames
 pub mod Register

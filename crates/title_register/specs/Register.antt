@@ -1,5 +1,5 @@
--- A register: standings by bill that are those of a diary, and the room for one frame more.
-use Rattle.std.specs.Prelude.{◌≡◌, ◌<◌, List, [], ◌∷◌, ◌++◌, Option, Some, IfSome, IsSome, unwrap_or}
+-- A register: what is kept of each bill and each frame is what a diary says, and there may be room for one frame more.
+use Rattle.std.specs.Prelude.{◌≡◌, ◌<◌, true, List, [], ◌∷◌, ◌++◌, Option, Some, IfSome, IsSome, length, unwrap_or}
 use Rattle.std.specs.BTreeMap.{BTreeMap, get}
 use Rattle.std.specs.Global.{Vec}
 use Rattle.std.specs.Vec.{vec_len, vec_capacity}
@@ -8,28 +8,40 @@ use Rattle.ebl_base.specs.declared.checksum.Checksum.{Checksum}
 use Rattle.bill_diary.specs.declared.frame.Frame.{Frame}
 use Rattle.bill_diary.specs.History.{bill_of, history}
 use Rattle.bill_diary.specs.Searches.{kept_in}
-use Rattle.title_register.specs.declared.standing.Standing.{Standing}
+use Rattle.title_register.specs.declared.bill_state.BillState.{BillState}
+use Rattle.title_register.specs.declared.frame_key.FrameKey.{FrameKey}
+use Rattle.title_register.specs.declared.frame_numbers.FrameNumbers.{FrameNumbers}
 use Rattle.title_register.specs.declared.room.Room.{Room}
-use Rattle.title_register.specs.Standing.{nothing, standing_of, standing_with}
+use Rattle.title_register.specs.BillState.{state_of, state_with, unknown}
+use Rattle.title_register.specs.Frames.{has_key, number_in, number_of, with_number}
 
 -- what a register is seen as: its diary, and the room that was taken for one frame more, if any was
 pub record Registered : Type 0 where
   pub diary : List Frame
   pub room : Option Room
 
--- the standing of a bill among some
-abbrev pub standing_in : BTreeMap Checksum Standing → Checksum → Standing
-standing_in bills bill = unwrap_or (get checksum_cmp bills bill) nothing
+-- what is kept of a bill among some
+abbrev pub state_in : BTreeMap Checksum BillState → Checksum → BillState
+state_in bills bill = unwrap_or (get checksum_cmp bills bill) unknown
 
 -- the bill of a frame
 abbrev pub bill_in : Frame → Checksum
 bill_in frame = bill_of (kept_in frame)
 
--- room is one for a frame after a diary: it has the change by which the frame's bill stands as after the frame
+-- whether there is room for a number under a key, if there is a key
+abbrev pub HasRoom : FrameNumbers → Option FrameKey → Type 0
+HasRoom numbers key = IfSome key (λ k. has_key numbers.numbers k ≡ true)
+
+-- room is one for a frame after a diary: it has what changes of the frame's bill, and the keys that get the frame's
+-- number
 pub record IsRoomFor (frame : Frame) (diary : List Frame) (room : Room) : Type 0 where
   pub bill_is : room.bill ≡ bill_in frame
-  pub change_is : standing_with room.change (standing_of (history room.bill diary))
-      ≡ standing_of (history room.bill (diary ++ frame ∷ []))
+  pub change_is : state_with room.change (state_of (history room.bill diary))
+      ≡ state_of (history room.bill (diary ++ frame ∷ []))
+  pub numbers_are : (key : FrameKey)
+      → with_number room.taken (length diary) (with_number room.came (length diary)
+      (with_number room.kept (length diary) (λ k. number_of k diary))) key
+      ≡ number_of key (diary ++ frame ∷ [])
 
 -- room was taken for this frame
 pub record IsReadyFor (frame : Frame) (register : Registered) : Type 0 where
@@ -37,8 +49,14 @@ pub record IsReadyFor (frame : Frame) (register : Registered) : Type 0 where
   pub room_is : register.room ≡ Some room
   pub is_for : IsRoomFor frame register.diary room
 
--- each bill stands as its records in the diary say, and what was taken as room is there
-pub record IsRegister (frames : Vec Frame) (bills : BTreeMap Checksum Standing) (room : Option Room) : Type 0 where
-  pub standings : (bill : Checksum) → standing_in bills bill ≡ standing_of (history bill frames.items)
-  pub key : IfSome room (λ r. IsSome (get checksum_cmp bills r.bill))
+-- what is kept of each bill is what its records in the diary say, under each key is the number of its frame, and what
+-- was taken as room is there
+pub record IsRegister (frames : Vec Frame) (bills : BTreeMap Checksum BillState) (numbers : FrameNumbers)
+    (room : Option Room) : Type 0 where
+  pub states : (bill : Checksum) → state_in bills bill ≡ state_of (history bill frames.items)
+  pub numbers_are : (key : FrameKey) → number_in numbers.numbers key ≡ number_of key frames.items
+  pub bill_room : IfSome room (λ r. IsSome (get checksum_cmp bills r.bill))
+  pub kept_room : IfSome room (λ r. HasRoom numbers r.kept)
+  pub came_room : IfSome room (λ r. HasRoom numbers r.came)
+  pub taken_room : IfSome room (λ r. HasRoom numbers r.taken)
   pub space : IfSome room (λ r. vec_len frames < vec_capacity frames)

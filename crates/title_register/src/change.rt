@@ -252,8 +252,11 @@ fn is_longer(known: &Option<Chain>, chain: &[ChainLink]) -> bool
     }
 }
 
-// The chain that is known after a change.
-fn known_now<'a>(change: &'a Option<Chain>, known: &'a Option<Chain>) -> Option<&'a Chain>
+/// The chain that is known after a change.
+pub(crate) fn known_now<'a>(
+    change: &'a Option<Chain>,
+    known: &'a Option<Chain>,
+) -> Option<&'a Chain>
     ensures { option_copied result ≡ option_or change.now known.now }
 {
     match change {

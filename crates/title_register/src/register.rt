@@ -1,32 +1,44 @@
-//! The register: a diary, and where each of its bills stands.
-#![tactic(auto, using(crate::proofs::RegisterLemmas::places))]
+//! The register: a diary, what is kept of each of its bills, and the numbers of its frames.
+#![tactic(auto, using(crate::proofs::RegisterLemmas::places, crate::proofs::StateLemmas::titles))]
 
-ghost use Rattle.std.specs.Prelude.{◌≡◌, ◌∷◌, [], ◌++◌, None, OnErr, OnOk, IsSome, option_copied, if◌then◌else◌};
+ghost use Rattle.std.specs.Prelude.{◌≡◌, ◌∷◌, [], ◌++◌, None, OnErr, OnOk, IsSome, count_by, is_some, option_and_then, option_copied, if◌then◌else◌};
 ghost use Rattle.std.specs.BTreeMap.{get};
 ghost use Rattle.ebl_base.specs.Checksum.{checksum_cmp, checksum_eq};
 ghost use Rattle.ebl_base.specs.declared.checksum.Checksum.{Checksum};
-ghost use Rattle.bill_diary.specs.History.{history};
+ghost use Rattle.bill_diary.specs.History.{history, newest_first};
 ghost use Rattle.bill_diary.specs.Known.{known};
-ghost use Rattle.bill_diary.specs.Place.{may_act_by, parting, place_of, tag_of};
-ghost use Rattle.title_register.specs.Register.{IsReadyFor, standing_in};
-ghost use Rattle.title_register.specs.Standing.{since_at, standing_with};
+ghost use Rattle.bill_diary.specs.Pieces.{is_there, pieces_of};
+ghost use Rattle.bill_diary.specs.Place.{may_act_by, parting, place_of, tag_of, title_at};
+ghost use Rattle.bill_diary.specs.Receiving.{declines, is_taken, last_declined};
+ghost use Rattle.bill_diary.specs.Searches.{bytes_in, first_bytes, last_body, last_parted_record, signed_text};
+ghost use Rattle.bill_diary.specs.Sound.{has_reference, is_parted, last_with_reference};
+ghost use Rattle.bill_diary.specs.Titles.{unplaced};
+ghost use Rattle.title_register.specs.BillState.{state_with};
+ghost use Rattle.title_register.specs.Frames.{body_begun, brings_to, declination, document_signed, first_number, for_bill, has, is_begun, is_signed, last_number, record_numbered};
+ghost use Rattle.title_register.specs.Register.{IsReadyFor, state_in};
+ghost use Rattle.title_register.specs.Standing.{since_at};
 
+use crate::bill_state::{BillState, StateChange};
+use crate::frame_key::FrameKey;
+use crate::frame_numbers::FrameNumbers;
 use crate::room::{Room, room_for};
-use crate::standing::Standing;
 use bill_diary::Frame;
-use ebl_base::{Chain, ChainLink, Checksum, NoMemory, PlaceTag, Transaction};
+use ebl_base::{Chain, ChainLink, Checksum, NoMemory, PlaceTag, Reference, Transaction};
+use envelope_manifest::Piece;
 use std::alloc::Global;
 use std::collections::BTreeMap;
 use std::marker::Model;
+use title_fold::{FoldRefusal, Title};
 
-/// A diary, and where each of its bills stands. Contracts see the diary, and the room that was taken for one frame
-/// more.
+/// A diary, what is kept of each of its bills, and the numbers of its frames. Contracts see the diary, and the room
+/// that was taken for one frame more.
 ///
-/// A look-up costs one search of an ordered map, and takes no memory.
+/// A look-up costs one search of an ordered map. It allocates nothing, folds nothing, and goes over no record.
 #[derive(Drop)]
 pub struct Register {
     frames: Vec<Frame>,
-    bills: BTreeMap<Checksum, Standing>,
+    bills: BTreeMap<Checksum, BillState>,
+    numbers: FrameNumbers,
     room: Option<Room>,
 }
 
@@ -37,7 +49,7 @@ impl Model for Register {
 
     ghost view = { λ s. record { diary = s.frames.items; room = s.room } };
 
-    ghost invariant = { λ s. IsRegister s.frames s.bills s.room };
+    ghost invariant = { λ s. IsRegister s.frames s.bills s.numbers s.room };
 }
 
 impl Register {
@@ -49,11 +61,13 @@ impl Register {
         Register {
             frames: Vec::new(alloc),
             bills: BTreeMap::new(alloc),
+            numbers: FrameNumbers::new(alloc),
             room: None,
         }
     }
 
-    /// The frames of the diary, in the order in which they were written.
+    /// The frames of the diary, in the order in which they were written. A frame's number is its place among them,
+    /// counted from 0.
     pub fn frames(&self) -> &[Frame]
         ensures { result.now ≡ self.now.diary }
     {
@@ -65,27 +79,38 @@ impl Register {
         ensures { result ≡ tag_of (place_of (history bill self.now.diary)) }
     {
         match self.bills.get(&bill) {
-            Some(standing) => standing.tag(),
+            Some(state) => state.standing.tag(),
             None => PlaceTag::Absent,
         }
     }
 
-    /// Whether the possessor of a bill may act: the bill is held, and its title isn't ended. It folds the known chain.
+    /// Whether the possessor of a bill may act: the bill is held, and its title isn't ended.
     pub fn may_act(&self, bill: Checksum) -> bool
         ensures { result ≡ may_act_by (history bill self.now.diary) }
     {
         match self.bills.get(&bill) {
-            Some(standing) => standing.may_act(),
+            Some(state) => state.may_act(),
             None => false,
         }
     }
 
-    /// The chain of a bill that is known. `None` exactly where the bill is absent.
+    /// The title at the place of a bill. `None` where the bill is absent or nothing was made. Else the rule that
+    /// refuses the first transaction that is refused, which no sound diary has.
+    pub fn title(&self, bill: Checksum) -> Result<Option<Title>, FoldRefusal>
+        ensures { result ≡ unplaced (title_at (place_of (history bill self.now.diary))) }
+    {
+        match self.bills.get(&bill) {
+            Some(state) => state.title,
+            None => Ok(None),
+        }
+    }
+
+    /// The chain of a bill that is known. `None` if and only if the bill is absent.
     pub fn known(&self, bill: Checksum) -> Option<&Chain>
         ensures { option_copied result ≡ known (history bill self.now.diary) }
     {
         match self.bills.get(&bill) {
-            Some(standing) => standing.known.as_ref(),
+            Some(state) => state.standing.known.as_ref(),
             None => None,
         }
     }
@@ -95,7 +120,7 @@ impl Register {
         ensures { option_copied result ≡ parting (history bill self.now.diary) }
     {
         match self.bills.get(&bill) {
-            Some(standing) => standing.parting.as_ref(),
+            Some(state) => state.standing.parting.as_ref(),
             None => None,
         }
     }
@@ -106,29 +131,130 @@ impl Register {
         ensures { result.now ≡ since_at (place_of (history bill self.now.diary)) }
     {
         match self.bills.get(&bill) {
-            Some(standing) => standing.since(),
+            Some(state) => state.standing.since(),
             None => &[],
         }
+    }
+
+    /// The additional documents of a bill: those of the manifest of its last Taken, followed by those attached since,
+    /// in the order in which they were.
+    pub fn pieces(&self, bill: Checksum) -> &[Piece]
+        ensures { result.now ≡ pieces_of (history bill self.now.diary) }
+    {
+        match self.bills.get(&bill) {
+            Some(state) => state.pieces.as_slice(),
+            None => &[],
+        }
+    }
+
+    /// How many Parted of a bill there are.
+    pub fn partings(&self, bill: Checksum) -> usize
+        ensures { result ≡ count_by is_parted (history bill self.now.diary) }
+    {
+        match self.bills.get(&bill) {
+            Some(state) => state.partings,
+            None => 0,
+        }
+    }
+
+    /// The number of the last frame in which a bill was signed, which has the text of its document.
+    #[tactic(auto, using(crate::proofs::LookUpLemmas::look_ups))]
+    pub fn signed(&self, bill: Checksum) -> Option<usize>
+        ensures number { result ≡ last_number (has (for_bill bill is_signed)) self.now.diary }
+        ensures text { option_and_then document_signed (record_numbered self.now.diary result)
+            ≡ signed_text (history bill self.now.diary) }
+    {
+        self.numbers.number(FrameKey::Signed(bill))
+    }
+
+    /// The number of the last frame with a Parted of a bill.
+    #[tactic(auto, using(crate::proofs::LookUpLemmas::look_ups))]
+    pub fn parted(&self, bill: Checksum) -> Option<usize>
+        ensures number { result ≡ last_number (has (for_bill bill is_parted)) self.now.diary }
+        ensures record { record_numbered self.now.diary result
+            ≡ last_parted_record (history bill self.now.diary) }
+    {
+        self.numbers.number(FrameKey::Parted(bill))
+    }
+
+    /// The number of the last frame with a Begun of a bill, which has the body that came last.
+    #[tactic(auto, using(crate::proofs::LookUpLemmas::look_ups))]
+    pub fn came(&self, bill: Checksum) -> Option<usize>
+        ensures number { result ≡ last_number (has (for_bill bill is_begun)) self.now.diary }
+        ensures body { option_and_then body_begun (record_numbered self.now.diary result)
+            ≡ last_body (history bill self.now.diary) }
+    {
+        self.numbers.number(FrameKey::Came(bill))
+    }
+
+    /// The number of the last frame with a Begun, of any bill, whose envelope has this reference.
+    #[tactic(auto, using(crate::proofs::LookUpLemmas::look_ups))]
+    pub fn begun(&self, reference: Reference) -> Option<usize>
+        ensures number { result ≡ last_number (has (has_reference reference)) self.now.diary }
+        ensures record { record_numbered self.now.diary result
+            ≡ last_with_reference reference (newest_first self.now.diary) }
+    {
+        self.numbers.number(FrameKey::Begun(reference))
+    }
+
+    /// Whether the chain that ends in an entry was taken, on any bill.
+    #[tactic(auto, using(crate::proofs::LookUpLemmas::look_ups))]
+    pub fn taken(&self, entry: Checksum) -> bool
+        ensures { result ≡ is_taken entry (newest_first self.now.diary) }
+    {
+        self.numbers.number(FrameKey::Taken(entry)).is_some()
+    }
+
+    /// The number of the last frame in which an entry was declined, on any bill.
+    #[tactic(auto, using(crate::proofs::LookUpLemmas::look_ups))]
+    pub fn declined(&self, entry: Checksum) -> Option<usize>
+        ensures number { result ≡ last_number (has (declines entry)) self.now.diary }
+        ensures record { option_and_then declination (record_numbered self.now.diary result)
+            ≡ last_declined entry (newest_first self.now.diary) }
+    {
+        self.numbers.number(FrameKey::Declined(entry))
+    }
+
+    /// The number of the first frame that brought the bytes of a document to a bill: attached, or stored. Where two
+    /// lists of bytes have one checksum, a later frame may have brought the other.
+    #[tactic(auto, using(crate::proofs::LookUpLemmas::look_ups))]
+    pub fn kept(&self, bill: Checksum, checksum: Checksum) -> Option<usize>
+        ensures number { result ≡ first_number (has (brings_to bill checksum)) self.now.diary }
+        ensures bytes { option_and_then (bytes_in checksum) (record_numbered self.now.diary result)
+            ≡ first_bytes checksum (history bill self.now.diary) }
+        ensures there { is_some result ≡ is_there (history bill self.now.diary) checksum }
+    {
+        self.numbers.number(FrameKey::Document(bill, checksum))
     }
 
     /// Takes all memory that adding a frame needs. Room that was taken before is let go. Out of memory, the diary stays
     /// as it is, and no room is taken.
     ///
-    /// For a Parted, a Settled and a Taken it goes over the diary; it copies the chain that is known from then on.
+    /// It folds the chain that is known from then on, and copies it where it is another one. For a Parted, a Settled
+    /// and a Taken it goes over the diary.
     pub fn reserve(&mut self, alloc: Global, frame: &Frame) -> Result<(), NoMemory>
         ensures diary { self.new.diary ≡ self.old.diary }
         ensures ok { OnOk result (IsReadyFor frame.now self.new) }
         ensures err { OnErr result (self.new.room ≡ None) }
     {
         self.room = None;
-        let room = room_for(alloc, self.frames.as_slice(), &self.bills, frame)?;
+        let room = room_for(
+            alloc,
+            self.frames.as_slice(),
+            &self.bills,
+            &self.numbers,
+            frame,
+        )?;
         self.frames.reserve(1)?;
         ensure_key(alloc, &mut self.bills, room.bill)?;
+        self.numbers.make_room(room.kept)?;
+        self.numbers.make_room(room.came)?;
+        self.numbers.make_room(room.taken)?;
         self.room = Some(room);
         Ok(())
     }
 
-    /// Adds a frame for which room was taken. It can't be refused, and takes no memory.
+    /// Adds a frame for which room was taken. It can't be refused, and allocates nothing.
     pub fn add(&mut self, frame: Frame)
         requires { IsReadyFor frame self.old }
         ensures diary { self.new.diary ≡ self.old.diary ++ frame ∷ [] }
@@ -136,35 +262,50 @@ impl Register {
     {
         let alloc = *self.frames.allocator();
         if let Some(room) = self.room.take() {
+            let Room {
+                bill,
+                change,
+                kept,
+                came,
+                taken,
+            } = room;
+            let number = self.frames.len();
             self.frames.push_reserved(frame);
-            put(alloc, &mut self.bills, room);
+            self.numbers.put(kept, number);
+            self.numbers.put(came, number);
+            self.numbers.put(taken, number);
+            put(alloc, &mut self.bills, bill, change);
         }
     }
 }
 
-// Puts a bill among some, where it isn't there, with a standing that says that there is no record of it.
+// Puts a bill among some, where it isn't there, with a state that says that there is no record of it.
 fn ensure_key(
     alloc: Global,
-    bills: &mut BTreeMap<Checksum, Standing>,
+    bills: &mut BTreeMap<Checksum, BillState>,
     bill: Checksum,
 ) -> Result<(), NoMemory>
-    ensures same { (other : Checksum) → standing_in bills.new other ≡ standing_in bills.old other }
+    ensures same { (other : Checksum) → state_in bills.new other ≡ state_in bills.old other }
     ensures ok { OnOk result (IsSome (get checksum_cmp bills.new bill)) }
 {
     if !bills.contains_key(&bill) {
-        bills.insert(bill, Standing::nothing(alloc))?;
+        bills.insert(bill, BillState::unknown(alloc))?;
     }
     Ok(())
 }
 
-// Changes the standing of a bill that is there.
-fn put(alloc: Global, bills: &mut BTreeMap<Checksum, Standing>, room: Room)
-    requires { IsSome (get checksum_cmp bills.old room.bill) }
-    ensures { (bill : Checksum) → standing_in bills.new bill ≡ (if checksum_eq room.bill bill
-        then standing_with room.change (standing_in bills.old room.bill) else standing_in bills.old bill) }
+// Changes what is kept of a bill that is there.
+fn put(
+    alloc: Global,
+    bills: &mut BTreeMap<Checksum, BillState>,
+    bill: Checksum,
+    change: StateChange,
+)
+    requires { IsSome (get checksum_cmp bills.old bill) }
+    ensures { (other : Checksum) → state_in bills.new other ≡ (if checksum_eq bill other
+        then state_with change (state_in bills.old bill) else state_in bills.old other) }
 {
-    let Room { bill, change } = room;
-    if let Ok(Some(standing)) = bills.insert(bill, Standing::nothing(alloc)) {
-        let _ = bills.insert(bill, standing.changed(change));
+    if let Ok(Some(state)) = bills.insert(bill, BillState::unknown(alloc)) {
+        let _ = bills.insert(bill, state.changed(change));
     }
 }

@@ -1,67 +1,136 @@
 //! The room for one frame more.
-#![tactic(auto, using(crate::proofs::RegisterLemmas::histories))]
+#![tactic(auto, using(crate::proofs::RoomLemmas::rooms))]
 
 ghost use Rattle.std.specs.Prelude.{◌≡◌, ◌∷◌, [], ◌++◌, IfOk, reverse};
 ghost use Rattle.bill_diary.specs.declared.frame.Frame.TheVariants.{BegunTaken};
 ghost use Rattle.bill_diary.specs.History.{history, records_of};
 ghost use Rattle.ebl_base.specs.declared.checksum.Checksum.{Checksum};
-ghost use Rattle.title_register.specs.Register.{IsRoomFor, bill_in, standing_in};
+ghost use Rattle.title_register.specs.declared.frame_key.FrameKey.{FrameKey};
+ghost use Rattle.title_register.specs.BillState.{state_of, state_with};
+ghost use Rattle.title_register.specs.Frames.{key_of, number_in, number_of, unless_numbered};
+ghost use Rattle.title_register.specs.Register.{IsRoomFor, bill_in, state_in};
 ghost use Rattle.title_register.specs.Standing.{standing_of, standing_with};
 
+use crate::bill_state::{BillState, StateChange};
 use crate::change::{Change, acted, no_change, parted, regained, settled, signed, taken};
+use crate::documents::{kept_in, partings_after, pieces_after};
+use crate::frame_key::{FrameKey, came_key, key_of, taken_key};
+use crate::frame_numbers::FrameNumbers;
 use crate::standing::Standing;
+use crate::title::title_after;
 use bill_chain::last_link;
-use bill_diary::{Frame, History, Record, RecordRef, taken_chain};
+use bill_diary::{Frame, History, Record, taken_chain};
 use ebl_base::{Checksum, NoMemory};
 use std::alloc::Global;
 use std::collections::BTreeMap;
 
-/// What was taken for one frame more: the change of its bill, with all memory that it needs.
+/// What was taken for one frame more: what changes of its bill, with all memory that it needs, and the keys that get
+/// its number.
 #[derive(Drop)]
 pub struct Room {
     pub(crate) bill: Checksum,
-    pub(crate) change: Change,
+    pub(crate) change: StateChange,
+    /// The key of the record that the frame keeps, if it gets the number.
+    pub(crate) kept: Option<FrameKey>,
+    /// The other key of a Begun.
+    pub(crate) came: Option<FrameKey>,
+    /// The key of the Taken that follows in the frame.
+    pub(crate) taken: Option<FrameKey>,
 }
 
-/// Room for a frame, after some frames by which the bills stand so.
+/// Room for a frame, after some frames of which this is kept.
+#[tactic(auto, using(crate::proofs::RoomLemmas::numbers))]
 pub(crate) fn room_for(
     alloc: Global,
     frames: &[Frame],
-    bills: &BTreeMap<Checksum, Standing>,
+    bills: &BTreeMap<Checksum, BillState>,
+    numbers: &FrameNumbers,
     frame: &Frame,
 ) -> Result<Room, NoMemory>
-    requires { (bill : Checksum) → standing_in bills.now bill ≡ standing_of (history bill frames.now) }
+    requires states { (bill : Checksum) → state_in bills.now bill ≡ state_of (history bill frames.now) }
+    requires numbers_are { (key : FrameKey) → number_in numbers.now.numbers key ≡ number_of key frames.now }
     ensures { IfOk result (IsRoomFor frame.now frames.now) }
 {
-    let bill = bill_in(frame);
-    let change = match bills.get(&bill) {
-        Some(standing) => change_by(alloc, frames, standing, frame)?,
-        None => change_by(alloc, frames, &Standing::nothing(alloc), frame)?,
-    };
-    Ok(Room { bill, change })
+    let change = change_among(alloc, frames, bills, frame)?;
+    let kept = kept_in(frame);
+    Ok(Room {
+        bill: kept.bill(),
+        change,
+        kept: kept_key(numbers, kept),
+        came: came_key(kept),
+        taken: taken_key(frame),
+    })
 }
 
-// The bill of a frame.
-fn bill_in(frame: &Frame) -> Checksum
-    ensures { result ≡ bill_in frame.now }
+// What a frame changes of its bill, after some frames of which this is kept.
+#[tactic(auto, using(crate::proofs::RoomLemmas::rooms))]
+fn change_among(
+    alloc: Global,
+    frames: &[Frame],
+    bills: &BTreeMap<Checksum, BillState>,
+    frame: &Frame,
+) -> Result<StateChange, NoMemory>
+    requires { (bill : Checksum) → state_in bills.now bill ≡ state_of (history bill frames.now) }
+    ensures { IfOk result (λ c. state_with c (state_of (history (bill_in frame.now) frames.now))
+        ≡ state_of (history (bill_in frame.now) (frames.now ++ frame.now ∷ []))) }
 {
-    match frame {
-        Frame::One(kept) | Frame::BegunTaken(kept) => RecordRef::Kept(kept).bill(),
+    let bill = kept_in(frame).bill();
+    match bills.get(&bill) {
+        Some(state) => change_by(alloc, frames, state, frame),
+        None => change_by(alloc, frames, &BillState::unknown(alloc), frame),
     }
 }
 
-// What a frame changes, after some frames by which its bill stands so.
+// The key of a record, unless it is that of a document that has a number already.
+fn kept_key(numbers: &FrameNumbers, kept: &Record) -> Option<FrameKey>
+    ensures { result ≡ unless_numbered (number_in numbers.now.numbers) (key_of kept.now) }
+{
+    let key = key_of(kept)?;
+    match key {
+        FrameKey::Document(..) => if numbers.number(key).is_some() {
+            None
+        } else {
+            Some(key)
+        },
+        _ => Some(key),
+    }
+}
+
+// The same, by what is kept of the bill.
+#[tactic(auto, using(crate::proofs::RoomLemmas::rooms, crate::proofs::StateLemmas::states))]
 fn change_by(
     alloc: Global,
     frames: &[Frame],
+    state: &BillState,
+    frame: &Frame,
+) -> Result<StateChange, NoMemory>
+    requires { state.now ≡ state_of (history (bill_in frame.now) frames.now) }
+    ensures { IfOk result (λ c. state_with c state.now
+        ≡ state_of (history (bill_in frame.now) (frames.now ++ frame.now ∷ []))) }
+{
+    let before = History::of(frames, kept_in(frame).bill());
+    let standing = standing_by(alloc, before.restart(), &state.standing, frame)?;
+    let title = title_after(&state.standing, &standing);
+    let pieces = pieces_after(alloc, before, &state.pieces, frame)?;
+    Ok(StateChange {
+        standing,
+        title,
+        pieces,
+        partings: partings_after(frames, state.partings, frame),
+    })
+}
+
+// What a frame changes of where its bill stands, with the records of the bill before it.
+fn standing_by(
+    alloc: Global,
+    before: History,
     standing: &Standing,
     frame: &Frame,
 ) -> Result<Change, NoMemory>
-    requires { standing.now ≡ standing_of (history (bill_in frame.now) frames.now) }
-    ensures { IfOk result (λ c. standing_with c standing.now
-        ≡ standing_of (history (bill_in frame.now) (frames.now ++ frame.now ∷ []))) }
+    requires { standing.now ≡ standing_of before }
+    ensures { IfOk result (λ c.
+        standing_with c standing.now ≡ standing_of (reverse (records_of frame.now) ++ before.entry)) }
 {
-    let before = History::of(frames, bill_in(frame));
     match frame {
         Frame::One(kept) => by_record(alloc, before, standing, kept),
         Frame::BegunTaken(begun) => by_begun_taken(alloc, before, standing, begun),

@@ -1,14 +1,12 @@
 //! Where one bill stands.
 ghost use Rattle.std.specs.Prelude.{◌≡◌, [], None, option_copied};
-ghost use Rattle.bill_diary.specs.Place.{may_act_at, tag_of};
-ghost use Rattle.bill_diary.specs.Titles.{is_ended_by};
+ghost use Rattle.bill_diary.specs.Place.{tag_of};
+ghost use Rattle.title_register.specs.BillState.{is_held};
 ghost use Rattle.title_register.specs.Standing.{nothing, parting_with, place_at, since_at, standing_with};
 
 use crate::change::{Change, PartingChange};
-use bill_chain::fold_after_chain;
 use ebl_base::{Chain, ChainLink, Items, PlaceTag, Transaction, TransactionList};
 use std::alloc::Global;
-use title_fold::{FoldRefusal, Title};
 
 /// Where a bill stands: what each record changes, and what the place follows from.
 #[derive(Drop)]
@@ -51,18 +49,11 @@ impl Standing {
         }
     }
 
-    /// Whether the possessor may act: the bill is held, and its title isn't ended. It folds the known chain where it
-    /// is.
-    pub(crate) fn may_act(&self) -> bool
-        ensures { result ≡ may_act_at (place_at self.now) }
+    /// Whether the bill is held.
+    pub(crate) fn is_held(&self) -> bool
+        ensures { result ≡ is_held (place_at self.now) }
     {
-        let Some(known) = &self.known else {
-            return false;
-        };
-        if self.parting.is_some() || self.left {
-            return false;
-        }
-        !is_ended(fold_after_chain(known.as_slice(), self.since.as_slice()))
+        self.known.is_some() && self.parting.is_none() && !self.left
     }
 
     /// The transactions that were made at the place: none where the bill isn't held.
@@ -101,15 +92,5 @@ fn parting_after(change: PartingChange, parting: Option<ChainLink>) -> Option<Ch
         PartingChange::Same => parting,
         PartingChange::Over => None,
         PartingChange::Begins(link) => Some(link),
-    }
-}
-
-// Whether a title is ended.
-fn is_ended(folded: Result<Option<Title>, FoldRefusal>) -> bool
-    ensures { result ≡ is_ended_by folded }
-{
-    match folded {
-        Ok(Some(Title::Ended { .. })) => true,
-        _ => false,
     }
 }

@@ -1,8 +1,8 @@
--- A bill of which there is no record changes no standing.
+-- A bill of which there is no record changes nothing.
 use Rattle.std.proofs.Common.{Some, subst}
 use Rattle.std.specs.BTreeMap.{get, Updates}
 use Rattle.ebl_base.specs.Checksum.{checksum_cmp}
-use Rattle.title_register.specs.declared.standing.Standing.{Standing}
+use Rattle.title_register.specs.declared.bill_state.BillState.{BillState}
 use Rattle.title_register.proofs.AddLemmas.{none_by}
 use Rattle.title_register.proofs.RegisterLemmas.{added}
 use Rattle.title_register.proofs.register.ensure_key.Goals as goal
@@ -13,5 +13,5 @@ returns-in_ok-insert-clause-same c =
     let absent = none_by (get checksum_cmp bills c.args.bill) c.contains_key.result c.contains_key.ensures
     c.if-not-contains_key.true in
     λ q. added bills c.insert.new.self c.args.bill q
-    (subst (λ (s : Standing). Updates checksum_cmp bills c.insert.new.self c.args.bill (Some s)) c.nothing.ensures
+    (subst (λ (s : BillState). Updates checksum_cmp bills c.insert.new.self c.args.bill (Some s)) c.unknown.ensures
     c.in_ok-insert.ensures.updates) absent

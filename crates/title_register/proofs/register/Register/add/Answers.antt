@@ -1,11 +1,12 @@
--- The bill of the frame stands as with it, and every other bill as before.
-use Rattle.std.proofs.Common.{◌≡◌, List, sym, ap, subst, ◌∙◌}
+-- The bill of the frame is kept as with it, and the frame's number stands under its keys; all else is as before.
+use Rattle.std.proofs.Common.{◌≡◌, List, arith, length, sym, ap, subst, ◌∙◌}
 use Rattle.bill_diary.specs.declared.frame.Frame.{Frame}
 use Rattle.bill_diary.specs.History.{history}
 use Rattle.title_register.specs.declared.room.Room.{Room}
+use Rattle.title_register.specs.BillState.{state_of}
+use Rattle.title_register.specs.Frames.{number_of}
 use Rattle.title_register.specs.Register.{IsRoomFor, Registered}
-use Rattle.title_register.specs.Standing.{standing_of}
-use Rattle.title_register.proofs.AddLemmas.{standings_more, one_room}
+use Rattle.title_register.proofs.AddLemmas.{numbers_put, one_room, states_more}
 use Rattle.title_register.proofs.register.Register.add.Goals as goal
 
 pub invariant_of-self : goal.invariant_of-self
@@ -19,11 +20,20 @@ invariant_of-self c =
     let is_for : IsRoomFor frame diary room =
     subst (λ (d : List Frame). IsRoomFor frame d room) (sym (ap (λ (r : Registered). r.diary) c.self.view_is))
     (subst (λ (r : Room). IsRoomFor frame c.args.self.now.diary r) same c.requires.is_for) in
+    let number_is : c.len-number.result ≡ length diary = omega arith in
     record {
-      standings = λ q.
-          standings_more diary frame c.self.inside.bills c.put.new.bills room c.self.invariant.standings is_for
-          c.put.ensures q
-          ∙ ap (λ (d : List Frame). standing_of (history q d)) (sym c.push_reserved.ensures.items);
-      key = rw c.take.ensures.after tt;
+      states = λ q.
+          states_more diary frame c.self.inside.bills c.put-in-Some-3.new.bills room c.self.invariant.states is_for
+          c.put-in-Some-3.ensures q
+          ∙ ap (λ (d : List Frame). state_of (history q d)) (sym c.push_reserved.ensures.items);
+      numbers_are = λ k.
+          numbers_put diary frame room c.self.inside.numbers c.put.new.self c.put-in-Some.new.self
+          c.put-in-Some-2.new.self c.len-number.result number_is c.self.invariant.numbers_are is_for
+          c.put.ensures.numbers c.put-in-Some.ensures.numbers c.put-in-Some-2.ensures.numbers k
+          ∙ ap (λ (d : List Frame). number_of k d) (sym c.push_reserved.ensures.items);
+      bill_room = rw c.take.ensures.after tt;
+      kept_room = rw c.take.ensures.after tt;
+      came_room = rw c.take.ensures.after tt;
+      taken_room = rw c.take.ensures.after tt;
       space = rw c.take.ensures.after tt;
     }
