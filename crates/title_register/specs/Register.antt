@@ -1,7 +1,6 @@
 -- A register: what is kept of each bill and each frame is what a diary says, and there may be room for one frame more.
-use Rattle.std.specs.Prelude.{◌≡◌, ◌<◌, true, List, [], ◌∷◌, ◌++◌, Option, Some, IfSome, IsSome, length, unwrap_or}
+use Rattle.std.specs.Prelude.{◌≡◌, ◌<◌, true, List, [], ◌∷◌, ◌++◌, Option, Some, None, IfSome, IsSome, length, unwrap_or}
 use Rattle.std.specs.BTreeMap.{BTreeMap, get}
-use Rattle.std.specs.Global.{Vec}
 use Rattle.std.specs.Vec.{vec_len, vec_capacity}
 use Rattle.ebl_base.specs.Checksum.{checksum_cmp}
 use Rattle.ebl_base.specs.declared.checksum.Checksum.{Checksum}
@@ -12,6 +11,7 @@ use Rattle.title_register.specs.declared.bill_state.BillState.{BillState}
 use Rattle.title_register.specs.declared.frame_key.FrameKey.{FrameKey}
 use Rattle.title_register.specs.declared.frame_numbers.FrameNumbers.{FrameNumbers}
 use Rattle.title_register.specs.declared.room.Room.{Room}
+use Rattle.title_register.specs.declared.room.Reserved.{Reserved}
 use Rattle.title_register.specs.BillState.{state_of, state_with, unknown}
 use Rattle.title_register.specs.Frames.{has_key, number_in, number_of, with_number}
 
@@ -49,14 +49,24 @@ pub record IsReadyFor (frame : Frame) (register : Registered) : Type 0 where
   pub room_is : register.room ≡ Some room
   pub is_for : IsRoomFor frame register.diary room
 
+-- the frames of a register: while room is taken they stand there
+abbrev pub frames_in : List Frame → Option Reserved → List Frame
+frames_in diary None = diary
+frames_in diary (Some reserved) = reserved.frames.items
+
+-- the room of a register
+abbrev pub room_in : Option Reserved → Option Room
+room_in None = None
+room_in (Some reserved) = Some reserved.room
+
 -- what is kept of each bill is what its records in the diary say, under each key is the number of its frame, and what
 -- was taken as room is there
-pub record IsRegister (frames : Vec Frame) (bills : BTreeMap Checksum BillState) (numbers : FrameNumbers)
-    (room : Option Room) : Type 0 where
-  pub states : (bill : Checksum) → state_in bills bill ≡ state_of (history bill frames.items)
-  pub numbers_are : (key : FrameKey) → number_in numbers.numbers key ≡ number_of key frames.items
-  pub bill_room : IfSome room (λ r. IsSome (get checksum_cmp bills r.bill))
-  pub kept_room : IfSome room (λ r. HasRoom numbers r.kept)
-  pub came_room : IfSome room (λ r. HasRoom numbers r.came)
-  pub taken_room : IfSome room (λ r. HasRoom numbers r.taken)
-  pub space : IfSome room (λ r. vec_len frames < vec_capacity frames)
+pub record IsRegister (diary : List Frame) (bills : BTreeMap Checksum BillState) (numbers : FrameNumbers)
+    (reserved : Option Reserved) : Type 0 where
+  pub states : (bill : Checksum) → state_in bills bill ≡ state_of (history bill (frames_in diary reserved))
+  pub numbers_are : (key : FrameKey) → number_in numbers.numbers key ≡ number_of key (frames_in diary reserved)
+  pub bill_room : IfSome reserved (λ r. IsSome (get checksum_cmp bills r.room.bill))
+  pub kept_room : IfSome reserved (λ r. HasRoom numbers r.room.kept)
+  pub came_room : IfSome reserved (λ r. HasRoom numbers r.room.came)
+  pub taken_room : IfSome reserved (λ r. HasRoom numbers r.room.taken)
+  pub space : IfSome reserved (λ r. vec_len r.frames < vec_capacity r.frames)

@@ -1,8 +1,9 @@
 //! The register: a diary, what is kept of each of its bills, and the numbers of its frames.
 #![tactic(auto, using(crate::proofs::RegisterLemmas::places, crate::proofs::StateLemmas::titles))]
 
-ghost use Rattle.std.specs.Prelude.{◌≡◌, ◌∷◌, [], ◌++◌, None, OnErr, OnOk, IsSome, count_by, is_some, option_and_then, option_copied, if◌then◌else◌};
+ghost use Rattle.std.specs.Prelude.{◌≡◌, ◌<◌, ◌∷◌, [], ◌++◌, None, OnErr, OnOk, IsSome, count_by, is_some, option_and_then, option_copied, if◌then◌else◌};
 ghost use Rattle.std.specs.BTreeMap.{get};
+ghost use Rattle.std.specs.Vec.{vec_len, vec_capacity};
 ghost use Rattle.ebl_base.specs.Checksum.{checksum_cmp, checksum_eq};
 ghost use Rattle.ebl_base.specs.declared.checksum.Checksum.{Checksum};
 ghost use Rattle.bill_diary.specs.History.{history, newest_first};
@@ -21,13 +22,14 @@ ghost use Rattle.title_register.specs.Standing.{since_at};
 use crate::bill_state::{BillState, StateChange};
 use crate::frame_key::FrameKey;
 use crate::frame_numbers::FrameNumbers;
-use crate::room::{Room, room_for};
-use bill_diary::Frame;
-use ebl_base::{Chain, ChainLink, Checksum, NoMemory, PlaceTag, Reference, Transaction};
+use crate::room::{Reserved, Room, room_for};
+use bill_diary::{Diary, Frame};
+use ebl_base::{Chain, ChainLink, Checksum, Items, NoMemory, PlaceTag, Reference, Transaction};
 use envelope_manifest::Piece;
 use std::alloc::Global;
 use std::collections::BTreeMap;
 use std::marker::Model;
+use std::mem;
 use title_fold::{FoldRefusal, Title};
 
 /// A diary, what is kept of each of its bills, and the numbers of its frames. Contracts see the diary, and the room
@@ -36,20 +38,21 @@ use title_fold::{FoldRefusal, Title};
 /// A look-up costs one search of an ordered map. It allocates nothing, folds nothing, and goes over no record.
 #[derive(Drop)]
 pub struct Register {
-    frames: Vec<Frame>,
+    // Empty while room is taken: its frames are there then.
+    diary: Diary,
     bills: BTreeMap<Checksum, BillState>,
     numbers: FrameNumbers,
-    room: Option<Room>,
+    reserved: Option<Reserved>,
 }
 
 impl Model for Register {
-    ghost use Rattle.title_register.specs.Register.{Registered, IsRegister};
+    ghost use Rattle.title_register.specs.Register.{Registered, IsRegister, frames_in, room_in};
 
     ghost Value = { Registered };
 
-    ghost view = { λ s. record { diary = s.frames.items; room = s.room } };
+    ghost view = { λ s. record { diary = frames_in s.diary s.reserved; room = room_in s.reserved } };
 
-    ghost invariant = { λ s. IsRegister s.frames s.bills s.numbers s.room };
+    ghost invariant = { λ s. IsRegister s.diary s.bills s.numbers s.reserved };
 }
 
 impl Register {
@@ -59,11 +62,19 @@ impl Register {
         ensures room { result.room ≡ None }
     {
         Register {
-            frames: Vec::new(alloc),
+            diary: Items::new(alloc),
             bills: BTreeMap::new(alloc),
             numbers: FrameNumbers::new(alloc),
-            room: None,
+            reserved: None,
         }
+    }
+
+    /// The diary, while no room is taken.
+    pub fn diary(&self) -> &Diary
+        requires { self.now.room ≡ None }
+        ensures { result.now ≡ self.now.diary }
+    {
+        &self.diary
     }
 
     /// The frames of the diary, in the order in which they were written. A frame's number is its place among them,
@@ -71,7 +82,10 @@ impl Register {
     pub fn frames(&self) -> &[Frame]
         ensures { result.now ≡ self.now.diary }
     {
-        self.frames.as_slice()
+        match &self.reserved {
+            Some(reserved) => reserved.frames.as_slice(),
+            None => self.diary.as_slice(),
+        }
     }
 
     /// Which of the four places a bill is at.
@@ -237,21 +251,35 @@ impl Register {
         ensures ok { OnOk result (IsReadyFor frame.now self.new) }
         ensures err { OnErr result (self.new.room ≡ None) }
     {
-        self.room = None;
+        self.release();
         let room = room_for(
             alloc,
-            self.frames.as_slice(),
+            self.diary.as_slice(),
             &self.bills,
             &self.numbers,
             frame,
         )?;
-        self.frames.reserve(1)?;
         ensure_key(alloc, &mut self.bills, room.bill)?;
         self.numbers.make_room(room.kept)?;
         self.numbers.make_room(room.came)?;
         self.numbers.make_room(room.taken)?;
-        self.room = Some(room);
-        Ok(())
+        let mut frames = mem::replace(&mut self.diary, Items::new(alloc)).into_vec();
+        let result = make_place(&mut frames);
+        match result {
+            Ok(()) => self.reserved = Some(Reserved { frames, room }),
+            Err(NoMemory) => self.diary = Items::from_vec(frames),
+        }
+        result
+    }
+
+    /// Lets go of the room that was taken, if any was.
+    pub fn release(&mut self)
+        ensures diary { self.new.diary ≡ self.old.diary }
+        ensures room { self.new.room ≡ None }
+    {
+        if let Some(reserved) = self.reserved.take() {
+            self.diary = Items::from_vec(reserved.frames);
+        }
     }
 
     /// Adds a frame for which room was taken. It can't be refused, and allocates nothing.
@@ -260,8 +288,8 @@ impl Register {
         ensures diary { self.new.diary ≡ self.old.diary ++ frame ∷ [] }
         ensures room { self.new.room ≡ None }
     {
-        let alloc = *self.frames.allocator();
-        if let Some(room) = self.room.take() {
+        if let Some(reserved) = self.reserved.take() {
+            let Reserved { mut frames, room } = reserved;
             let Room {
                 bill,
                 change,
@@ -269,14 +297,25 @@ impl Register {
                 came,
                 taken,
             } = room;
-            let number = self.frames.len();
-            self.frames.push_reserved(frame);
+            let alloc = *frames.allocator();
+            let number = frames.len();
+            frames.push_reserved(frame);
+            self.diary = Items::from_vec(frames);
             self.numbers.put(kept, number);
             self.numbers.put(came, number);
             self.numbers.put(taken, number);
             put(alloc, &mut self.bills, bill, change);
         }
     }
+}
+
+// Takes the place of one more frame.
+fn make_place(frames: &mut Vec<Frame>) -> Result<(), NoMemory>
+    ensures same { frames.new.items ≡ frames.old.items }
+    ensures ok { OnOk result (vec_len frames.new < vec_capacity frames.new) }
+{
+    frames.reserve(1)?;
+    Ok(())
 }
 
 // Puts a bill among some, where it isn't there, with a state that says that there is no record of it.

@@ -38,6 +38,13 @@ pub struct Room {
     pub(crate) taken: Option<FrameKey>,
 }
 
+/// The frames of a diary with a place for one more, and the room for that one.
+#[derive(Drop)]
+pub(crate) struct Reserved {
+    pub(crate) frames: Vec<Frame>,
+    pub(crate) room: Room,
+}
+
 /// Room for a frame, after some frames of which this is kept.
 #[tactic(auto, using(crate::proofs::RoomLemmas::numbers))]
 pub(crate) fn room_for(
