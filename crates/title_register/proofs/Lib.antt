@@ -1,4 +1,3 @@
-mod ChangeLemmas
 mod RegisterLemmas
 mod StateLemmas
 mod FrameLemmas
