@@ -1,5 +1,5 @@
 -- What the steps of a reading find: exactly what the bytes spell, or that they spell nothing of the kind.
-use Rattle.std.specs.Prelude.{◌≡◌, ℕ, ◌+◌, List, ◌∷◌, ◌++◌, Option, Some, None, Ok, map}
+use Rattle.std.specs.Prelude.{◌≡◌, ℕ, ◌+◌, ◌≤◌, List, ◌∷◌, ◌++◌, Option, Some, None, Ok, map}
 use Rattle.ebl_base.specs.declared.checksum.Checksum.{Checksum}
 use Rattle.ebl_base.specs.declared.chain.ChainLink.{ChainLink}
 use Rattle.ebl_base.specs.declared.entry.Entry.{Entry}
@@ -8,13 +8,15 @@ use Rattle.ebl_base.specs.declared.signed_text.SignedText.{SignedText}
 use Rattle.ebl_base.specs.declared.transaction.Transaction.{Transaction}
 use Rattle.document_checksum.specs.Digest.{IsChecksum}
 use Rattle.canonical_json.specs.Canon.{canon}
-use Rattle.canonical_json.specs.Value.{Value}
+use Rattle.canonical_json.specs.Value.{Value, depth}
 use Rattle.chain_entry.specs.Reading.{entry_of}
 use Rattle.chain_entry.specs.Form.{IsTransaction}
 use Rattle.chain_entry.specs.Writing.{transaction_value}
-use Rattle.envelope_manifest.specs.Body.{BodyRecord, ReadsAs, body_value}
+use Rattle.envelope_manifest.specs.Body.{IsBody, ReadsAs, body_value}
 use Rattle.envelope_manifest.specs.Piece.{IsPiece, piece_value}
 use Rattle.envelope_manifest.specs.declared.piece.Piece.{Piece}
+use Rattle.transport_document.specs.DocumentRecord.{DocumentRecord}
+use Rattle.transport_document.specs.Reading.{document_of}
 use Rattle.bill_diary.specs.declared.record.Record.{Record}
 use Rattle.bill_diary.specs.declared.frame.Frame.{Frame}
 use Rattle.bill_diary.specs.Texts.{HasPayload, LinkIsItsText, LinksAreTheirTexts, IsCompactText, AreCompact}
@@ -112,10 +114,15 @@ pub record AreLinksOf (texts : List SignedText) (links : List ChainLink) : Type 
   pub texts_are : texts ≡ map (λ link. link.text) links
   pub links_are : LinksAreTheirTexts links
 
--- the bytes are the written form of the body, which has no further member
-pub record IsBodyText (bytes : List ℕ) (parts : BodyRecord) : Type 0 where
-  pub reads : ReadsAs bytes parts
-  pub text_is : canon (body_value parts) ≡ bytes
+-- the bytes are the written form of a body with this document, which has no further member
+pub record IsBodyWith (bytes : List ℕ) (document : DocumentRecord) (manifest : SignedText) (chain : List SignedText)
+    : Type 0 where
+  pub value : Value
+  pub reads : ReadsAs bytes (record { document = value; manifest = manifest; chain = chain })
+  pub text_is : canon (body_value (record { document = value; manifest = manifest; chain = chain })) ≡ bytes
+  pub form : IsBody (record { document = value; manifest = manifest; chain = chain })
+  pub nests : depth value ≤ 126
+  pub said : document_of value ≡ Ok document
 
 -- ---- records
 

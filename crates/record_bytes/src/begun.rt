@@ -1,18 +1,19 @@
 //! A Begun, from its body.
-ghost use Rattle.std.specs.Prelude.{◌≡◌, ◌≤◌, ◌↔◌, IsTrue, IfOk, IfSome, MatchOption, length};
+ghost use Rattle.std.specs.Prelude.{◌≡◌, ◌≤◌, ◌↔◌, Ok, IsTrue, IfOk, IfSome, MatchOption, length};
+ghost use Rattle.canonical_json.specs.Canon.{canon};
 ghost use Rattle.canonical_json.specs.Value.{depth};
-ghost use Rattle.canonical_json.specs.View.{view};
-ghost use Rattle.envelope_manifest.specs.Body.{BodyRecord, IsBody, body_view};
+ghost use Rattle.envelope_manifest.specs.Body.{BodyRecord, IsBody, ReadsAs, body_value, body_view};
+ghost use Rattle.transport_document.specs.Reading.{document_of};
 ghost use Rattle.record_bytes.specs.Fields.{IsShort, text_bytes};
-ghost use Rattle.record_bytes.specs.Reading.{Finds, AreFields, IsBodyText};
+ghost use Rattle.record_bytes.specs.Reading.{Finds, AreFields, IsBodyWith};
 
 use crate::fields::are_same;
 use crate::texts::{chain_of, document_of, manifest_of};
 use bill_diary::Record;
-use canonical_json::Json;
 use ebl_base::{ByteList, MAX_CHAIN_ENTRIES, NoMemory, SignedText, TextList};
 use envelope_manifest::{Body, BodyFault};
 use std::alloc::Global;
+use transport_document::Document;
 
 /// The Begun with this body. None if and only if there is none.
 pub(crate) fn begun_of(alloc: Global, text: &[u8]) -> Result<Option<Record>, NoMemory>
@@ -25,51 +26,70 @@ pub(crate) fn begun_of(alloc: Global, text: &[u8]) -> Result<Option<Record>, NoM
     }
 }
 
+// The body that a text reads as.
+fn body_of(alloc: Global, text: &[u8]) -> Result<Option<Body>, NoMemory>
+    ensures reads { IfOk result (λ found. MatchOption found ((parts : BodyRecord) → ¬ ReadsAs text.now parts)
+        (λ body. ReadsAs text.now (body_view body))) }
+    ensures form { IfOk result (λ found. IfSome found (λ body. IsBody (body_view body))) }
+    ensures nests { IfOk result (λ found. IfSome found (λ body. depth (body_view body).document ≤ 126)) }
+{
+    match Body::read(alloc, text) {
+        Ok(body) => Ok(Some(body)),
+        Err(BodyFault::BodyForm(_)) => Ok(None),
+        Err(BodyFault::NoMemory) => Err(NoMemory),
+    }
+}
+
+// The Begun with the body that the text reads as, where the text is its written form.
 fn begun_in(alloc: Global, text: &[u8], body: Body) -> Result<Option<Record>, NoMemory>
     requires short { IsShort text.now }
-    requires text { IsBodyText text.now (body_view body) }
+    requires reads { ReadsAs text.now (body_view body) }
     requires form { IsBody (body_view body) }
     requires nests { depth (body_view body).document ≤ 126 }
     ensures { IfOk result (Finds (AreFields 7 (text_bytes text.now))) }
 {
+    let Some(document) = document_of(alloc, &body.document)? else {
+        return Ok(None);
+    };
+    if !is_written_form(alloc, text, &body, &document)? {
+        return Ok(None);
+    }
     let Body {
-        document,
+        document: _json,
         manifest,
         chain,
     } = body;
-    if has_entries(&chain) {
-        begun_with(alloc, text, &document, &manifest, chain)
-    } else {
-        Ok(None)
-    }
+    begun_with(alloc, text, &document, &manifest, chain)
 }
 
-// Whether there are 1 to 64 texts.
-fn has_entries(chain: &TextList) -> bool
-    ensures { IsTrue result ↔ ((1 ≤ length chain.now) × (length chain.now ≤ 64)) }
+// Whether the text is the written form of the body, whose document is at hand.
+fn is_written_form(
+    alloc: Global,
+    text: &[u8],
+    body: &Body,
+    document: &Document,
+) -> Result<bool, NoMemory>
+    requires { document_of (body_view body.now).document ≡ Ok document.now }
+    ensures { IfOk result (λ is. IsTrue is ↔ (canon (body_value (body_view body.now)) ≡ text.now)) }
 {
-    1 <= chain.len() && chain.len() <= MAX_CHAIN_ENTRIES
+    let written = body.write_around(alloc, document.text().as_slice())?;
+    Ok(are_same(written.as_slice(), text))
 }
 
 fn begun_with(
     alloc: Global,
     text: &[u8],
-    document: &Json,
+    document: &Document,
     manifest: &SignedText,
     chain: TextList,
 ) -> Result<Option<Record>, NoMemory>
     requires short { IsShort text.now }
-    requires text { IsBodyText text.now
-        (record { document = view document.now; manifest = manifest.now; chain = chain }) }
-    requires form { IsBody (record { document = view document.now; manifest = manifest.now; chain = chain }) }
-    requires nests { depth (view document.now) ≤ 126 }
-    requires some { 1 ≤ length chain }
-    requires most { length chain ≤ 64 }
+    requires body { IsBodyWith text.now document.now manifest.now chain }
     ensures { IfOk result (Finds (AreFields 7 (text_bytes text.now))) }
 {
-    let Some(document) = document_of(alloc, document)? else {
+    if !has_entries(&chain) {
         return Ok(None);
-    };
+    }
     let Some(manifest) = manifest_of(alloc, manifest)? else {
         return Ok(None);
     };
@@ -85,22 +105,9 @@ fn begun_with(
     }))
 }
 
-// The body of which this is the written form.
-fn body_of(alloc: Global, text: &[u8]) -> Result<Option<Body>, NoMemory>
-    ensures text { IfOk result (λ found. MatchOption found ((parts : BodyRecord) → ¬ IsBodyText text.now parts)
-        (λ body. IsBodyText text.now (body_view body))) }
-    ensures form { IfOk result (λ found. IfSome found (λ body. IsBody (body_view body))) }
-    ensures nests { IfOk result (λ found. IfSome found (λ body. depth (body_view body).document ≤ 126)) }
+// Whether there are 1 to 64 texts.
+fn has_entries(chain: &TextList) -> bool
+    ensures { IsTrue result ↔ ((1 ≤ length chain.now) × (length chain.now ≤ 64)) }
 {
-    let body = match Body::read(alloc, text) {
-        Ok(body) => body,
-        Err(BodyFault::BodyForm(_)) => return Ok(None),
-        Err(BodyFault::NoMemory) => return Err(NoMemory),
-    };
-    let written = body.write(alloc)?;
-    if are_same(written.as_slice(), text) {
-        Ok(Some(body))
-    } else {
-        Ok(None)
-    }
+    1 <= chain.len() && chain.len() <= MAX_CHAIN_ENTRIES
 }

@@ -4,4 +4,4 @@ use Rattle.record_bytes.proofs.begun.begun_of.Goals as goal
 
 pub returns-in-None : goal.returns-in-None
 returns-in-None c =
-    no_begun_body c.args.text.now c.requires (unfound _ _ c.in_ok-body.field-0 c.in-None.is c.in_ok-body.ensures.text)
+    no_begun_body c.args.text.now c.requires (unfound _ _ c.in_ok-body.field-0 c.in-None.is c.in_ok-body.ensures.reads)
