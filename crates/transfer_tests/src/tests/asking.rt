@@ -7,7 +7,7 @@ ghost use Rattle.holder_commands.specs.Form.{IsCommand};
 ghost use Rattle.party_roster.specs.RosterForm.{IsRoster};
 ghost use Rattle.transfer_judge.specs.PlannedTexts.{Nests};
 
-use canonical_json::read;
+use canonical_json::{Json, read};
 use document_checksum::from_text;
 use ebl_base::{Checksum, Moment, Party, PlatformCode};
 use envelope_manifest::Body;
@@ -71,6 +71,12 @@ pub(crate) fn moment(number: u64) -> Result<Moment, Fail>
         Some(now) => Ok(now),
         None => Err("a moment".into()),
     }
+}
+
+/// The bill's document.
+pub(crate) fn document(alloc: Global) -> Result<Json, Fail> {
+    let Body { document, .. } = Body::read(alloc, SIGNED)?;
+    Ok(document)
 }
 
 /// The SIGN of the bill's document.

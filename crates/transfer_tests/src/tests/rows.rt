@@ -2,10 +2,36 @@
 use super::bodies::{start, start_body, start_of};
 use super::words::says;
 use super::world::World;
-use ebl_base::Items;
+use document_checksum::checksum;
+use ebl_base::{Items, Reference};
 use std::alloc::Global;
 use std::process::Abort;
 use std::test::Fail;
+
+fn tell_commands_on_one_platform<R: Abort>(rt: &R, world: &mut World) -> Result<(), Fail> {
+    says(
+        rt,
+        world.sign("ALPH/CARRIER")?,
+        "DONE HELD 0 SIGNED ALPH/CARRIER ALPH/CARRIER",
+    );
+    says(
+        rt,
+        world.act("ALPH/CARRIER", "ISSUE", "ALPH/EXPORT")?,
+        "DONE HELD 0 LIVE ALPH/EXPORT ALPH/EXPORT",
+    );
+    says(
+        rt,
+        world.act("ALPH/EXPORT", "ENDORSE", "BETA/IMPORT")?,
+        "DONE HELD 0 LIVE ALPH/EXPORT BETA/IMPORT",
+    );
+    Ok(())
+}
+
+#[test]
+fn commands_on_one_platform(rt: HostRuntime) -> Result<(), Fail> {
+    let mut world = World::new(rt.alloc())?;
+    tell_commands_on_one_platform(&rt, &mut world)
+}
 
 fn tell_transfer_to_another_platform<R: Abort>(rt: &R, world: &mut World) -> Result<(), Fail> {
     world.issue()?;
@@ -45,6 +71,36 @@ fn repeated_delivery(rt: HostRuntime) -> Result<(), Fail> {
     tell_repeated_delivery(&rt, &mut world)
 }
 
+fn tell_resend_while_parting<R: Abort>(rt: &R, world: &mut World) -> Result<(), Fail> {
+    world.send_to_beta()?;
+    world.deliver(1)?;
+    says(
+        rt,
+        world.act("ALPH/EXPORT", "TRANSFER", "BETA/IMPORT")?,
+        "NOT_HERE PARTING",
+    );
+    says(
+        rt,
+        world.resend("ALPH")?,
+        "DONE PARTING 0 LIVE BETA/IMPORT BETA/IMPORT [3]",
+    );
+    assert!(rt; world.starts_alike(1, 3)?);
+    says(rt, world.deliver(3)?, "DUPE [4]");
+    says(
+        rt,
+        world.deliver(4)?,
+        "DONE GONE 1 LIVE BETA/IMPORT BETA/IMPORT",
+    );
+    says(rt, world.resend("ALPH")?, "NOT_PARTING GONE");
+    Ok(())
+}
+
+#[test]
+fn resend_while_parting(rt: HostRuntime) -> Result<(), Fail> {
+    let mut world = World::new(rt.alloc())?;
+    tell_resend_while_parting(&rt, &mut world)
+}
+
 fn tell_uploaded_documents<R: Abort>(rt: &R, world: &mut World) -> Result<(), Fail> {
     world.send_with_documents()?;
     says(rt, world.deliver(1)?, "STARTED 2 [2]");
@@ -70,6 +126,32 @@ fn tell_uploaded_documents<R: Abort>(rt: &R, world: &mut World) -> Result<(), Fa
 fn uploaded_documents(rt: HostRuntime) -> Result<(), Fail> {
     let mut world = World::new(rt.alloc())?;
     tell_uploaded_documents(&rt, &mut world)
+}
+
+// Bytes of another document; a document that isn't listed; a transfer that wasn't begun; a document, and the same one
+// once more. BETA has begun the transfer, and writes down the document, once.
+fn tell_documents_that_do_not_fit<R: Abort>(rt: &R, world: &mut World) -> Result<(), Fail> {
+    world.send_with_documents()?;
+    world.deliver(1)?;
+    world.deliver(2)?;
+    let (begun, unknown) = (world.reference_in(5)?, Reference([7; 16]));
+    for (reference, named, bytes, reply, frames) in [
+        (begun, b"{}".as_slice(), b"abc".as_slice(), "INCD BYTES", 1),
+        (begun, b"other", b"other", "INCD NOT_LISTED", 1),
+        (unknown, b"abc", b"abc", "UNKNOWN_REFERENCE", 1),
+        (begun, b"abc", b"abc", "STORED", 2),
+        (begun, b"abc", b"abc", "STORED", 2),
+    ] {
+        says(rt, world.put(reference, checksum(named), bytes)?, reply);
+        assert_eq!(rt; world.beta_frames(), frames);
+    }
+    Ok(())
+}
+
+#[test]
+fn documents_that_do_not_fit(rt: HostRuntime) -> Result<(), Fail> {
+    let mut world = World::new(rt.alloc())?;
+    tell_documents_that_do_not_fit(&rt, &mut world)
 }
 
 fn tell_unknown_receiver<R: Abort>(rt: &R, world: &mut World) -> Result<(), Fail> {

@@ -1,10 +1,11 @@
 //! Outcomes in words.
-use ebl_base::{LimitKind, PlaceTag};
-use pint_responses::Response;
+use ebl_base::{Checksum, LimitKind, PlaceTag, PlatformCode};
+use pint_responses::{Response, unseal};
 use platform_requests::{Reply, View};
 use std::alloc::Global;
 use std::process::Abort;
 use std::test::Fail;
+use test_signer::KeyedRing;
 use title_fold::{Title, possessor, title_holder};
 
 /// Asserts that a line has this text.
@@ -78,6 +79,35 @@ fn response_words(alloc: Global, response: &Response) -> Result<String, Fail> {
     if response.evidence.theirs.is_some() {
         words.push_str(" theirs")?;
     }
+    Ok(words)
+}
+
+/// What the sealed answer of a platform says.
+pub(crate) fn unsealed(alloc: Global, by: PlatformCode, reply: &Reply) -> Result<Response, Fail> {
+    let Reply::Answer { text, .. } = reply else {
+        return Err("an answer".into());
+    };
+    Ok(unseal(alloc, &KeyedRing::derived(), text.0.as_slice(), by)?)
+}
+
+fn name_word(name: Option<Checksum>, expected: Checksum, word: &'static str) -> &'static str {
+    match name {
+        None => "",
+        Some(name) if name == expected => word,
+        Some(_) => " another",
+    }
+}
+
+/// A response in words, and whether it names this bill and this last text.
+pub(crate) fn named_words(
+    alloc: Global,
+    response: &Response,
+    bill: Checksum,
+    last: Checksum,
+) -> Result<String, Fail> {
+    let mut words = response_words(alloc, response)?;
+    words.push_str(name_word(response.bill, bill, " bill"))?;
+    words.push_str(name_word(response.last, last, " last"))?;
     Ok(words)
 }
 

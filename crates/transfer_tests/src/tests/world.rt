@@ -9,10 +9,12 @@ ghost use Rattle.platform_machine.specs.Machine.{MayBeAsked};
 ghost use Rattle.transfer_judge.specs.PlannedTexts.{Nests};
 
 use super::asking::{bill, command, moment, party, platform, roster, signing};
-use super::words::reply_words;
-use ebl_base::{ByteList, Checksum, Copied, PlatformCode};
+use super::words::{named_words, reply_words, unsealed};
+use ebl_base::{ByteList, Checksum, Copied, PlatformCode, Reference};
 use holder_commands::Command;
+use pint_responses::Response;
 use platform_requests::{Message, MessageList, Outcome, Reply, Request};
+use signed_envelope::KeyRing;
 use std::alloc::Global;
 use std::test::Fail;
 use test_signer::KeyedRing;
@@ -138,8 +140,9 @@ fn sent_back(
     }
 }
 
-fn asks(
-    shard: &mut Shard<KeyedRing>,
+/// A party asks a shard of its platform.
+pub(crate) fn asks<G: KeyRing>(
+    shard: &mut Shard<G>,
     alloc: Global,
     by: &str,
     command: Command,
@@ -287,10 +290,79 @@ impl World {
         Ok(self.gamm.take(self.alloc, now, request))
     }
 
+    /// A request comes in the place of the message of this number, at the platform to which that was sent; the reply
+    /// goes to its sender.
+    pub(crate) fn in_place_of(&mut self, number: usize, request: Request) -> Result<String, Fail>
+        requires { (d : List Frame) (now : Moment) → MayBeAsked d now (request_view request) }
+    {
+        let parcel = self.parcel(number)?;
+        let (at, back) = (parcel.to, back_of(parcel.from, &parcel.content));
+        let outcome = self.take(at, request)?;
+        self.post(at, back, outcome)
+    }
+
+    /// What a platform's sealed answer to a request from outside says.
+    pub(crate) fn answer(&mut self, at: &str, request: Request) -> Result<Response, Fail>
+        requires { (d : List Frame) (now : Moment) → MayBeAsked d now (request_view request) }
+    {
+        let me = platform(at)?;
+        let Outcome { reply, .. } = self.take(me, request)?;
+        unsealed(self.alloc, me, &reply)
+    }
+
+    /// The same in words, and whether it names the bill and this last text.
+    pub(crate) fn answered(
+        &mut self,
+        at: &str,
+        request: Request,
+        last: Checksum,
+    ) -> Result<String, Fail>
+        requires { (d : List Frame) (now : Moment) → MayBeAsked d now (request_view request) }
+    {
+        let response = self.answer(at, request)?;
+        named_words(self.alloc, &response, bill()?, last)
+    }
+
+    /// A platform sends the start of the bill's transfer once more.
+    pub(crate) fn resend(&mut self, at: &str) -> Result<String, Fail> {
+        let bill = bill()?;
+        self.foreign(at, Request::Resend { bill })
+    }
+
+    /// A document comes to BETA.
+    pub(crate) fn put(
+        &mut self,
+        reference: Reference,
+        checksum: Checksum,
+        bytes: &[u8],
+    ) -> Result<String, Fail> {
+        let bytes = ByteList::from_slice(self.alloc, bytes)?;
+        self.foreign(
+            "BETA",
+            Request::Put {
+                reference,
+                checksum,
+                bytes,
+            },
+        )
+    }
+
     /// How the bill is at a platform.
     pub(crate) fn how(&mut self, at: &str) -> Result<String, Fail> {
         let bill = bill()?;
         self.foreign(at, Request::Ask { bill })
+    }
+
+    /// Whether the bill's possessor may act at a platform.
+    pub(crate) fn may_act(&self, at: &str) -> Result<bool, Fail> {
+        let bill = bill()?;
+        if at == "ALPH" {
+            return Ok(self.alph.may_act(self.alloc, bill)?);
+        }
+        if at == "BETA" {
+            return Ok(self.beta.may_act(self.alloc, bill)?);
+        }
+        Ok(self.gamm.may_act(self.alloc, bill)?)
     }
 
     /// A reply to the start comes to ALPH.
@@ -298,6 +370,13 @@ impl World {
         let bytes = ByteList::from_slice(self.alloc, bytes)?;
         let bill = bill()?;
         self.foreign("ALPH", Request::StartReply { bill, bytes })
+    }
+
+    /// A reply to the finish comes to ALPH.
+    pub(crate) fn finish_reply(&mut self, bytes: &[u8]) -> Result<String, Fail> {
+        let bytes = ByteList::from_slice(self.alloc, bytes)?;
+        let bill = bill()?;
+        self.foreign("ALPH", Request::FinishReply { bill, bytes })
     }
 
     /// How many frames BETA has written.
@@ -311,6 +390,19 @@ impl World {
             Content::Sent(Message::Start { body, .. }) => Ok(body.copy(self.alloc)?),
             _ => Err("a start".into()),
         }
+    }
+
+    /// The reference of the finish of this number.
+    pub(crate) fn reference_in(&self, number: usize) -> Result<Reference, Fail> {
+        match &self.parcel(number)?.content {
+            Content::Sent(Message::Finish { reference, .. }) => Ok(*reference),
+            _ => Err("a finish".into()),
+        }
+    }
+
+    /// Whether two starts have one body.
+    pub(crate) fn starts_alike(&self, one: usize, other: usize) -> Result<bool, Fail> {
+        Ok(self.start_in(one)?.as_slice() == self.start_in(other)?.as_slice())
     }
 
     // What a platform gave is sent; in words, with the numbers of the messages.
