@@ -1,0 +1,54 @@
+//! Surveys of families with many bills: what bench/surveys.py measures.
+#![tactic(auto)]
+
+mod making;
+
+use closed_family::{Verdict, survey};
+use making::family;
+use std::process::ExitCode;
+use std::{env, io};
+
+const USAGE: &str = "usage: survey_bench BILLS SURVEYS
+  BILLS bills, at most 65535, are signed, parted and settled at one platform and taken at another, all in diaries of one
+  shard; then the family of the two is surveyed SURVEYS times";
+
+fn main(rt: HostRuntime) -> ExitCode {
+    match run(&rt) {
+        Some(true) => ExitCode::SUCCESS,
+        Some(false) => {
+            let _ = eprintln!(rt; "{USAGE}");
+            ExitCode::from(2)
+        }
+        None => ExitCode::FAILURE,
+    }
+}
+
+// Whether the words were right; none where a survey found something, or couldn't be done.
+fn run(rt: &HostRuntime) -> Option<bool> {
+    let words = words(rt).ok()?;
+    let [bills, surveys] = words.as_slice() else {
+        return Some(false);
+    };
+    let (Ok(bills), Ok(surveys)) = (
+        bills.as_str().parse::<u16>(),
+        surveys.as_str().parse::<u32>(),
+    ) else {
+        return Some(false);
+    };
+    let family = family(rt.alloc(), bills)?;
+    for _ in 0..surveys {
+        let Verdict::Consistent = survey(rt.alloc(), &family).ok()? else {
+            return None;
+        };
+    }
+    Some(true)
+}
+
+// The words behind the program's name.
+fn words(rt: &HostRuntime) -> io::Result<Vec<String>> {
+    let mut words = Vec::new(rt.alloc());
+    for word in env::args(rt)?.skip(1) {
+        words.push(word)?;
+    }
+    Ok(words)
+}
