@@ -1,8 +1,8 @@
 #!/usr/bin/env python3
 """What a survey costs, by how many bills the diaries of one shard have.
 
-Builds survey_bench, and for families of 400 to 6,400 bills counts the instructions that callgrind sees in a run with one
-survey more than another. Words: none.
+Builds survey_bench, and for families of 400 to 6,400 bills counts the instructions that callgrind sees in a run with
+one survey more than another. Words: none.
 """
 from measure import difference, instructions, proved
 
