@@ -22,6 +22,7 @@ use Rattle.bill_diary.specs.declared.record.Record.TheVariants.{Signed, Acted, A
 use Rattle.bill_diary.specs.declared.frame.Frame.{Frame}
 use Rattle.bill_diary.specs.declared.frame.Frame.TheVariants.{One, BegunTaken}
 use Rattle.bill_diary.specs.History.{taken_after}
+use Rattle.bill_diary.specs.Place.{regains, settles}
 use Rattle.bill_diary.specs.Receiving.{declines, takes}
 use Rattle.bill_diary.specs.Searches.{kept_in}
 use Rattle.bill_diary.specs.Sound.{has_reference, is_parted}
@@ -43,6 +44,14 @@ is_eq-key_cmp (keys.Came a) (keys.Came b) = is_eq-slice_cmp a.0 b.0
 is_eq-key_cmp (keys.Begun a) (keys.Begun b) = is_eq-slice_cmp a.0 b.0
 is_eq-key_cmp (keys.Taken a) (keys.Taken b) = is_eq-slice_cmp a.0 b.0
 is_eq-key_cmp (keys.Declined a) (keys.Declined b) = is_eq-slice_cmp a.0 b.0
+is_eq-key_cmp (keys.Settled a b) (keys.Settled c d) =
+    is_eq-then (slice_cmp nat_cmp a.0 c.0) (slice_cmp nat_cmp b.0 d.0)
+    ∙ ap (λ t. t && is_eq (slice_cmp nat_cmp b.0 d.0)) (is_eq-slice_cmp a.0 c.0)
+    ∙ ap (λ t. checksum_eq a c && t) (is_eq-slice_cmp b.0 d.0)
+is_eq-key_cmp (keys.Regained a b) (keys.Regained c d) =
+    is_eq-then (slice_cmp nat_cmp a.0 c.0) (slice_cmp nat_cmp b.0 d.0)
+    ∙ ap (λ t. t && is_eq (slice_cmp nat_cmp b.0 d.0)) (is_eq-slice_cmp a.0 c.0)
+    ∙ ap (λ t. checksum_eq a c && t) (is_eq-slice_cmp b.0 d.0)
 is_eq-key_cmp (keys.Document a b) (keys.Document c d) =
     is_eq-then (slice_cmp nat_cmp a.0 c.0) (slice_cmp nat_cmp b.0 d.0)
     ∙ ap (λ t. t && is_eq (slice_cmp nat_cmp b.0 d.0)) (is_eq-slice_cmp a.0 c.0)
@@ -62,6 +71,14 @@ one_key (keys.Begun a) (keys.Begun b) h =
     ap (λ (r : Reference). keys.Begun r) (ap reference ((bytes_eq-Decides a.0 b.0).0 h))
 one_key (keys.Taken a) (keys.Taken b) h = ap keys.Taken ((checksum_eq-Decides a b).0 h)
 one_key (keys.Declined a) (keys.Declined b) h = ap keys.Declined ((checksum_eq-Decides a b).0 h)
+one_key (keys.Settled a b) (keys.Settled c d) h =
+    let (bills, checksums) = and_true (checksum_eq a c) (checksum_eq b d) h in
+    ap (λ x. keys.Settled x b) ((checksum_eq-Decides a c).0 bills)
+    ∙ ap (λ x. keys.Settled c x) ((checksum_eq-Decides b d).0 checksums)
+one_key (keys.Regained a b) (keys.Regained c d) h =
+    let (bills, checksums) = and_true (checksum_eq a c) (checksum_eq b d) h in
+    ap (λ x. keys.Regained x b) ((checksum_eq-Decides a c).0 bills)
+    ∙ ap (λ x. keys.Regained c x) ((checksum_eq-Decides b d).0 checksums)
 one_key (keys.Document a b) (keys.Document c d) h =
     let (bills, checksums) = and_true (checksum_eq a c) (checksum_eq b d) h in
     ap (λ x. keys.Document x b) ((checksum_eq-Decides a c).0 bills)
@@ -177,6 +194,8 @@ asks (keys.Begun reference) r = has_reference reference r
 asks (keys.Came bill) r = for_bill bill is_begun r
 asks (keys.Taken entry) r = takes entry r
 asks (keys.Declined entry) r = declines entry r
+asks (keys.Settled bill entry) r = for_bill bill (settles entry) r
+asks (keys.Regained bill entry) r = for_bill bill (regains entry) r
 asks (keys.Document bill checksum) r = brings_to bill checksum r
 
 and-false : (b : Bool) → (b && false) ≡ false
@@ -269,6 +288,30 @@ record_asks (keys.Declined entry) (Begun bill chain manifest body) =
     begun_else bill (last_of chain) (keys.Declined entry) false (λ _. refl) refl
 record_asks (keys.Declined entry) (Declined bill other code reason evidence) = sym (or-false (checksum_eq other entry))
 record_asks (keys.Declined entry) r = refl
+record_asks (keys.Settled b entry) (Begun bill chain manifest body) =
+    begun_else bill (last_of chain) (keys.Settled b entry) (checksum_eq bill b && false) (λ _. refl)
+    (and-false (checksum_eq bill b))
+record_asks (keys.Settled b entry) (Settled bill other) = sym (or-false (checksum_eq bill b && checksum_eq other entry))
+record_asks (keys.Settled b entry) (Signed bill document transaction) = and-false (checksum_eq bill b)
+record_asks (keys.Settled b entry) (Acted bill transaction) = and-false (checksum_eq bill b)
+record_asks (keys.Settled b entry) (Attached bill piece bytes) = and-false (checksum_eq bill b)
+record_asks (keys.Settled b entry) (Parted bill link manifest manifest_text) = and-false (checksum_eq bill b)
+record_asks (keys.Settled b entry) (Regained bill other) = and-false (checksum_eq bill b)
+record_asks (keys.Settled b entry) (Stored bill other checksum bytes) = and-false (checksum_eq bill b)
+record_asks (keys.Settled b entry) (Taken bill other) = and-false (checksum_eq bill b)
+record_asks (keys.Settled b entry) (Declined bill other code reason evidence) = and-false (checksum_eq bill b)
+record_asks (keys.Regained b entry) (Begun bill chain manifest body) =
+    begun_else bill (last_of chain) (keys.Regained b entry) (checksum_eq bill b && false) (λ _. refl)
+    (and-false (checksum_eq bill b))
+record_asks (keys.Regained b entry) (Regained bill other) = sym (or-false (checksum_eq bill b && checksum_eq other entry))
+record_asks (keys.Regained b entry) (Signed bill document transaction) = and-false (checksum_eq bill b)
+record_asks (keys.Regained b entry) (Acted bill transaction) = and-false (checksum_eq bill b)
+record_asks (keys.Regained b entry) (Attached bill piece bytes) = and-false (checksum_eq bill b)
+record_asks (keys.Regained b entry) (Parted bill link manifest manifest_text) = and-false (checksum_eq bill b)
+record_asks (keys.Regained b entry) (Settled bill other) = and-false (checksum_eq bill b)
+record_asks (keys.Regained b entry) (Stored bill other checksum bytes) = and-false (checksum_eq bill b)
+record_asks (keys.Regained b entry) (Taken bill other) = and-false (checksum_eq bill b)
+record_asks (keys.Regained b entry) (Declined bill other code reason evidence) = and-false (checksum_eq bill b)
 record_asks (keys.Document b c) (Begun bill chain manifest body) =
     begun_else bill (last_of chain) (keys.Document b c) (checksum_eq bill b && false) (λ _. refl)
     (and-false (checksum_eq bill b))
@@ -347,6 +390,8 @@ hits-unless_numbered number (Some (keys.Parted bill)) q other = refl
 hits-unless_numbered number (Some (keys.Begun reference)) q other = refl
 hits-unless_numbered number (Some (keys.Came bill)) q other = refl
 hits-unless_numbered number (Some (keys.Taken entry)) q other = refl
+hits-unless_numbered number (Some (keys.Settled bill entry)) q other = refl
+hits-unless_numbered number (Some (keys.Regained bill entry)) q other = refl
 hits-unless_numbered number (Some (keys.Declined entry)) q other = refl
 
 same_unless : (f g : FrameKey → Option ℕ) → ((k : FrameKey) → f k ≡ g k) → (key : Option FrameKey)
@@ -360,6 +405,8 @@ same_unless f g same (Some (keys.Parted bill)) = refl
 same_unless f g same (Some (keys.Begun reference)) = refl
 same_unless f g same (Some (keys.Came bill)) = refl
 same_unless f g same (Some (keys.Taken entry)) = refl
+same_unless f g same (Some (keys.Settled bill entry)) = refl
+same_unless f g same (Some (keys.Regained bill entry)) = refl
 same_unless f g same (Some (keys.Declined entry)) = refl
 
 abbrev in_diary : List Frame → FrameKey → Option ℕ
@@ -462,6 +509,8 @@ first_by_key diary (Some (keys.Parted bill)) b c n = or_none (number_of (keys.Do
 first_by_key diary (Some (keys.Begun reference)) b c n = or_none (number_of (keys.Document b c) diary)
 first_by_key diary (Some (keys.Came bill)) b c n = or_none (number_of (keys.Document b c) diary)
 first_by_key diary (Some (keys.Taken entry)) b c n = or_none (number_of (keys.Document b c) diary)
+first_by_key diary (Some (keys.Settled bill entry)) b c n = or_none (number_of (keys.Document b c) diary)
+first_by_key diary (Some (keys.Regained bill entry)) b c n = or_none (number_of (keys.Document b c) diary)
 first_by_key diary (Some (keys.Declined entry)) b c n = or_none (number_of (keys.Document b c) diary)
 first_by_key diary (Some (keys.Document bill checksum)) b c n =
     first_stays (in_diary diary) (keys.Document bill checksum) (keys.Document b c) n
@@ -507,6 +556,12 @@ numbers_after diary frame (keys.Taken entry) =
 numbers_after diary frame (keys.Declined entry) =
     sym (last_number-push (has (declines entry)) diary frame
     ∙ last_more diary frame (keys.Declined entry) (λ _ _. refl))
+numbers_after diary frame (keys.Settled bill entry) =
+    sym (last_number-push (has (for_bill bill (settles entry))) diary frame
+    ∙ last_more diary frame (keys.Settled bill entry) (λ _ _. refl))
+numbers_after diary frame (keys.Regained bill entry) =
+    sym (last_number-push (has (for_bill bill (regains entry))) diary frame
+    ∙ last_more diary frame (keys.Regained bill entry) (λ _ _. refl))
 numbers_after diary frame (keys.Document b c) =
     sym (first_number-push (has (brings_to b c)) diary frame ∙ first_more diary frame b c)
 

@@ -3,4 +3,5 @@ mod StateLemmas
 mod FrameLemmas
 mod RoomLemmas
 mod LookUpLemmas
+mod PastLemmas
 mod AddLemmas

@@ -17,6 +17,7 @@ use Rattle.bill_diary.specs.declared.frame.Frame.{Frame}
 use Rattle.bill_diary.specs.declared.frame.Frame.TheVariants.{One, BegunTaken}
 use Rattle.bill_diary.specs.History.{bill_of, of_bill, taken_after, records_of, newest_first, history}
 use Rattle.bill_diary.specs.Pieces.{brings, is_there}
+use Rattle.bill_diary.specs.Place.{is_regained, is_settled, regains, settles}
 use Rattle.bill_diary.specs.Receiving.{declines, is_taken, last_declined, takes}
 use Rattle.bill_diary.specs.Searches.{bytes_in, first_bytes, kept_in, last_body, last_parted_record, signed_text}
 use Rattle.bill_diary.specs.Sound.{has_reference, is_parted, last_with_reference}
@@ -308,6 +309,19 @@ any-of_bill : (bill : Checksum) (test : Record → Bool) (records : List Record)
 any-of_bill bill test [] = refl
 any-of_bill bill test (r ∷ records) =
     any_on bill test r records (checksum_eq (bill_of r) bill) (any-of_bill bill test records)
+
+any_of_bill : (bill : Checksum) (test : Record → Bool) (diary : List Frame)
+    → is_some (last_number (has (for_bill bill test)) diary) ≡ list_any test (history bill diary)
+any_of_bill bill test diary =
+    any_numbered (for_bill bill test) diary ∙ sym (any-of_bill bill test (newest_first diary))
+
+pub settled_numbered : (bill entry : Checksum) (diary : List Frame)
+    → is_some (last_number (has (for_bill bill (settles entry))) diary) ≡ is_settled entry (history bill diary)
+settled_numbered bill entry diary = any_of_bill bill (settles entry) diary
+
+pub regained_numbered : (bill entry : Checksum) (diary : List Frame)
+    → is_some (last_number (has (for_bill bill (regains entry))) diary) ≡ is_regained entry (history bill diary)
+regained_numbered bill entry diary = any_of_bill bill (regains entry) diary
 
 some_first : (b : Bool) (first last : Option ℕ) → is_some first ≡ is_some last
     → is_some (cond b (Some 0) (option_map (λ n. n + 1) first))

@@ -28,6 +28,7 @@ use Rattle.bill_diary.proofs.TitleLemmas.{is_ended-unplaced}
 use Rattle.title_register.specs.declared.standing.Standing.{Standing}
 use Rattle.title_register.specs.declared.bill_state.BillState.{BillState}
 use Rattle.title_register.specs.declared.bill_state.StateChange.{StateChange}
+use Rattle.title_register.specs.Past.{arrived, is_fresh}
 use Rattle.title_register.specs.Standing.{place_at, standing_of, standing_with}
 use Rattle.title_register.specs.BillState.{acts_with, state_of, state_with, title_by}
 use Rattle.title_register.specs.Register.{bill_in}
@@ -133,23 +134,37 @@ pub ruleset partings = (parted_more, parted_same, partings-le-length)
 -- ---- what is kept
 
 -- a state is its parts
-pub by_parts : (s : BillState) (standing1 : Standing) (title1 : FoldedBy) (pieces1 : List Piece) (partings1 : ℕ)
-    → standing1 ≡ s.standing → title1 ≡ s.title → pieces1 ≡ s.pieces → partings1 ≡ s.partings
-    → record { standing = standing1; title = title1; pieces = pieces1; partings = partings1 } ≡ s
-by_parts s standing1 title1 pieces1 partings1 k p l m =
-    let Made : Standing → FoldedBy → List Piece → ℕ → BillState =
-    λ a b c d. record { standing = a; title = b; pieces = c; partings = d } in
-    ap (λ a. Made a title1 pieces1 partings1) k ∙ ap (λ b. Made s.standing b pieces1 partings1) p
-    ∙ ap (λ c. Made s.standing s.title c partings1) l ∙ ap (λ d. Made s.standing s.title s.pieces d) m
+by_parts : (s : BillState) (standing1 : Standing) (title1 : FoldedBy) (pieces1 : List Piece) (partings1 : ℕ)
+    (arrived1 : List Checksum) (fresh1 : Bool) → standing1 ≡ s.standing → title1 ≡ s.title → pieces1 ≡ s.pieces
+    → partings1 ≡ s.partings → arrived1 ≡ s.arrived → fresh1 ≡ s.fresh
+    → record {
+      standing = standing1;
+      title = title1;
+      pieces = pieces1;
+      partings = partings1;
+      arrived = arrived1;
+      fresh = fresh1;
+    } ≡ s
+by_parts s standing1 title1 pieces1 partings1 arrived1 fresh1 a b c d e f =
+    λ i. record {
+      standing = a i;
+      title = b i;
+      pieces = c i;
+      partings = d i;
+      arrived = e i;
+      fresh = f i;
+    }
 
 -- what is kept after a change is what the records say, where each part is
 pub state_changed : (change : StateChange) (s : BillState) (h : List Record)
     → standing_with change.standing s.standing ≡ standing_of h
     → change.title ≡ title_by (standing_with change.standing s.standing)
     → unwrap_or change.pieces s.pieces ≡ pieces_of h → change.partings ≡ count_by is_parted h
+    → unwrap_or change.arrived s.arrived ≡ arrived h → change.fresh ≡ is_fresh h
     → state_with change s ≡ state_of h
-state_changed change s h standing_is title_is pieces_are partings_are =
+state_changed change s h standing_is title_is pieces_are partings_are arrived_are fresh_is =
     by_parts (state_of h) (standing_with change.standing s.standing) change.title (unwrap_or change.pieces s.pieces)
-    change.partings standing_is (title_is ∙ ap title_by standing_is ∙ title_by-standing_of h) pieces_are partings_are
+    change.partings (unwrap_or change.arrived s.arrived) change.fresh standing_is
+    (title_is ∙ ap title_by standing_is ∙ title_by-standing_of h) pieces_are partings_are arrived_are fresh_is
 
 pub ruleset states = (state_changed)

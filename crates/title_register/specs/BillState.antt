@@ -10,20 +10,24 @@ use Rattle.bill_diary.specs.Titles.{FoldedBy, is_ended_by, unplaced}
 use Rattle.title_register.specs.declared.standing.Standing.{Standing}
 use Rattle.title_register.specs.declared.bill_state.BillState.{BillState}
 use Rattle.title_register.specs.declared.bill_state.StateChange.{StateChange}
+use Rattle.title_register.specs.Past.{arrived, is_fresh}
 use Rattle.title_register.specs.Standing.{nothing, place_at, standing_of, standing_with}
 
--- where it stands, the title there, its documents, and how often it was parted
+-- where it stands, the title there, its documents, how often it was parted, and what was kept so that its records
+-- needn't be gone over
 abbrev pub state_of : List Record → BillState
 state_of h = record {
   standing = standing_of h;
   title = unplaced (title_at (place_of h));
   pieces = pieces_of h;
   partings = count_by is_parted h;
+  arrived = arrived h;
+  fresh = is_fresh h;
 }
 
 -- what is kept of a bill of which there is no record
 abbrev pub unknown : BillState
-unknown = record { standing = nothing; title = Ok None; pieces = []; partings = 0 }
+unknown = record { standing = nothing; title = Ok None; pieces = []; partings = 0; arrived = []; fresh = false }
 
 -- the title where a bill stands so
 abbrev pub title_by : Standing → FoldedBy
@@ -45,4 +49,6 @@ state_with change s = record {
   title = change.title;
   pieces = unwrap_or change.pieces s.pieces;
   partings = change.partings;
+  arrived = unwrap_or change.arrived s.arrived;
+  fresh = change.fresh;
 }

@@ -11,9 +11,10 @@ use Rattle.bill_chain.specs.Chain.{last_of}
 use Rattle.bill_diary.specs.declared.frame.Frame.{Frame}
 use Rattle.bill_diary.specs.declared.frame.Frame.TheVariants.{One, BegunTaken}
 use Rattle.bill_diary.specs.declared.record.Record.{Record}
-use Rattle.bill_diary.specs.declared.record.Record.TheVariants.{Signed, Attached, Parted, Begun, Stored, Taken, Declined}
+use Rattle.bill_diary.specs.declared.record.Record.TheVariants.{Signed, Attached, Parted, Settled, Regained, Begun, Stored, Taken, Declined}
 use Rattle.bill_diary.specs.History.{bill_of, records_of, taken_after}
 use Rattle.bill_diary.specs.Pieces.{brings}
+use Rattle.bill_diary.specs.Place.{regains, settles}
 use Rattle.bill_diary.specs.Receiving.{Declination, declines, takes}
 use Rattle.bill_diary.specs.Searches.{kept_in}
 use Rattle.bill_diary.specs.Sound.{has_reference, is_parted}
@@ -69,6 +70,8 @@ number_of (keys.Came bill) diary = last_number (has (for_bill bill is_begun)) di
 number_of (keys.Begun reference) diary = last_number (has (has_reference reference)) diary
 number_of (keys.Taken entry) diary = last_number (has (takes entry)) diary
 number_of (keys.Declined entry) diary = last_number (has (declines entry)) diary
+number_of (keys.Settled bill entry) diary = last_number (has (for_bill bill (settles entry))) diary
+number_of (keys.Regained bill entry) diary = last_number (has (for_bill bill (regains entry))) diary
 number_of (keys.Document bill checksum) diary = first_number (has (brings_to bill checksum)) diary
 
 -- the text of the document that a record signed
@@ -96,6 +99,10 @@ key_eq (keys.Came a) (keys.Came b) = checksum_eq a b
 key_eq (keys.Begun a) (keys.Begun b) = bytes_eq a.0 b.0
 key_eq (keys.Taken a) (keys.Taken b) = checksum_eq a b
 key_eq (keys.Declined a) (keys.Declined b) = checksum_eq a b
+key_eq (keys.Settled bill entry) (keys.Settled bill2 entry2) =
+    checksum_eq bill bill2 && checksum_eq entry entry2
+key_eq (keys.Regained bill entry) (keys.Regained bill2 entry2) =
+    checksum_eq bill bill2 && checksum_eq entry entry2
 key_eq (keys.Document bill checksum) (keys.Document bill2 checksum2) =
     checksum_eq bill bill2 && checksum_eq checksum checksum2
 key_eq a b = false
@@ -109,6 +116,8 @@ abbrev pub key_of : Record → Option FrameKey
 key_of (Signed bill document transaction) = Some (keys.Signed bill)
 key_of (Attached bill piece bytes) = Some (keys.Document bill piece.checksum)
 key_of (Parted bill link manifest manifest_text) = Some (keys.Parted bill)
+key_of (Settled bill entry) = Some (keys.Settled bill entry)
+key_of (Regained bill entry) = Some (keys.Regained bill entry)
 key_of (Begun bill chain manifest body) =
     option_map (λ link. keys.Begun (reference_of bill link.name)) (last_of chain)
 key_of (Stored bill entry checksum bytes) = Some (keys.Document bill checksum)

@@ -6,7 +6,7 @@ ghost use Rattle.title_register.specs.Standing.{place_at};
 
 use crate::change::Change;
 use crate::standing::Standing;
-use ebl_base::Items;
+use ebl_base::{ChecksumList, Items};
 use envelope_manifest::PieceList;
 use std::alloc::Global;
 use title_fold::{FoldRefusal, Title};
@@ -21,6 +21,10 @@ pub(crate) struct BillState {
     pub(crate) pieces: PieceList,
     /// How often the bill was parted.
     pub(crate) partings: usize,
+    /// The names of all entries that came with a Taken.
+    pub(crate) arrived: ChecksumList,
+    /// Whether no record told a chain since the last Parted.
+    pub(crate) fresh: bool,
 }
 
 /// What changes in what is kept of a bill. It has all memory that the state after it needs.
@@ -31,6 +35,9 @@ pub(crate) struct StateChange {
     /// The documents now. `None` where they stay.
     pub(crate) pieces: Option<PieceList>,
     pub(crate) partings: usize,
+    /// The names of all entries that came with a Taken. `None` where they stay.
+    pub(crate) arrived: Option<ChecksumList>,
+    pub(crate) fresh: bool,
 }
 
 impl BillState {
@@ -43,6 +50,8 @@ impl BillState {
             title: Ok(None),
             pieces: Items::new(alloc),
             partings: 0,
+            arrived: Items::new(alloc),
+            fresh: false,
         }
     }
 
@@ -60,6 +69,7 @@ impl BillState {
         let BillState {
             standing,
             pieces,
+            arrived,
             ..
         } = self;
         BillState {
@@ -67,6 +77,8 @@ impl BillState {
             title: change.title,
             pieces: change.pieces.unwrap_or(pieces),
             partings: change.partings,
+            arrived: change.arrived.unwrap_or(arrived),
+            fresh: change.fresh,
         }
     }
 }

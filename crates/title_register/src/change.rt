@@ -14,10 +14,9 @@ ghost use Rattle.bill_diary.specs.Known.{taken_chain};
 ghost use Rattle.bill_diary.specs.Place.{is_left};
 ghost use Rattle.title_register.specs.Standing.{left_by, over_if, standing_of, standing_with, unless_shorter};
 
-use crate::over::{is_left, is_over};
+use crate::past::Past;
 use crate::standing::Standing;
 use bill_chain::{has_entry, last_link};
-use bill_diary::{History, settled_chain};
 use ebl_base::{Chain, ChainLink, Checksum, Copied, Items, NoMemory, Transaction, TransactionList};
 use std::alloc::Global;
 
@@ -112,14 +111,14 @@ fn followed(
 pub(crate) fn parted(
     alloc: Global,
     standing: &Standing,
-    before: History,
+    before: &Past<'_>,
     link: &ChainLink,
 ) -> Result<Change, NoMemory>
-    ensures { (bill : Checksum) (manifest : Manifest) (text : SignedText) → standing.now ≡ standing_of before.entry
+    ensures { (bill : Checksum) (manifest : Manifest) (text : SignedText) → standing.now ≡ standing_of before.now
         → IfOk result (λ c. standing_with c standing.now
-        ≡ standing_of (Parted bill link.now manifest text ∷ before.entry)) }
+        ≡ standing_of (Parted bill link.now manifest text ∷ before.now)) }
 {
-    let parting = if is_over(before, link.name) {
+    let parting = if before.is_over(link.name) {
         PartingChange::Over
     } else {
         PartingChange::Begins(link.copy(alloc)?)
@@ -136,16 +135,13 @@ pub(crate) fn parted(
 pub(crate) fn settled(
     alloc: Global,
     standing: &Standing,
-    before: History,
+    before: &Past<'_>,
     entry: Checksum,
 ) -> Result<Change, NoMemory>
-    ensures { (bill : Checksum) → standing.now ≡ standing_of before.entry
-        → IfOk result (λ c. standing_with c standing.now ≡ standing_of (Settled bill entry ∷ before.entry)) }
+    ensures { (bill : Checksum) → standing.now ≡ standing_of before.now
+        → IfOk result (λ c. standing_with c standing.now ≡ standing_of (Settled bill entry ∷ before.now)) }
 {
-    let known = unless_shorter(
-        settled_chain(alloc, before.restart(), entry)?,
-        &standing.known,
-    );
+    let known = unless_shorter(before.settled_chain(alloc, entry)?, &standing.known);
     let left = match known_now(&known, &standing.known) {
         Some(chain) => is_left_with(entry, chain.as_slice(), before),
         None => false,
@@ -171,21 +167,21 @@ pub(crate) fn regained(standing: &Standing, entry: Checksum) -> Change
     }
 }
 
-/// A Taken whose chain this is. What is left of the history says which entries are settled.
+/// A Taken whose chain this is. The records before it say which entries are settled.
 pub(crate) fn taken(
     alloc: Global,
     standing: &Standing,
-    before: History,
+    before: &Past<'_>,
     chain: Option<&Chain>,
 ) -> Result<Change, NoMemory>
     ensures { (bill entry : Checksum) (h : List Record) → standing.now ≡ standing_of h
         → taken_chain entry h ≡ option_copied chain.entry
-        → ((some_chain : List ChainLink) → is_left some_chain h ≡ is_left some_chain before.entry)
+        → ((some_chain : List ChainLink) → is_left some_chain h ≡ is_left some_chain before.now)
         → IfOk result (λ c. standing_with c standing.now ≡ standing_of (Taken bill entry ∷ h)) }
 {
     let known = unless_shorter(copy_of(alloc, chain)?, &standing.known);
     let left = match known_now(&known, &standing.known) {
-        Some(chain) => is_left(chain.as_slice(), before),
+        Some(chain) => before.is_left(chain.as_slice()),
         None => false,
     };
     Ok(Change {
@@ -266,11 +262,11 @@ pub(crate) fn known_now<'a>(
 }
 
 // Whether the last entry of a chain is settled, with a further Settled.
-fn is_left_with(entry: Checksum, chain: &[ChainLink], before: History) -> bool
-    ensures { (bill : Checksum) → result ≡ is_left chain.now (Settled bill entry ∷ before.entry) }
+fn is_left_with(entry: Checksum, chain: &[ChainLink], before: &Past<'_>) -> bool
+    ensures { (bill : Checksum) → result ≡ is_left chain.now (Settled bill entry ∷ before.now) }
 {
     match last_link(chain) {
-        Some(link) => entry == link.name || is_left(chain, before),
+        Some(link) => entry == link.name || before.is_left(chain),
         None => false,
     }
 }

@@ -1,16 +1,16 @@
 //! What a frame changes in the documents of its bill, and in how often it was parted.
 #![tactic(auto, using(crate::proofs::StateLemmas::documents))]
 
-ghost use Rattle.std.specs.Prelude.{◌≡◌, ◌∷◌, [], ◌++◌, IfOk, count_by, option_copied, option_map, reverse, unwrap_or};
+ghost use Rattle.std.specs.Prelude.{◌≡◌, ◌∷◌, [], ◌++◌, IfOk, count_by, reverse, unwrap_or};
 ghost use Rattle.bill_diary.specs.History.{history, records_of};
-ghost use Rattle.bill_diary.specs.Known.{last_begun};
 ghost use Rattle.bill_diary.specs.Pieces.{pieces_of};
 ghost use Rattle.bill_diary.specs.Searches.{kept_in, listed};
 ghost use Rattle.bill_diary.specs.Sound.{is_parted};
 ghost use Rattle.title_register.specs.Register.{bill_in};
 
-use bill_chain::{ends_in, last_link};
-use bill_diary::{Frame, History, Record, RecordRef};
+use crate::past::Past;
+use bill_chain::last_link;
+use bill_diary::{Frame, Record};
 use ebl_base::{Checksum, Copied, Items, NoMemory};
 use envelope_manifest::PieceList;
 use std::alloc::Global;
@@ -18,13 +18,13 @@ use std::alloc::Global;
 /// The documents after a frame, by those before it. `None` where they stay.
 pub(crate) fn pieces_after(
     alloc: Global,
-    before: History,
+    before: &Past<'_>,
     pieces: &PieceList,
     frame: &Frame,
 ) -> Result<Option<PieceList>, NoMemory>
-    requires { pieces.now ≡ pieces_of before }
+    requires { pieces.now ≡ pieces_of before.now }
     ensures { IfOk result (λ after.
-        unwrap_or after pieces.now ≡ pieces_of (reverse (records_of frame.now) ++ before.entry)) }
+        unwrap_or after pieces.now ≡ pieces_of (reverse (records_of frame.now) ++ before.now)) }
 {
     match frame {
         Frame::One(kept) => pieces_by(alloc, before, pieces, kept),
@@ -46,12 +46,12 @@ pub(crate) fn pieces_after(
 // The documents after a record.
 fn pieces_by(
     alloc: Global,
-    before: History,
+    before: &Past<'_>,
     pieces: &PieceList,
     kept: &Record,
 ) -> Result<Option<PieceList>, NoMemory>
-    requires { pieces.now ≡ pieces_of before }
-    ensures { IfOk result (λ after. unwrap_or after pieces.now ≡ pieces_of (kept.now ∷ before.entry)) }
+    requires { pieces.now ≡ pieces_of before.now }
+    ensures { IfOk result (λ after. unwrap_or after pieces.now ≡ pieces_of (kept.now ∷ before.now)) }
 {
     match kept {
         Record::Attached { piece, .. } => {
@@ -65,33 +65,13 @@ fn pieces_by(
 }
 
 // The documents that came with the last Begun of an entry.
-fn listed(alloc: Global, before: History, entry: Checksum) -> Result<PieceList, NoMemory>
-    ensures { IfOk result (λ list. list ≡ listed entry before.entry) }
+fn listed(alloc: Global, before: &Past<'_>, entry: Checksum) -> Result<PieceList, NoMemory>
+    ensures { IfOk result (λ list. list ≡ listed entry before.now) }
 {
-    match begun_documents(before, entry) {
-        Some(documents) => documents.copy(alloc),
+    match before.received(entry) {
+        Some(came) => came.manifest.documents.copy(alloc),
         None => Ok(Items::new(alloc)),
     }
-}
-
-fn begun_documents<'a>(mut h: History<'a>, entry: Checksum) -> Option<&'a PieceList>
-    ensures { option_copied result ≡ option_map (λ came. came.manifest.documents) (last_begun entry h.entry) }
-{
-    while let Some(record) = h.next() {
-        if let RecordRef::Kept(
-            Record::Begun {
-                chain,
-                manifest,
-                ..
-            },
-        ) = record
-        {
-            if ends_in(chain.as_slice(), entry) {
-                return Some(&manifest.documents);
-            }
-        }
-    }
-    None
 }
 
 /// How often a bill was parted after a frame of it, by how often before.

@@ -22,6 +22,10 @@ pub(crate) enum FrameKey {
     Taken(Checksum),
     /// An entry that was declined.
     Declined(Checksum),
+    /// A bill, and an entry of it that is settled.
+    Settled(Checksum, Checksum),
+    /// A bill, and an entry of it that is regained.
+    Regained(Checksum, Checksum),
     /// A bill, and the checksum of a document whose bytes came.
     Document(Checksum, Checksum),
 }
@@ -34,6 +38,8 @@ pub(crate) fn key_of(kept: &Record) -> Option<FrameKey>
         Record::Signed { bill, .. } => Some(FrameKey::Signed(*bill)),
         Record::Attached { bill, piece, .. } => Some(FrameKey::Document(*bill, piece.checksum)),
         Record::Parted { bill, .. } => Some(FrameKey::Parted(*bill)),
+        Record::Settled { bill, entry } => Some(FrameKey::Settled(*bill, *entry)),
+        Record::Regained { bill, entry } => Some(FrameKey::Regained(*bill, *entry)),
         Record::Begun { bill, chain, .. } => {
             let link = last_link(chain.as_slice())?;
             Some(FrameKey::Begun(reference_of(*bill, link.name)))

@@ -1,16 +1,19 @@
 //! What a platform knows of its bills at hand, kept beside its diary and equal to it at every moment.
 #![tactic(auto)]
 
+mod arrived;
 mod bill_state;
 mod change;
 mod documents;
 mod frame_key;
 mod frame_numbers;
-mod over;
+mod past;
+mod place_ref;
 mod register;
 mod room;
 mod standing;
 mod title;
 
+pub use place_ref::PlaceRef;
 pub use register::Register;
 pub use room::Room;

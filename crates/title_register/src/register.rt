@@ -1,7 +1,7 @@
 //! The register: a diary, what is kept of each of its bills, and the numbers of its frames.
 #![tactic(auto, using(crate::proofs::RegisterLemmas::places, crate::proofs::StateLemmas::titles))]
 
-ghost use Rattle.std.specs.Prelude.{◌≡◌, ◌<◌, ◌∷◌, [], ◌++◌, None, OnErr, OnOk, IsSome, count_by, is_some, option_and_then, option_copied, if◌then◌else◌};
+ghost use Rattle.std.specs.Prelude.{◌≡◌, ◌<◌, ◌∷◌, [], ◌++◌, None, OnErr, OnOk, Some, IsSome, count_by, is_some, option_and_then, option_copied, if◌then◌else◌};
 ghost use Rattle.std.specs.BTreeMap.{get};
 ghost use Rattle.std.specs.Vec.{vec_len, vec_capacity};
 ghost use Rattle.ebl_base.specs.Checksum.{checksum_cmp, checksum_eq};
@@ -16,14 +16,17 @@ ghost use Rattle.bill_diary.specs.Sound.{has_reference, is_parted, last_with_ref
 ghost use Rattle.bill_diary.specs.Titles.{unplaced};
 ghost use Rattle.title_register.specs.BillState.{state_with};
 ghost use Rattle.title_register.specs.Frames.{body_begun, brings_to, declination, document_signed, first_number, for_bill, has, is_begun, is_signed, last_number, record_numbered};
+ghost use Rattle.title_register.specs.PlaceRef.{place_view};
 ghost use Rattle.title_register.specs.Register.{IsReadyFor, state_in};
 ghost use Rattle.title_register.specs.Standing.{since_at};
 
 use crate::bill_state::{BillState, StateChange};
+use crate::documents::kept_in;
 use crate::frame_key::FrameKey;
 use crate::frame_numbers::FrameNumbers;
+use crate::place_ref::PlaceRef;
 use crate::room::{Reserved, Room, room_for};
-use bill_diary::{Diary, Frame};
+use bill_diary::{Diary, Frame, Record};
 use ebl_base::{Chain, ChainLink, Checksum, Items, NoMemory, PlaceTag, Reference, Transaction};
 use envelope_manifest::Piece;
 use std::alloc::Global;
@@ -85,6 +88,16 @@ impl Register {
         match &self.reserved {
             Some(reserved) => reserved.frames.as_slice(),
             None => self.diary.as_slice(),
+        }
+    }
+
+    /// Where a bill stands.
+    pub fn place(&self, bill: Checksum) -> PlaceRef<'_>
+        ensures { place_view result ≡ place_of (history bill self.now.diary) }
+    {
+        match self.bills.get(&bill) {
+            Some(state) => state.standing.place(),
+            None => PlaceRef::Absent,
         }
     }
 
@@ -169,6 +182,13 @@ impl Register {
             Some(state) => state.partings,
             None => 0,
         }
+    }
+
+    /// The record that the frame of a number keeps. `None` where there are no more frames.
+    pub fn record_at(&self, number: usize) -> Option<&Record>
+        ensures { option_copied result ≡ record_numbered self.now.diary (Some number) }
+    {
+        Some(kept_in(self.frames().get(number)?))
     }
 
     /// The number of the last frame in which a bill was signed, which has the text of its document.

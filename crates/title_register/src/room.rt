@@ -11,15 +11,17 @@ ghost use Rattle.title_register.specs.Frames.{key_of, number_in, number_of, unle
 ghost use Rattle.title_register.specs.Register.{IsRoomFor, bill_in, state_in};
 ghost use Rattle.title_register.specs.Standing.{standing_of, standing_with};
 
+use crate::arrived::{arrived_after, fresh_after};
 use crate::bill_state::{BillState, StateChange};
 use crate::change::{Change, acted, no_change, parted, regained, settled, signed, taken};
 use crate::documents::{kept_in, partings_after, pieces_after};
 use crate::frame_key::{FrameKey, came_key, key_of, taken_key};
 use crate::frame_numbers::FrameNumbers;
+use crate::past::Past;
 use crate::standing::Standing;
 use crate::title::title_after;
 use bill_chain::last_link;
-use bill_diary::{Frame, History, Record, taken_chain};
+use bill_diary::{Frame, Record};
 use ebl_base::{Checksum, NoMemory};
 use std::alloc::Global;
 use std::collections::BTreeMap;
@@ -58,7 +60,7 @@ pub(crate) fn room_for(
     requires numbers_are { (key : FrameKey) → number_in numbers.now.numbers key ≡ number_of key frames.now }
     ensures { IfOk result (IsRoomFor frame.now frames.now) }
 {
-    let change = change_among(alloc, frames, bills, frame)?;
+    let change = change_among(alloc, frames, bills, numbers, frame)?;
     let kept = kept_in(frame);
     Ok(Room {
         bill: kept.bill(),
@@ -75,16 +77,18 @@ fn change_among(
     alloc: Global,
     frames: &[Frame],
     bills: &BTreeMap<Checksum, BillState>,
+    numbers: &FrameNumbers,
     frame: &Frame,
 ) -> Result<StateChange, NoMemory>
-    requires { (bill : Checksum) → state_in bills.now bill ≡ state_of (history bill frames.now) }
+    requires states { (bill : Checksum) → state_in bills.now bill ≡ state_of (history bill frames.now) }
+    requires numbers_are { (key : FrameKey) → number_in numbers.now.numbers key ≡ number_of key frames.now }
     ensures { IfOk result (λ c. state_with c (state_of (history (bill_in frame.now) frames.now))
         ≡ state_of (history (bill_in frame.now) (frames.now ++ frame.now ∷ []))) }
 {
     let bill = kept_in(frame).bill();
     match bills.get(&bill) {
-        Some(state) => change_by(alloc, frames, state, frame),
-        None => change_by(alloc, frames, &BillState::unknown(alloc), frame),
+        Some(state) => change_by(alloc, frames, state, numbers, frame),
+        None => change_by(alloc, frames, &BillState::unknown(alloc), numbers, frame),
     }
 }
 
@@ -109,34 +113,39 @@ fn change_by(
     alloc: Global,
     frames: &[Frame],
     state: &BillState,
+    numbers: &FrameNumbers,
     frame: &Frame,
 ) -> Result<StateChange, NoMemory>
-    requires { state.now ≡ state_of (history (bill_in frame.now) frames.now) }
+    requires state_is { state.now ≡ state_of (history (bill_in frame.now) frames.now) }
+    requires numbers_are { (key : FrameKey) → number_in numbers.now.numbers key ≡ number_of key frames.now }
     ensures { IfOk result (λ c. state_with c state.now
         ≡ state_of (history (bill_in frame.now) (frames.now ++ frame.now ∷ []))) }
 {
-    let before = History::of(frames, kept_in(frame).bill());
-    let standing = standing_by(alloc, before.restart(), &state.standing, frame)?;
+    let before = Past::of(frames, numbers, state, kept_in(frame).bill());
+    let standing = standing_by(alloc, &before, &state.standing, frame)?;
     let title = title_after(&state.standing, &standing);
-    let pieces = pieces_after(alloc, before, &state.pieces, frame)?;
+    let pieces = pieces_after(alloc, &before, &state.pieces, frame)?;
+    let arrived = arrived_after(alloc, &before, &state.arrived, frame)?;
     Ok(StateChange {
         standing,
         title,
         pieces,
         partings: partings_after(frames, state.partings, frame),
+        arrived,
+        fresh: fresh_after(&before, state.fresh, frame),
     })
 }
 
 // What a frame changes of where its bill stands, with the records of the bill before it.
 fn standing_by(
     alloc: Global,
-    before: History,
+    before: &Past<'_>,
     standing: &Standing,
     frame: &Frame,
 ) -> Result<Change, NoMemory>
-    requires { standing.now ≡ standing_of before }
+    requires { standing.now ≡ standing_of before.now }
     ensures { IfOk result (λ c.
-        standing_with c standing.now ≡ standing_of (reverse (records_of frame.now) ++ before.entry)) }
+        standing_with c standing.now ≡ standing_of (reverse (records_of frame.now) ++ before.now)) }
 {
     match frame {
         Frame::One(kept) => by_record(alloc, before, standing, kept),
@@ -147,12 +156,12 @@ fn standing_by(
 // What a record changes.
 fn by_record(
     alloc: Global,
-    before: History,
+    before: &Past<'_>,
     standing: &Standing,
     kept: &Record,
 ) -> Result<Change, NoMemory>
-    requires { standing.now ≡ standing_of before }
-    ensures { IfOk result (λ c. standing_with c standing.now ≡ standing_of (kept.now ∷ before.entry)) }
+    requires { standing.now ≡ standing_of before.now }
+    ensures { IfOk result (λ c. standing_with c standing.now ≡ standing_of (kept.now ∷ before.now)) }
 {
     match kept {
         Record::Signed { transaction, .. } => signed(alloc, standing, *transaction),
@@ -161,7 +170,7 @@ fn by_record(
         Record::Settled { entry, .. } => settled(alloc, standing, before, *entry),
         Record::Regained { entry, .. } => Ok(regained(standing, *entry)),
         Record::Taken { entry, .. } => {
-            let chain = taken_chain(before.restart(), *entry);
+            let chain = before.taken_chain(*entry);
             taken(alloc, standing, before, chain)
         }
         _ => Ok(no_change(standing)),
@@ -171,13 +180,13 @@ fn by_record(
 // What a Begun changes that is taken.
 fn by_begun_taken(
     alloc: Global,
-    before: History,
+    before: &Past<'_>,
     standing: &Standing,
     begun: &Record,
 ) -> Result<Change, NoMemory>
-    requires { standing.now ≡ standing_of before }
+    requires { standing.now ≡ standing_of before.now }
     ensures { IfOk result (λ c. standing_with c standing.now
-        ≡ standing_of (reverse (records_of (BegunTaken begun.now)) ++ before.entry)) }
+        ≡ standing_of (reverse (records_of (BegunTaken begun.now)) ++ before.now)) }
 {
     match begun {
         Record::Begun { chain, .. } => if last_link(chain.as_slice()).is_some() {

@@ -2,9 +2,11 @@
 ghost use Rattle.std.specs.Prelude.{◌≡◌, [], None, option_copied};
 ghost use Rattle.bill_diary.specs.Place.{tag_of};
 ghost use Rattle.title_register.specs.BillState.{is_held};
+ghost use Rattle.title_register.specs.PlaceRef.{place_view};
 ghost use Rattle.title_register.specs.Standing.{nothing, parting_with, place_at, since_at, standing_with};
 
 use crate::change::{Change, PartingChange};
+use crate::place_ref::PlaceRef;
 use ebl_base::{Chain, ChainLink, Items, PlaceTag, Transaction, TransactionList};
 use std::alloc::Global;
 
@@ -31,6 +33,26 @@ impl Standing {
             parting: None,
             left: false,
             since: Items::new(alloc),
+        }
+    }
+
+    /// The place.
+    pub(crate) fn place(&self) -> PlaceRef<'_>
+        ensures { place_view result ≡ place_at self.now }
+    {
+        let Some(known) = &self.known else {
+            return PlaceRef::Absent;
+        };
+        if let Some(entry) = &self.parting {
+            return PlaceRef::Parting { known, entry };
+        }
+        if self.left {
+            PlaceRef::Gone { known }
+        } else {
+            PlaceRef::Held {
+                known,
+                since: &self.since,
+            }
         }
     }
 

@@ -19,9 +19,9 @@ returns-then-is_some c =
     ∙ ap (λ (o : Option ChainLink). is_some o) (sym c.last_link.ensures)
     ∙ is_some-option_copied c.last_link.result ∙ sym c.is_some.ensures ∙ c.if-is_some.true in
     subst (λ (r : Record). IfOk c.taken.result
-    (λ x. standing_with x c.args.standing.now ≡ standing_of (reverse (records_of (BegunTaken r)) ++ c.args.before)))
+    (λ x. standing_with x c.args.standing.now ≡ standing_of (reverse (records_of (BegunTaken r)) ++ c.args.before.now)))
     (sym c.in-Begun.is)
     (begun_is_taken
     (λ (h : List Record). IfOk c.taken.result (λ x. standing_with x c.args.standing.now ≡ standing_of h))
-    c.in-Begun.bill chain c.in-Begun.manifest c.in-Begun.body c.args.before some
-    (λ entry is. c.taken.ensures c.in-Begun.bill entry (begun ∷ c.args.before) c.requires is (λ _. refl)))
+    c.in-Begun.bill chain c.in-Begun.manifest c.in-Begun.body c.args.before.now some
+    (λ entry is. c.taken.ensures c.in-Begun.bill entry (begun ∷ c.args.before.now) c.requires is (λ _. refl)))

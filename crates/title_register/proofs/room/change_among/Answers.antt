@@ -9,10 +9,10 @@ use Rattle.title_register.specs.Register.{bill_in}
 use Rattle.title_register.proofs.AddLemmas.{found}
 use Rattle.title_register.proofs.room.change_among.Goals as goal
 
-pub change_by-requires : goal.change_by-requires
-change_by-requires c =
+pub change_by-requires-clause-state_is : goal.change_by-requires-clause-state_is
+change_by-requires-clause-state_is c =
     found c.args.bills.now c.bill-bill.result c.in-Some.state.now (sym c.in-Some.ensures.value)
-    ∙ c.requires c.bill-bill.result
+    ∙ c.requires.states c.bill-bill.result
     ∙ ap (λ (bill : Checksum). state_of (history bill c.args.frames.now))
     (c.bill-bill.ensures ∙ ap bill_of c.kept_in.ensures)
 
@@ -22,7 +22,7 @@ returns-in-Some c =
     let bill = bill_in c.args.frame.now in
     let state_is : c.in-Some.state.now ≡ state_of (history bill frames) =
     found c.args.bills.now c.bill-bill.result c.in-Some.state.now (sym c.in-Some.ensures.value)
-    ∙ c.requires c.bill-bill.result
+    ∙ c.requires.states c.bill-bill.result
     ∙ ap (λ (b : Checksum). state_of (history b frames)) (c.bill-bill.ensures ∙ ap bill_of c.kept_in.ensures) in
     subst (λ (s : BillState). IfOk c.change_by.result (λ x.
     state_with x s ≡ state_of (history bill (frames ++ c.args.frame.now ∷ [])))) state_is c.change_by.ensures
@@ -33,7 +33,7 @@ returns-in-None c =
     let bill = bill_in c.args.frame.now in
     let state_is : c.unknown.result ≡ state_of (history bill frames) =
     c.unknown.ensures ∙ ap (λ (o : Option BillState). unwrap_or o unknown) c.in-None.ensures.value
-    ∙ c.requires c.bill-bill.result
+    ∙ c.requires.states c.bill-bill.result
     ∙ ap (λ (b : Checksum). state_of (history b frames)) (c.bill-bill.ensures ∙ ap bill_of c.kept_in.ensures) in
     subst (λ (s : BillState). IfOk c.change_by-in-None.result (λ x.
     state_with x s ≡ state_of (history bill (frames ++ c.args.frame.now ∷ [])))) state_is c.change_by-in-None.ensures

@@ -5,6 +5,7 @@ use Rattle.bill_diary.specs.declared.record.Record.{Record}
 use Rattle.bill_diary.specs.History.{bill_of, history, records_of}
 use Rattle.bill_diary.specs.Pieces.{pieces_of}
 use Rattle.title_register.specs.declared.bill_state.StateChange.{StateChange}
+use Rattle.title_register.specs.Past.{arrived, is_fresh}
 use Rattle.title_register.specs.Register.{bill_in}
 use Rattle.title_register.specs.Standing.{standing_of}
 use Rattle.title_register.proofs.RegisterLemmas.{own_history}
@@ -17,9 +18,9 @@ returns c =
     let frame = c.args.frame.now in
     let bill = bill_in frame in
     let newer = reverse (records_of frame) in
+    let bill_is : c.bill.result ≡ bill = c.bill.ensures ∙ ap bill_of c.kept_in.ensures in
     let before_is : c.of-before.result ≡ history bill frames =
-    c.of-before.ensures
-    ∙ ap (λ (b : Checksum). history b frames) (c.bill.ensures ∙ ap bill_of c.kept_in.ensures) in
+    c.of-before.ensures ∙ ap (λ (b : Checksum). history b frames) bill_is in
     let after_is : newer ++ history bill frames ≡ history bill (frames ++ frame ∷ [])
     = sym (own_history frames frame) in
     let change : StateChange = record {
@@ -27,10 +28,14 @@ returns c =
       title = c.title_after-title.result;
       pieces = c.in_ok-pieces.pieces;
       partings = c.partings_after.result;
+      arrived = c.in_ok-arrived.arrived;
+      fresh = c.fresh_after.result;
     } in
     state_changed change c.args.state.now (history bill (frames ++ frame ∷ []))
     (c.in_ok-standing.ensures
-    ∙ ap (λ (h : List Record). standing_of (newer ++ h)) (c.restart.ensures ∙ before_is) ∙ ap standing_of after_is)
+    ∙ ap (λ (h : List Record). standing_of (newer ++ h)) before_is ∙ ap standing_of after_is)
     c.title_after-title.ensures
     (c.in_ok-pieces.ensures ∙ ap (λ (h : List Record). pieces_of (newer ++ h)) before_is ∙ ap pieces_of after_is)
     c.partings_after.ensures
+    (c.in_ok-arrived.ensures ∙ ap (λ (h : List Record). arrived (newer ++ h)) before_is ∙ ap arrived after_is)
+    (c.fresh_after.ensures ∙ ap (λ (h : List Record). is_fresh (newer ++ h)) before_is ∙ ap is_fresh after_is)

@@ -1,8 +1,7 @@
 -- The bill of the frame is kept as with it, and the frame's number stands under its keys; all else is as before.
-use Rattle.std.proofs.Common.{◌≡◌, ◌∷◌, [], ◌++◌, List, Option, Some, arith, length, sym, ap, subst, ◌∙◌}
+use Rattle.std.proofs.Common.{◌≡◌, ◌∷◌, [], ◌++◌, List, Some, arith, length, sym, ap, subst, ◌∙◌}
 use Rattle.bill_diary.specs.declared.frame.Frame.{Frame}
 use Rattle.bill_diary.specs.History.{history}
-use Rattle.title_register.specs.declared.room.Reserved.{Reserved}
 use Rattle.title_register.specs.declared.room.Room.{Room}
 use Rattle.title_register.specs.BillState.{state_of}
 use Rattle.title_register.specs.Frames.{number_of}
