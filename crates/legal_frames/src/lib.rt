@@ -7,7 +7,5 @@ mod holding;
 mod parting;
 mod places;
 mod receiving;
-#[cfg(test)]
-mod tests;
 
 pub use frames::may_follow;
