@@ -21,9 +21,8 @@ ANSWERS = ("Answers.antt", "Invariants.antt", "Lib.antt")
 
 
 def listed():
-    """The paths of the checkout's files, those that git doesn't know yet too."""
-    ended = subprocess.run(["git", "ls-files", "-co", "--exclude-standard"], cwd=TOP, stdout=subprocess.PIPE, text=True,
-                           check=True)
+    """The paths of the files that git knows: what lies beside them in a checkout doesn't count."""
+    ended = subprocess.run(["git", "ls-files", "-c"], cwd=TOP, stdout=subprocess.PIPE, text=True, check=True)
     return [name for name in sorted(set(ended.stdout.splitlines())) if os.path.isfile(os.path.join(TOP, name))]
 
 
