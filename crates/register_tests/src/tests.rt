@@ -1,0 +1,5 @@
+//! What the tests share, and the tests.
+mod beside;
+mod generated;
+mod making;
+mod rows;

@@ -1,0 +1,171 @@
+//! A register beside its diary, and whether both say the same.
+use crate::tests::making::name;
+use bill_diary::{
+    BillPlace, Diary, Frame, Record, count_parted, first_bytes, is_taken, last_declined,
+    last_with_reference, may_act, pieces, place, title_at,
+};
+use ebl_base::{Chain, ChainLink, Checksum, Copied, Items, NoMemory, PlaceTag};
+use envelope_manifest::Piece;
+use std::alloc::Global;
+use std::process::Abort;
+use std::test::Fail;
+use title_register::Register;
+use upload_state::reference_of;
+
+/// A diary, and the register beside it.
+#[derive(Drop)]
+pub(crate) struct Pair {
+    pub(crate) diary: Diary,
+    pub(crate) register: Register,
+}
+
+impl Pair {
+    pub(crate) fn new(alloc: Global) -> Pair {
+        Pair {
+            diary: Items::new(alloc),
+            register: Register::new(alloc),
+        }
+    }
+
+    pub(crate) fn write(&mut self, alloc: Global, frame: Frame) -> Result<(), NoMemory> {
+        self.register.reserve(alloc, &frame)?;
+        self.diary.push(frame.copy(alloc)?)?;
+        self.register.add(frame);
+        Ok(())
+    }
+}
+
+pub(crate) fn entries(chain: Option<&Chain>) -> usize {
+    match chain {
+        Some(chain) => chain.len(),
+        None => 0,
+    }
+}
+
+pub(crate) fn number_of(link: Option<&ChainLink>) -> u8 {
+    match link {
+        Some(link) => link.name.0[0],
+        None => 0,
+    }
+}
+
+// What the register and the diary say of a bill is the same.
+pub(crate) fn assert_same<R: Abort>(
+    rt: &R,
+    alloc: Global,
+    pair: &Pair,
+    bill: Checksum,
+) -> Result<(), Fail> {
+    let Pair { diary, register } = pair;
+    let frames = diary.len();
+    let stands = place(alloc, diary, bill)?;
+    assert_eq!(rt; register.tag(bill), stands.tag(), "after {frames} frames");
+    assert_eq!(rt;
+        register.may_act(bill),
+        may_act(alloc, diary, bill)?,
+        "after {frames} frames"
+    );
+    assert!(rt;
+        register.title(bill) == title_at(&stands),
+        "after {frames} frames"
+    );
+    assert!(rt;
+        ends(register.known(bill)) == ends(stands.known()),
+        "after {frames} frames"
+    );
+    let (parting, since) = match &stands {
+        BillPlace::Parting { entry, .. } => (number_of(Some(entry)), 0),
+        BillPlace::Held { since, .. } => (0, since.len()),
+        _ => (0, 0),
+    };
+    if stands.tag() != PlaceTag::Absent {
+        assert_eq!(rt;
+            number_of(register.parting(bill)),
+            parting,
+            "after {frames} frames"
+        );
+    }
+    assert_eq!(rt; register.since(bill).len(), since, "after {frames} frames");
+    let listed = pieces(alloc, diary, bill)?;
+    assert!(rt;
+        are_named_alike(register.pieces(bill), listed.as_slice()),
+        "after {frames} frames"
+    );
+    assert_eq!(rt;
+        register.partings(bill),
+        count_parted(diary, bill),
+        "after {frames} frames"
+    );
+    Ok(())
+}
+
+// Whether two lists of documents have the same checksums.
+fn are_named_alike(a: &[Piece], b: &[Piece]) -> bool {
+    a.len() == b.len()
+        && a.iter()
+            .zip(b)
+            .all(|(one, other)| one.checksum == other.checksum)
+}
+
+// What they say of an entry, and of a document of its name, is the same.
+pub(crate) fn assert_same_entry<R: Abort>(rt: &R, pair: &Pair, bill: Checksum, n: u8) {
+    let Pair { diary, register } = pair;
+    let frames = diary.len();
+    assert_eq!(rt;
+        register.taken(name(n)),
+        is_taken(diary, name(n)),
+        "after {frames} frames"
+    );
+    let declined = last_declined(diary, name(n)).is_some();
+    assert_eq!(rt;
+        register.declined(name(n)).is_some(),
+        declined,
+        "after {frames} frames"
+    );
+    let reference = reference_of(bill, name(n));
+    let begun = match last_with_reference(diary, reference) {
+        Some(begun) => first_byte(begun.body.as_slice()),
+        None => None,
+    };
+    assert_eq!(rt;
+        byte_of(register, register.begun(reference)),
+        begun,
+        "after {frames} frames"
+    );
+    let stored = match first_bytes(diary, bill, name(n)) {
+        Some(bytes) => first_byte(bytes.as_slice()),
+        None => None,
+    };
+    assert_eq!(rt;
+        byte_of(register, register.kept(bill, name(n))),
+        stored,
+        "after {frames} frames"
+    );
+}
+
+fn first_byte(bytes: &[u8]) -> Option<u8> {
+    bytes.first().copied()
+}
+
+// The byte by which the frame of a number tells itself from others.
+fn byte_of(register: &Register, number: Option<usize>) -> Option<u8> {
+    match register.frames().get(number?)? {
+        Frame::One(kept) | Frame::BegunTaken(kept) => match kept {
+            Record::Begun { body, .. } => first_byte(body.as_slice()),
+            Record::Attached { bytes, .. } | Record::Stored { bytes, .. } => first_byte(
+                bytes.as_slice(),
+            ),
+            _ => None,
+        },
+    }
+}
+
+// The number of a chain's entries, with the first and the last of them.
+fn ends(chain: Option<&Chain>) -> Option<(usize, u8, u8)> {
+    let links = chain?.as_slice();
+    Some((
+        links.len(),
+        number_of(links.first()),
+        number_of(links.last()),
+    ))
+}

@@ -1,0 +1,122 @@
+//! The places of a bill, step by step, and the numbers of frames.
+use crate::tests::beside::{Pair, assert_same, entries, number_of};
+use crate::tests::making::{Step, name, players};
+use ebl_base::{Checksum, PlaceTag};
+use std::alloc::Global;
+use std::process::Abort;
+use std::test::Fail;
+use upload_state::reference_of;
+
+const BILL: Checksum = Checksum([9; 32]);
+
+/// A step, where the bill is after it, how many entries are known, the number of the one that is parting, how many
+/// transactions were made since, and whether the possessor may act.
+type Row = (Step, PlaceTag, usize, u8, usize, bool);
+
+fn assert_rows<R: Abort>(rt: &R, alloc: Global, rows: &[Row]) -> Result<(), Fail> {
+    let cast = players()?;
+    let mut pair = Pair::new(alloc);
+    for (step, tag, known, parting, since, acts) in rows {
+        pair.write(alloc, cast.frame(alloc, BILL, *step)?)?;
+        let frames = pair.diary.len();
+        let register = &pair.register;
+        assert_eq!(rt; register.tag(BILL), *tag, "after {frames} frames");
+        assert_eq!(rt;
+            entries(register.known(BILL)),
+            *known,
+            "after {frames} frames"
+        );
+        assert_eq!(rt;
+            number_of(register.parting(BILL)),
+            *parting,
+            "after {frames} frames"
+        );
+        assert_eq!(rt; register.since(BILL).len(), *since, "after {frames} frames");
+        assert_eq!(rt; register.may_act(BILL), *acts, "after {frames} frames");
+        assert_same(rt, alloc, &pair, BILL)?;
+    }
+    Ok(())
+}
+
+// Into and out of each place, where the bill began: away and back through a refusal, away for good, back by a chain
+// that goes on, and back through the entry that is parting.
+const ROUND_TRIP: [Row; 10] = [
+    (Step::Signed, PlaceTag::Held, 0, 0, 1, true),
+    (Step::Issued, PlaceTag::Held, 0, 0, 2, true),
+    (Step::Parted(1), PlaceTag::Parting, 0, 1, 0, false),
+    (Step::Regained(1), PlaceTag::Held, 0, 0, 2, true),
+    (Step::Parted(2), PlaceTag::Parting, 0, 2, 0, false),
+    (Step::Settled(2), PlaceTag::Gone, 1, 0, 0, false),
+    (Step::Begun(2, 3), PlaceTag::Gone, 1, 0, 0, false),
+    (Step::Taken(3), PlaceTag::Held, 2, 0, 0, true),
+    (Step::Parted(4), PlaceTag::Parting, 2, 4, 0, false),
+    (Step::BegunTaken(2, 5), PlaceTag::Held, 4, 0, 0, true),
+];
+
+#[test]
+fn each_way_into_and_out_of_each_place(rt: HostRuntime) -> Result<(), Fail> {
+    assert_rows(&rt, rt.alloc(), &ROUND_TRIP)
+}
+
+// What no sound diary has, but the definition says: the longest chain counts and not the newest, of equally long ones
+// the last; an entry that is over before it is parted isn't parting.
+const ANY_RECORDS: [Row; 9] = [
+    (Step::Begun(1, 2), PlaceTag::Absent, 0, 0, 0, false),
+    (Step::Begun(3, 3), PlaceTag::Absent, 0, 0, 0, false),
+    (Step::Taken(2), PlaceTag::Held, 2, 0, 0, true),
+    (Step::Taken(3), PlaceTag::Held, 2, 0, 0, true),
+    (Step::Begun(4, 5), PlaceTag::Held, 2, 0, 0, true),
+    (Step::Taken(5), PlaceTag::Held, 2, 0, 0, true),
+    (Step::Settled(5), PlaceTag::Gone, 2, 0, 0, false),
+    (Step::Parted(5), PlaceTag::Gone, 2, 0, 0, false),
+    (Step::Parted(6), PlaceTag::Parting, 2, 6, 0, false),
+];
+
+#[test]
+fn the_first_place_that_fits_any_records(rt: HostRuntime) -> Result<(), Fail> {
+    assert_rows(&rt, rt.alloc(), &ANY_RECORDS)
+}
+
+// A title that is ended lets nobody act, though the bill is held.
+const SURRENDER: [Row; 4] = [
+    (Step::Signed, PlaceTag::Held, 0, 0, 1, true),
+    (Step::Issued, PlaceTag::Held, 0, 0, 2, true),
+    (Step::SurrenderAsked, PlaceTag::Held, 0, 0, 3, true),
+    (Step::SurrenderAccepted, PlaceTag::Held, 0, 0, 4, false),
+];
+
+#[test]
+fn nobody_acts_on_an_ended_title(rt: HostRuntime) -> Result<(), Fail> {
+    assert_rows(&rt, rt.alloc(), &SURRENDER)
+}
+
+// A frame is found by its number: of a reference and an entry the last, of a document the first.
+#[test]
+fn numbers_of_frames(rt: HostRuntime) -> Result<(), Fail> {
+    let alloc = rt.alloc();
+    let cast = players()?;
+    let mut pair = Pair::new(alloc);
+    let steps = [
+        Step::Begun(1, 2),
+        Step::Stored(2),
+        Step::Declined(2),
+        Step::Begun(2, 2),
+        Step::Stored(2),
+        Step::Declined(2),
+        Step::BegunTaken(1, 3),
+    ];
+    for step in steps {
+        pair.write(alloc, cast.frame(alloc, BILL, step)?)?;
+    }
+    let register = &pair.register;
+    assert_eq!(rt; register.begun(reference_of(BILL, name(2))), Some(3));
+    assert_eq!(rt; register.begun(reference_of(BILL, name(3))), Some(6));
+    assert_eq!(rt; register.begun(reference_of(BILL, name(1))), None);
+    assert_eq!(rt; register.declined(name(2)), Some(5));
+    assert_eq!(rt; register.declined(name(3)), None);
+    assert_eq!(rt; register.kept(BILL, name(2)), Some(1));
+    assert_eq!(rt; register.kept(name(8), name(2)), None);
+    assert!(rt; register.taken(name(3)));
+    assert!(rt; !register.taken(name(2)));
+    Ok(())
+}
