@@ -83,7 +83,11 @@ pub fn run_ebl<S: Source, K: Sink, G: KeyRing + Drop>(
 }
 
 // What a command reads: the whole source, or nothing.
-fn text_for<S: Source>(alloc: Global, command: Command, source: &mut S) -> Result<Vec<u8>, ReadError>
+fn text_for<S: Source>(
+    alloc: Global,
+    command: Command,
+    source: &mut S,
+) -> Result<Vec<u8>, ReadError>
     ensures ok { IfOk result (λ bytes. reads_source command ≡ true
         → IfSome (S.left source.old) (λ script. bytes.items ≡ script)) }
     ensures fits { IfOk result (λ bytes. vec_len bytes ≤ MOST_BYTES) }
