@@ -88,7 +88,8 @@ impl Bills {
         };
         self.write(alloc, Frame::One(signed)).ok()?;
         let transaction = self.transaction(Kind::Issue, self.carrier, Some(self.exporter));
-        self.write(alloc, Frame::One(Record::Acted { bill, transaction })).ok()
+        self.write(alloc, Frame::One(Record::Acted { bill, transaction }))
+            .ok()
     }
 
     /// The first so many of four frames, of the bill of this number.
@@ -98,7 +99,8 @@ impl Bills {
         }
         let bill = name(number, 0);
         let transaction = self.transaction(Kind::Endorse, self.exporter, Some(self.exporter));
-        self.write(alloc, Frame::One(Record::Acted { bill, transaction })).ok()?;
+        self.write(alloc, Frame::One(Record::Acted { bill, transaction }))
+            .ok()?;
         if events == 1 {
             return Some(());
         }
@@ -113,7 +115,8 @@ impl Bills {
         if events == 2 {
             return Some(());
         }
-        self.write(alloc, Frame::One(Record::Settled { bill, entry })).ok()?;
+        self.write(alloc, Frame::One(Record::Settled { bill, entry }))
+            .ok()?;
         if events == 3 {
             return Some(());
         }
