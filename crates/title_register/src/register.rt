@@ -264,8 +264,8 @@ impl Register {
     /// Takes all memory that adding a frame needs. Room that was taken before is let go. Out of memory, the diary stays
     /// as it is, and no room is taken.
     ///
-    /// It folds the chain that is known from then on, and copies it where it is another one. It goes over the records of
-    /// the bill only where no sound diary comes to: a Settled whose entry isn't parting, entries with one reference.
+    /// It folds the chain that is known from then on, and copies it where it is another one. It goes over the records
+    /// of the bill only where no sound diary comes to: a Settled whose entry isn't parting, entries with one reference.
     pub fn reserve(&mut self, alloc: Global, frame: &Frame) -> Result<(), NoMemory>
         ensures diary { self.new.diary ≡ self.old.diary }
         ensures ok { OnOk result (IsReadyFor frame.now self.new) }
