@@ -17,7 +17,7 @@ use std::alloc::Global;
 use std::mem;
 
 // From this length on a text is written by the kit's writer, which pays once for its start.
-const LONG: usize = 16;
+const LONG: usize = 64;
 
 /// The canonical text of a value: RFC 8785, sections 3.2.1 to 3.2.3. It takes one buffer that
 /// grows, and goes as deep as the value nests.
