@@ -6,7 +6,7 @@ ghost use Rattle.canonical_json.specs.View.{view, member_view, members_view, ite
 ghost use Rattle.json_forms.specs.Writing.{HasDigits, capped_value, number_value, platform_value, party_value, checksum_value, checksums_value};
 
 use canonical_json::{Json, JsonList, Member, MemberList};
-use ebl_base::{CharList, Checksum, NoMemory, Party, PlatformCode};
+use ebl_base::{CharList, Checksum, MAX_WHOLE_NUMBER, NoMemory, Party, PlatformCode};
 use hex::encode;
 use std::alloc::Global;
 
@@ -17,9 +17,6 @@ pub fn text_json(alloc: Global, chars: &str) -> Result<Json, NoMemory>
     Ok(Json::Text(CharList::from_text(alloc, chars)?))
 }
 
-/// The greatest number of canonical JSON: 2^53 - 1 (RFC 7493, section 2.2).
-const GREATEST: u64 = 9_007_199_254_740_991;
-
 /// A whole number; one past 2^53 - 1, which is the greatest of canonical JSON (RFC 7493, section 2.2), is written as
 /// that.
 pub fn number_json(number: u64) -> Json
@@ -27,7 +24,7 @@ pub fn number_json(number: u64) -> Json
     ensures small { number ≤ 9007199254740991 → view result ≡ number_value number }
     ensures lawful { IsLawful (view result) }
 {
-    Json::Int(number.min(GREATEST) as i64)
+    Json::Int(number.min(MAX_WHOLE_NUMBER) as i64)
 }
 
 /// A checksum, as 64 hexadecimal digits in lower case.
