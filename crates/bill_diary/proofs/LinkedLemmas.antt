@@ -1,12 +1,12 @@
 -- Frames that are linked by their bills, and what one frame does to a history.
-use Rattle.std.proofs.Common.{◌≡◌, ℕ, suc, ◌+◌, ◌<◌, ◌≤◌, Bool, true, false, cond, List, [], ◌∷◌, ◌++◌, Option, Some, None, length, take, drop, reverse, refl, sym, ap, subst, ◌∙◌, arith, length-append, ⊎_elim, get_or}
+use Rattle.std.proofs.Common.{◌≡◌, ℕ, ◌+◌, ◌<◌, ◌≤◌, Bool, true, false, cond, List, [], ◌∷◌, ◌++◌, Option, Some, None, length, take, drop, reverse, refl, sym, ap, subst, ◌∙◌, arith, length-append, ⊎_elim, get_or}
 use Rattle.std.specs.Prelude.{IfSome, slice_get, unwrap_or, option_map}
 use Rattle.std.specs.List.{cons_option}
 use Rattle.std.specs.Option.{option_to_list}
 use Rattle.std.specs.BTreeMap.{BTreeMap, get, Updates}
 use Rattle.std.proofs.lemmas.Map.Text.{is_eq-slice_cmp}
 use Rattle.std.proofs.lemmas.Option.{slice_get_within, slice_get-get_or, slice_get_read, get_or_from_slice_get}
-use Rattle.std.proofs.lemmas.List.{append_assoc, get_or_append_left, take-append-le, take-append-drop, take_all, take-take, take_more, length-take-le}
+use Rattle.std.proofs.lemmas.List.{get_or_append_left, take-append-le, take-append-drop, take_all, take-take, take_more, length-take-le}
 use Rattle.std.proofs.lemmas.Bool.{cases_lt}
 use Rattle.std.proofs.Math.Seq.{get_or-append_seam, take-append_seam}
 use Rattle.ebl_base.specs.Checksum.{checksum_cmp, checksum_eq}
