@@ -21,7 +21,7 @@ const DEEPEST: usize = 127;
 /// NotJson if it is no text of JSON (RFC 8259) in UTF-8, nested at most 127 deep and without lone
 /// surrogates; else Repeated if some object has a name twice; else Fraction if some number has an
 /// exponent, or is neither whole nor a decimal; else Range if some whole number is past 2^53 - 1 in
-/// size. It is linear but for the sorting of an object whose names aren't in order.
+/// size. It is linear, except for the sorting of an object whose names aren't in order.
 pub fn read(alloc: Global, bytes: &[u8]) -> Result<Json, ReadError>
     ensures ok { IfOk result (λ json. Reads bytes.now (view json)) }
     ensures lawful { IfOk result (λ json. IsLawful (view json)) }

@@ -7,9 +7,9 @@ ghost use Rattle.canonical_json.specs.Taking.{place_of, without};
 use crate::value::{Json, Member};
 
 /// Takes the first member of that name out of some members, and gives what stood under it. None
-/// exactly where there is no such member. The others stay, in their order.
+/// if and only if there is no such member. The others stay, in their order.
 ///
-/// It takes no memory, and looks at the members one by one.
+/// It allocates nothing, and looks at the members one by one.
 pub fn take_member(members: &mut Vec<Member>, name: &str) -> Option<Json>
     ensures value { option_map view result ≡ under name.now (members_view members.old.items) }
     ensures rest { members_view members.new.items ≡ without name.now (members_view members.old.items) }

@@ -92,7 +92,7 @@ impl Member {
 }
 
 impl JsonList {
-    /// The empty list, which takes no memory until it grows.
+    /// The empty list, which allocates nothing until it grows.
     pub fn new(alloc: Global) -> JsonList
         ensures items { list_items result ≡ [] }
         ensures view { list_view result ≡ no_values }

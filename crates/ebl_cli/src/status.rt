@@ -1,7 +1,7 @@
 //! How a run of the program ends.
 use canonical_json::ReadError;
 
-/// How a run of the program ends. The first of these that fits, in the order of the variants but for `Done`.
+/// How a run of the program ends. The first of these that applies, in the order of the variants, `Done` last.
 #[derive(Clone, Copy, Debug, PartialEq, Eq)]
 pub enum Status {
     /// Each line was answered, and the bill lines stand; or the one line of the command does.

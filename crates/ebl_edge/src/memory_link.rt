@@ -60,7 +60,7 @@ impl MemoryLink {
         MemoryLink::over(bytes, PieceList::new(alloc), MemorySink::new(alloc, fails))
     }
 
-    /// The same, but for the reads: each hands out at most as many bytes as its piece says, and at least one. After the
+    /// The same, except for the reads: each hands out at most as many bytes as its piece says, and at least one. After the
     /// last piece reads hand out as many as fit.
     pub fn in_pieces(alloc: Global, bytes: ByteList, pieces: PieceList, fails: CallList) -> Self
         ensures left { result.left ≡ bytes }
@@ -78,7 +78,7 @@ impl MemoryLink {
         MemoryLink::over(bytes, pieces, MemorySink::new(alloc, fails))
     }
 
-    /// The same as [`MemoryLink::in_pieces`], but for a put whose number is listed: it writes the first half of its
+    /// The same as [`MemoryLink::in_pieces`], except that a put whose number is listed writes the first half of its
     /// piece, rounded down.
     pub fn tearing(alloc: Global, bytes: ByteList, pieces: PieceList, fails: CallList) -> Self
         ensures left { result.left ≡ bytes }

@@ -11,7 +11,7 @@ Fields = List (List ℕ × List ℕ)
 abbrev pub is_text : List ℕ → List ℕ → Bool
 is_text a b = bytes_eq a b
 
--- the same but for the case of letters
+-- the same, whatever the case of letters
 abbrev pub is_name : List ℕ → List ℕ → Bool
 is_name a b = bytes_eq (map to_ascii_lowercase a) (map to_ascii_lowercase b)
 

@@ -40,7 +40,7 @@ impl Plans {
 
     /// What a piece that ends with its first empty line asks for.
     ///
-    /// The first that fits is the status: 400 where it is no head by the default form of `httparse` or has more than 64
+    /// The first that applies is the status: 400 where it is no head by the default form of `httparse` or has more than 64
     /// fields, 501, 404, 405, 411, 400, 413. It allocates nothing.
     pub fn plan_of(&self, piece: &[u8]) -> Plan
         ensures plan { IsPlan piece.now result }

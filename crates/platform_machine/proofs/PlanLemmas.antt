@@ -1,4 +1,4 @@
--- No plan is refused for want of memory.
+-- No plan is refused because memory ran out.
 use Rattle.std.proofs.Common.{◌≡◌, Bool, true, false, cond, ℕ, List, Option, Some, None, Result, Ok, Err, ◌+◌, length, subst}
 use Rattle.std.specs.Prelude.{nat_lt, nat_le}
 use Rattle.canonical_json.specs.Value.{Value}
@@ -36,7 +36,7 @@ use Rattle.transfer_judge.specs.Plan.{Plan, attach_refusal, missing_party, on_ab
 use Rattle.transfer_judge.specs.declared.planned.PlanRefusal.{PlanRefusal}
 use Rattle.transfer_judge.specs.declared.planned.PlanRefusal.TheVariants as refusals
 
--- the refusal isn't for want of memory
+-- the refusal isn't that memory ran out
 abbrev pub IsReason : PlanRefusal → Type 0
 IsReason refusals.NoMemory = ⊥
 IsReason refusal = Unit {0}

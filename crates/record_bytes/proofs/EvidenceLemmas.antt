@@ -83,7 +83,7 @@ compact_there bytes x is text field = record {
 
 -- ---- one spelling
 
--- a text that stands last but for what follows it
+-- a text that is last, with what follows it
 last_same : (a b : SignedText) (x y : List ℕ) → IsCompactText a → IsCompactText b
     → text_bytes a.0 ++ x ≡ text_bytes b.0 ++ y → (a ≡ b) × (x ≡ y)
 last_same a b x y p q same =

@@ -1,4 +1,4 @@
--- What a reply says beside its status. Refusals say what they say in an answer line, but for the event's number and the
+-- What a reply says beside its status. Refusals say what they say in an answer line, without the event's number and the
 -- messages that were sent.
 use Rattle.std.specs.Prelude.{ℕ, List, Option, Some, None, codes}
 use Rattle.canonical_json.specs.Value.{Value, text, object, Members, no_members, member}
