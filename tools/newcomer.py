@@ -2,7 +2,7 @@
 """Goes through a fresh clone of this checkout's last commit as a newcomer would, in a folder with a blank in its path.
 
     tools/newcomer.py             help, scripts and words by the unproved build: some minutes
-    tools/newcomer.py --program   and then the proof, the program and its installation: half an hour more
+    tools/newcomer.py --program   and then the proof, the program and its installation: an hour more
 
 Prints each command with its seconds; the last line is 'N passed, M failed', and it ends with 1 where one failed.
 """
@@ -13,6 +13,8 @@ import subprocess
 import sys
 import tempfile
 import time
+
+from program import crates_below
 
 TOP = os.path.dirname(os.path.dirname(os.path.abspath(__file__)))
 UNPROVED = "unproved build"
@@ -66,7 +68,8 @@ def without_toolchain(visit, folder):
 
 
 def proved(visit):
-    visit.types("make program", says="8 of 8")
+    crates = len(crates_below("ebl_cli"))
+    visit.types("make program", says="%d of %d" % (crates, crates))
     visit.types("make program", says="proved and built")
     visit.types("make run", out=visit.read("examples/first_run.out"), is_silent=True)
     visit.types("make run SCRIPT='a script.jsonl'", out=visit.read("examples/refused_transfer.out"), is_silent=True)
