@@ -132,8 +132,8 @@ pub record IsParting (h : List Record) (entry : Checksum) : Type 0 where
 
 -- ---- receiving a bill
 
--- a chain may be received here, apart from its documents and from what a roster says: it ends on this platform, its last
--- entry was neither taken nor declined by any record, and it continues the bill's place
+-- a chain may be received here, apart from its documents and from what a roster says: it ends on this platform, its
+-- last entry was neither taken nor declined by any record, and it continues the bill's place
 pub record MayReceive (me : PlatformCode) (records h : List Record) (chain : List ChainLink) : Type 0 where
   pub last : ChainLink
   pub last_is : last_of chain ≡ Some last

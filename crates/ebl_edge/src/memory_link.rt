@@ -60,8 +60,8 @@ impl MemoryLink {
         MemoryLink::over(bytes, PieceList::new(alloc), MemorySink::new(alloc, fails))
     }
 
-    /// The same, except for the reads: each hands out at most as many bytes as its piece says, and at least one. After the
-    /// last piece reads hand out as many as fit.
+    /// The same, except for the reads: each hands out at most as many bytes as its piece says, and at least one. After
+    /// the last piece reads hand out as many as fit.
     pub fn in_pieces(alloc: Global, bytes: ByteList, pieces: PieceList, fails: CallList) -> Self
         ensures left { result.left ≡ bytes }
         ensures pieces { result.pieces ≡ pieces }

@@ -29,7 +29,8 @@ routed None method keeps lengths = Refuse NotFound
 routed (Some route) method keeps lengths =
     if is_text (method_of route) method then sized route keeps (first_of lengths) lengths else Refuse MethodNotAllowed
 
--- the first that applies: 501 by a coding, 404 by the target, 405 by the method, 411 without a length, 400 and 413 by it
+-- the first that applies: 501 by a coding, 404 by the target, 405 by the method, 411 without a length, 400 and 413 by
+-- it
 abbrev pub plan : List ℕ → List ℕ → ℕ → Fields → Plan
 plan method target minor fields =
     if has_one (values (codes "transfer-encoding") fields) then Refuse NotImplemented

@@ -40,8 +40,8 @@ impl Plans {
 
     /// What a piece that ends with its first empty line asks for.
     ///
-    /// The first that applies is the status: 400 where it is no head by the default form of `httparse` or has more than 64
-    /// fields, 501, 404, 405, 411, 400, 413. It allocates nothing.
+    /// The first that applies is the status: 400 where it is no head by the default form of `httparse` or has more than
+    /// 64 fields, 501, 404, 405, 411, 400, 413. It allocates nothing.
     pub fn plan_of(&self, piece: &[u8]) -> Plan
         ensures plan { IsPlan piece.now result }
         ensures bounded { IsBounded result }
