@@ -17,8 +17,6 @@ mod record;
 mod record_ref;
 mod searching;
 mod since;
-#[cfg(test)]
-mod tests;
 mod titles;
 mod walk;
 

@@ -8,8 +8,6 @@ mod journal;
 mod laws;
 mod reading;
 mod steps;
-#[cfg(test)]
-mod tests;
 
 pub use fault::{AppendFault, OpenFault};
 pub use frame_at::{FrameAt, FrameBytes};

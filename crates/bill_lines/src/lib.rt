@@ -7,8 +7,6 @@ mod ends;
 mod forks;
 mod lines;
 mod standing;
-#[cfg(test)]
-mod tests;
 
 pub use diaries::PlatformDiary;
 pub use lines::{bill_line, bill_standing};

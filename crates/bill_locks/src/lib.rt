@@ -10,8 +10,6 @@ mod laws;
 mod pass;
 mod rule;
 mod steps;
-#[cfg(test)]
-mod tests;
 mod turns;
 mod view;
 

@@ -19,8 +19,7 @@ pub use laws::{
     longest_accepted_chain_is_the_line, nobody_acts_on_an_ended_bill,
     parted_chain_was_accepted_before,
 };
+pub use shared::first_shared;
 pub use surveying::survey;
+pub use texts::{NamedText, Text, texts_in};
 pub use verdict::{Lack, Verdict};
-
-#[cfg(test)]
-mod tests;

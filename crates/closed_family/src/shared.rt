@@ -8,8 +8,11 @@ use ebl_base::{Checksum, NoMemory};
 use std::alloc::Global;
 use std::collections::BTreeMap;
 
-/// The first name that two different ones of the texts share. Texts are compared only where their names agree.
-pub(crate) fn first_shared(alloc: Global, texts: &[NamedText]) -> Result<Option<Checksum>, NoMemory>
+/// The first name that two different ones of the texts share: that of the first text before which another one has its
+/// name. None where texts of one name are one; `NoMemory` where memory runs out.
+///
+/// Texts are compared only where their names agree.
+pub fn first_shared(alloc: Global, texts: &[NamedText]) -> Result<Option<Checksum>, NoMemory>
     ensures { IfOk result (λ shared.
         MatchOption shared (AreDistinct texts.now) (λ name. IsSharedFirst texts.now name)) }
 {

@@ -17,7 +17,7 @@ use std::marker::Model;
 
 /// The bytes of a text.
 #[derive(Drop)]
-pub(crate) enum Text<'a> {
+pub enum Text<'a> {
     /// Those that stand in a record.
     Lent(&'a [u8]),
     /// Those that were written out of a body.
@@ -37,7 +37,7 @@ impl<'a> Text<'a> {
 
 /// A text with its name.
 #[derive(Drop)]
-pub(crate) struct NamedText<'a> {
+pub struct NamedText<'a> {
     name: Checksum,
     text: Text<'a>,
 }
@@ -52,7 +52,8 @@ impl<'a> Model for NamedText<'a> {
 }
 
 impl<'a> NamedText<'a> {
-    pub(crate) fn new(name: Checksum, text: Text<'a>) -> Self
+    /// The text under this name, whatever name it has.
+    pub fn new(name: Checksum, text: Text<'a>) -> Self
         ensures { result ≡ record { name = name; text = bytes_of text.entry } }
     {
         NamedText { name, text }
@@ -66,21 +67,26 @@ impl<'a> NamedText<'a> {
         NamedText::new(name, text)
     }
 
-    pub(crate) fn name(&self) -> Checksum
+    /// Its name.
+    pub fn name(&self) -> Checksum
         ensures { result ≡ self.now.name }
     {
         self.name
     }
 
-    pub(crate) fn as_slice(&self) -> &[u8]
+    /// Its bytes.
+    pub fn as_slice(&self) -> &[u8]
         ensures { result.now ≡ self.now.text }
     {
         self.text.as_slice()
     }
 }
 
-/// The texts of a family, by platform, shard, frame and record. What stands in a record isn't copied.
-pub(crate) fn texts_in(alloc: Global, family: &Family) -> Result<Vec<NamedText<'_>>, NoMemory>
+/// The texts of a family under their names, by platform, shard, frame and record: of a Signed the document, of a Parted
+/// the entry and the manifest, of a Begun the document, the manifest and the chain. `NoMemory` where memory runs out.
+///
+/// What stands in a record isn't copied.
+pub fn texts_in(alloc: Global, family: &Family) -> Result<Vec<NamedText<'_>>, NoMemory>
     ensures { IfOk result (λ texts. texts.items ≡ texts_in family.now) }
 {
     let mut texts = Vec::new(alloc);

@@ -7,8 +7,6 @@ mod file_disk;
 mod log;
 mod mark;
 mod memory_disk;
-#[cfg(test)]
-mod tests;
 
 pub use bounded_disk::BoundedDisk;
 pub use disk::Disk;

@@ -3,8 +3,6 @@
 
 mod honest;
 mod sent;
-#[cfg(test)]
-mod tests;
 
 pub use honest::{is_honest, is_honest_body, is_honest_reply};
 pub use sent::SentText;

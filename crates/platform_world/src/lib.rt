@@ -13,8 +13,6 @@ mod saying;
 mod script;
 mod shard;
 mod signed_bills;
-#[cfg(test)]
-mod tests;
 mod world;
 
 pub use fate::{Fate, FateEnd, FateList, ShardList};

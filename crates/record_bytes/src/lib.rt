@@ -10,8 +10,6 @@ mod laws;
 mod nesting;
 mod reading;
 mod records;
-#[cfg(test)]
-mod tests;
 mod texts;
 mod writing;
 

@@ -7,8 +7,6 @@ mod laws;
 mod roster;
 mod run;
 mod summary;
-#[cfg(test)]
-mod tests;
 
 pub use draws::Draws;
 pub use events::next_event;

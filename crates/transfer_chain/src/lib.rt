@@ -7,8 +7,6 @@ mod destination;
 mod fault;
 mod laws;
 mod replay;
-#[cfg(test)]
-mod tests;
 mod verify_texts;
 
 pub use checking::check;

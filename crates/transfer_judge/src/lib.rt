@@ -8,8 +8,6 @@ mod laws;
 mod plan_laws;
 mod planned;
 mod planning;
-#[cfg(test)]
-mod tests;
 
 pub use judgement::Judgement;
 pub use judging::judge;

@@ -1,0 +1,6 @@
+//! Tests of `transfer_chain`, `bill_diary`, `transfer_judge`, `closed_family` and `bill_lines`: chains and diaries of
+//! one bill or a few. There is nothing here but tests.
+#![tactic(auto)]
+
+#[cfg(test)]
+mod tests;

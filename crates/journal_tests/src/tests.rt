@@ -1,0 +1,3 @@
+//! Disks, and journals of frames on them.
+mod disks;
+mod journals;
