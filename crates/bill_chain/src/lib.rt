@@ -4,8 +4,6 @@
 mod ends;
 mod front;
 mod laws;
-#[cfg(test)]
-mod tests;
 mod title;
 
 pub use ends::{ends_in, has_entry, last_link};

@@ -3,8 +3,6 @@
 
 mod digest;
 mod laws;
-#[cfg(test)]
-mod tests;
 mod text;
 
 pub use digest::checksum;

@@ -29,8 +29,6 @@ mod reason;
 mod reference;
 mod signature;
 mod signed_text;
-#[cfg(test)]
-mod tests;
 mod transaction;
 
 pub use calls::{CallList, Calls};

@@ -18,8 +18,6 @@ mod standard;
 mod std_calls;
 mod stream_link;
 mod system_clock;
-#[cfg(test)]
-mod tests;
 mod writer_sink;
 
 pub use bounded_link::BoundedLink;

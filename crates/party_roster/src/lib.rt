@@ -8,8 +8,6 @@ mod laws;
 mod parties;
 mod platforms;
 mod roster;
-#[cfg(test)]
-mod tests;
 
 pub use carrier::Carrier;
 pub use fault::{RosterFault, RosterPlace};

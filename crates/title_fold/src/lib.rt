@@ -24,6 +24,3 @@ pub use title_laws::{
     possession_goes_by_the_kind, possessor_alone_acts, step_makes_what_is_taken,
     title_begins_with_a_sign, title_goes_by_the_kind,
 };
-
-#[cfg(test)]
-mod tests;

@@ -5,8 +5,6 @@ mod document;
 mod fault;
 mod laws;
 mod members;
-#[cfg(test)]
-mod tests;
 
 pub use document::Document;
 pub use fault::{DocumentFault, DocumentField};

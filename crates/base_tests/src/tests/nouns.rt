@@ -1,5 +1,10 @@
 //! What no contract says: edges of the forms, and copies that are made when memory is there.
-use crate::*;
+use crate::tests::making::party;
+use ebl_base::{
+    ByteList, CallList, Calls, CarrierCode, Chain, ChainLink, CharList, Checksum, ChecksumList,
+    Copied, Entry, Evidence, Kind, Moment, Name35, Party, PlatformCode, SignedText, Transaction,
+    TransactionList, first_part,
+};
 use std::alloc::Global;
 use std::process::Abort;
 use std::test::Fail;
@@ -51,7 +56,7 @@ fn forms(rt: HostRuntime) {
 
 #[test]
 fn texts(rt: HostRuntime) -> Result<(), Fail> {
-    let party = Party::from_text(b"ALPH/EXPORT").ok_or("a party")?;
+    let party = party(b"ALPH/EXPORT")?;
     assert!(rt; party.to_text().as_str() == "ALPH/EXPORT");
     assert!(rt; party.platform.as_str() == "ALPH");
     assert!(rt; party.code.as_bytes() == b"EXPORT".as_slice());
@@ -131,7 +136,7 @@ fn lists(rt: HostRuntime) -> Result<(), Fail> {
 // A value that was made has its form.
 #[test]
 fn made_values_are_well_formed(rt: HostRuntime) -> Result<(), Fail> {
-    let party = Party::from_text(b"ALPH/EXPORT").ok_or("a party")?;
+    let party = party(b"ALPH/EXPORT")?;
     assert!(rt; party.is_well_formed());
     assert!(rt; party.platform.is_well_formed());
     assert!(rt; party.code.is_well_formed());
@@ -144,8 +149,8 @@ fn made_values_are_well_formed(rt: HostRuntime) -> Result<(), Fail> {
 
 // An entry of one transaction, with a text of its own.
 fn sample_link(alloc: Global) -> Result<ChainLink, Fail> {
-    let actor = Party::from_text(b"ALPH/EXPORT").ok_or("a party")?;
-    let recipient = Party::from_text(b"BETA/IMPORT").ok_or("a party")?;
+    let actor = party(b"ALPH/EXPORT")?;
+    let recipient = party(b"BETA/IMPORT")?;
     let transaction = Transaction {
         kind: Kind::Transfer,
         actor,

@@ -1,5 +1,5 @@
 //! Checksums against other programs' values, and the texts that are no checksum's.
-use crate::{checksum, from_text, to_text};
+use document_checksum::{checksum, from_text, to_text};
 use ebl_base::Checksum;
 use std::test::Fail;
 

@@ -1,10 +1,10 @@
 //! Documents, and values that are none. In these texts `'` stands for `"`.
-use crate::{Document, DocumentFault, DocumentField};
-use canonical_json::{Json, ReadError, read};
+use crate::tests::making::{json, quoted};
 use document_checksum::from_text;
 use ebl_base::{CarrierCode, Copied, Provider};
 use std::alloc::{AllocError, Global};
 use std::test::Fail;
+use transport_document::{Document, DocumentFault, DocumentField};
 
 // The first fault, with a second one behind it where there can be one.
 const FAULTS: [(&str, DocumentFault); 17] = [
@@ -87,22 +87,6 @@ const CANONICAL: &str =
     "{'carrierCode':'OCNL','carrierCodeListProvider':'NMFTA','grossWeight':{'unit':'KGM','value':24000},'isToOrder':true,'transportDocumentReference':'OCNL0000001','transportDocumentTypeCode':'BOL'}";
 
 const BILL: &str = "98ac1e5b84a3169abca8aaaadb053b0bde6bfd0605157fb3504116e61c3b8fa3";
-
-fn quoted(alloc: Global, text: &str) -> Result<Vec<u8>, AllocError> {
-    let mut bytes = Vec::new(alloc);
-    for byte in text.bytes() {
-        bytes.push(if byte == b'\'' { b'"' } else { byte })?;
-    }
-    Ok(bytes)
-}
-
-// The value that a text is, with quotes for its apostrophes.
-fn json(alloc: Global, text: &str) -> Result<Json, ReadError> {
-    match quoted(alloc, text) {
-        Ok(bytes) => read(alloc, &bytes),
-        Err(_) => Err(ReadError::NoMemory),
-    }
-}
 
 // Whether the value that a text is reads as a document.
 fn answer(alloc: Global, text: &str) -> Option<Result<(), DocumentFault>> {

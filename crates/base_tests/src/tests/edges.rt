@@ -1,6 +1,10 @@
 //! What no contract says: listed failures, and what passes through std.
-use super::*;
 use ebl_base::{ByteList, CallList, Copied, Moment, NoMemory, count_fault};
+use ebl_edge::{
+    BoundedLink, BoundedSink, Clock, InfallibleSource, Link, MemoryClock, MemoryLink, MemorySink,
+    MemorySource, PieceList, ReaderSource, RepeatedSource, Sink, Source, StreamLink, SystemClock,
+    WriterSink, standard_input, standard_output,
+};
 use std::alloc::{AllocError, Global};
 use std::io;
 use std::io::{ErrorKind, Read, Write};

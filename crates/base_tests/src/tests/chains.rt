@@ -1,11 +1,11 @@
 //! What no contract says: each function once, on chains of two entries, with rules of titles that let them through.
-
-use crate::{
+use crate::tests::making::party;
+use bill_chain::{
     common_front, destination, ends_in, fold_after_chain, goes_beyond, has_entry, last_link,
     possessor_after,
 };
 use ebl_base::{
-    ByteList, Chain, ChainLink, Checksum, Entry, Kind, Moment, Party, SignedText, Transaction,
+    ByteList, Chain, ChainLink, Checksum, Entry, Kind, Moment, SignedText, Transaction,
     TransactionList,
 };
 use std::alloc::Global;
@@ -14,12 +14,12 @@ use title_fold::FoldRefusal;
 
 fn act(kind: Kind, actor: &[u8], recipient: Option<&[u8]>) -> Result<Transaction, Fail> {
     let recipient = match recipient {
-        Some(text) => Some(Party::from_text(text).ok_or("a party")?),
+        Some(text) => Some(party(text)?),
         None => None,
     };
     Ok(Transaction {
         kind,
-        actor: Party::from_text(actor).ok_or("a party")?,
+        actor: party(actor)?,
         recipient,
         time: Moment::try_new(0).ok_or("a moment")?,
     })
@@ -70,7 +70,7 @@ fn names_of_a_chain(rt: HostRuntime) -> Result<(), Fail> {
 fn the_title_after_a_chain(rt: HostRuntime) -> Result<(), Fail> {
     let chain = two_links(rt.alloc(), 2)?;
     let links = chain.as_slice();
-    let bank = Party::from_text(b"GAMM/BANK").ok_or("a party")?;
+    let bank = party(b"GAMM/BANK")?;
     assert_eq!(rt; possessor_after(links), Some(bank));
     assert_eq!(rt; destination(links), Some(bank.platform));
     assert_eq!(rt; destination(&[]), None);

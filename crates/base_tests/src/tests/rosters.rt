@@ -1,7 +1,7 @@
 //! Rosters, and the first wrong place of values that are none. In these texts `'` stands for `"`.
-use crate::{Roster, RosterFault, RosterPlace};
-use canonical_json::{Json, ReadError, read};
+use crate::tests::making::{json, party};
 use ebl_base::{CarrierCode, Copied, Party, PlatformCode, Provider};
+use party_roster::{Roster, RosterFault, RosterPlace};
 use std::alloc::{AllocError, Global};
 use std::test::Fail;
 
@@ -104,18 +104,6 @@ const CARRIERS_FOR: [(Provider, &str, &str); 3] = [
     (Provider::Smdg, "OCN", "none"),
 ];
 
-// The value that a text is, with quotes for its apostrophes.
-fn json(alloc: Global, text: &str) -> Result<Json, ReadError> {
-    let mut bytes = Vec::new(alloc);
-    for byte in text.bytes() {
-        let quoted = if byte == b'\'' { b'"' } else { byte };
-        if bytes.push(quoted).is_err() {
-            return Err(ReadError::NoMemory);
-        }
-    }
-    read(alloc, &bytes)
-}
-
 // Whether the value that a text is reads as a roster.
 fn answer(alloc: Global, text: &str) -> Option<Result<(), RosterFault>> {
     let json = json(alloc, text).ok()?;
@@ -198,7 +186,7 @@ fn copied(rt: HostRuntime) -> Result<(), Fail> {
     assert!(rt; copy.platforms() == roster.platforms() && copy.platforms().len() == 2);
     assert!(rt; copy.parties() == roster.parties() && copy.parties().len() == 3);
     assert!(rt; copy.carriers() == roster.carriers() && copy.carriers().len() == 2);
-    let bank = Party::from_text(b"ALPH/BANK").ok_or("party")?;
+    let bank = party(b"ALPH/BANK")?;
     assert!(rt; copy.knows(bank) && copy.has_platform(bank.platform));
     let code = CarrierCode::try_new(b"OCNL").ok_or("code")?;
     assert!(rt; copy.carrier(Provider::Nmfta, code) == Party::from_text(b"ALPH/CARRIER"));

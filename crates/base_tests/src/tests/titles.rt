@@ -1,8 +1,10 @@
 //! Every kind of transaction in every state, by a table written by hand.
-use crate::{FoldAt, FoldRefusal, Title, apply, carrier, fold, moves, possessor, title_holder};
 use ebl_base::{Kind, Moment, Party, Transaction};
 use std::process::Abort;
 use std::test::Fail;
+use title_fold::{
+    FoldAt, FoldRefusal, Title, apply, carrier, fold, moves, possessor, title_holder,
+};
 
 /// The parties of the tests.
 #[derive(Clone, Copy)]
