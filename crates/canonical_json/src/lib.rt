@@ -11,8 +11,6 @@ mod name;
 mod number;
 mod reading;
 mod taking;
-#[cfg(test)]
-mod tests;
 mod value;
 mod writing;
 

@@ -4,8 +4,6 @@
 
 mod bytes;
 mod reading;
-#[cfg(test)]
-mod tests;
 mod writing;
 
 pub use bytes::{bytes_have_one_spelling, bytes_member, bytes_of, required_bytes};

@@ -9,8 +9,6 @@ mod header;
 mod key_ring;
 mod laws;
 mod part;
-#[cfg(test)]
-mod tests;
 mod verifying;
 
 pub use alg::Alg;

@@ -14,7 +14,7 @@ const OUTER_PAD: u8 = 0x5c;
 
 /// HMAC with SHA-256 (RFC 2104) under a key of any length. Allocates nothing.
 #[tactic(auto, unfolding(crate::specs::Hmac::hmac_sha256))]
-pub(crate) fn hmac_sha256(key: &[u8], message: &[u8]) -> [u8; 32]
+pub fn hmac_sha256(key: &[u8], message: &[u8]) -> [u8; 32]
     ensures { result ≡ hmac_sha256 key.now message.now }
 {
     let block = key_block(key);

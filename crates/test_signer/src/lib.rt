@@ -6,8 +6,7 @@ mod hmac;
 mod keyed_ring;
 mod keys;
 mod tags;
-#[cfg(test)]
-mod tests;
 
 pub use failing_ring::FailingRing;
+pub use hmac::hmac_sha256;
 pub use keyed_ring::KeyedRing;

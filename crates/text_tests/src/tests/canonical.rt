@@ -1,7 +1,7 @@
 //! What no clause can say: that the definitions are those of RFC 8785, and that the calls succeed.
 ghost use Rattle.std.specs.Prelude.{◌<◌, length};
 
-use crate::{
+use canonical_json::{
     Json, JsonList, Member, MemberList, ReadError, append, canonical_reads, decimal_of,
     equal_texts_have_equal_values, flag_of, formerly_read_is_read_alike, int_of, is_lawful,
     list_of, member_of, read, read_if_any, take_member, text_of, write, write_text,

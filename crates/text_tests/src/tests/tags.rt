@@ -1,7 +1,7 @@
-//! RFC 4231, section 4: keys shorter and longer than a block.
-use crate::hmac::hmac_sha256;
+//! Tags against RFC 4231, section 4: keys shorter and longer than a block.
 use document_checksum::to_text;
 use ebl_base::Checksum;
+use test_signer::hmac_sha256;
 
 #[test]
 fn rfc4231_cases(rt: HostRuntime) {

@@ -1,25 +1,14 @@
 //! Values in and out of each form. In these texts `'` stands for `"`.
-use crate::*;
-use canonical_json::{Json, ReadError, read, write};
+use crate::tests::making::json;
+use canonical_json::{Json, read, write};
 use ebl_base::{ByteList, Checksum, NoMemory, Party, PlatformCode};
-use std::alloc::{AllocError, Global};
+use json_forms::{
+    Malformed, checksums_in, checksums_json, number_json, number_member, object_json,
+    optional_checksum, optional_party, optional_text, party_member, required_checksum,
+    required_items, required_number, required_party, required_platform,
+};
+use std::alloc::Global;
 use std::test::Fail;
-
-fn quoted(alloc: Global, text: &str) -> Result<Vec<u8>, AllocError> {
-    let mut bytes = Vec::new(alloc);
-    for byte in text.bytes() {
-        bytes.push(if byte == b'\'' { b'"' } else { byte })?;
-    }
-    Ok(bytes)
-}
-
-// The value that a text is, with quotes for its apostrophes.
-fn json(alloc: Global, text: &str) -> Result<Json, ReadError> {
-    match quoted(alloc, text) {
-        Ok(bytes) => read(alloc, &bytes),
-        Err(_) => Err(ReadError::NoMemory),
-    }
-}
 
 #[test]
 fn members_under_their_names(rt: HostRuntime) -> Result<(), Fail> {

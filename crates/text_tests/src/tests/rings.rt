@@ -1,9 +1,9 @@
 //! Which rings sign for whom, and when they fail.
-use crate::tests::code;
-use crate::{FailingRing, KeyedRing};
+use crate::tests::making::code;
 use ebl_base::{CallList, Copied, Failed};
 use signed_envelope::{Alg, KeyRing};
 use std::test::Fail;
+use test_signer::{FailingRing, KeyedRing};
 
 #[test]
 fn derived_keys_sign_for_each_platform(rt: HostRuntime) -> Result<(), Fail> {

@@ -1,6 +1,5 @@
 //! Signed texts under the test rings.
-use crate::tests::code;
-use crate::{FailingRing, KeyedRing};
+use crate::tests::making::code;
 use canonical_json::{Json, read, write};
 use ebl_base::CallList;
 use signed_envelope::{
@@ -8,6 +7,7 @@ use signed_envelope::{
 };
 use std::process::Abort;
 use std::test::Fail;
+use test_signer::{FailingRing, KeyedRing};
 
 const MOST: usize = 16_384;
 

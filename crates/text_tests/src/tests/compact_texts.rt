@@ -1,6 +1,6 @@
-//! Which texts have parts. The rings of the crate `test_signer` show the rest.
-use crate::{BadSigned, SplitFault, is_compact, split};
+//! Which texts have parts. `signed_texts` shows the rest.
 use ebl_base::{Copied, Signature};
+use signed_envelope::{BadSigned, SplitFault, is_compact, split};
 use std::test::Fail;
 
 // `{}`, `{}` and one zero byte.
