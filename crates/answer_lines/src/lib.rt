@@ -5,8 +5,6 @@ mod answer;
 mod lines;
 mod parcel;
 mod row;
-#[cfg(test)]
-mod tests;
 mod views;
 
 pub use answer::Answer;

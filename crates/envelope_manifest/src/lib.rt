@@ -9,8 +9,6 @@ mod laws;
 mod manifest;
 mod piece;
 mod reading;
-#[cfg(test)]
-mod tests;
 mod writing;
 
 pub use body::Body;

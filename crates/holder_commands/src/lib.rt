@@ -5,8 +5,6 @@ mod command;
 mod fault;
 mod laws;
 mod reading;
-#[cfg(test)]
-mod tests;
 mod writing;
 
 pub use command::Command;

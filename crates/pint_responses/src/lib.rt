@@ -6,8 +6,6 @@ mod laws;
 mod reading;
 mod response;
 mod sealing;
-#[cfg(test)]
-mod tests;
 mod unsealing;
 mod writing;
 

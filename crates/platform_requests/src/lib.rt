@@ -11,8 +11,6 @@ mod reply;
 mod request;
 mod shard;
 mod suiting;
-#[cfg(test)]
-mod tests;
 mod view;
 
 pub use desk::Desk;

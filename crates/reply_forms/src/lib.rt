@@ -3,8 +3,6 @@
 
 mod body;
 mod refusals;
-#[cfg(test)]
-mod tests;
 mod views;
 mod words;
 

@@ -6,8 +6,6 @@ mod piece;
 mod reading;
 mod reference;
 mod started;
-#[cfg(test)]
-mod tests;
 mod writing;
 
 pub use laws::{

@@ -1,24 +1,10 @@
 //! Commands, and values that are none. In these texts `'` stands for `"`.
-use crate::{Command, CommandFault, CommandField};
-use canonical_json::{Json, ReadError, read, write};
+use crate::tests::making::{json, quoted};
+use canonical_json::write;
 use ebl_base::{Kind, Party};
+use holder_commands::{Command, CommandFault, CommandField};
 use std::alloc::{AllocError, Global};
 use std::test::Fail;
-
-fn quoted(alloc: Global, text: &str) -> Result<Vec<u8>, AllocError> {
-    let mut bytes = Vec::new(alloc);
-    for byte in text.bytes() {
-        bytes.push(if byte == b'\'' { b'"' } else { byte })?;
-    }
-    Ok(bytes)
-}
-
-fn json(alloc: Global, text: &str) -> Result<Json, ReadError> {
-    match quoted(alloc, text) {
-        Ok(bytes) => read(alloc, &bytes),
-        Err(_) => Err(ReadError::NoMemory),
-    }
-}
 
 // What a text is read as; none where it is no JSON.
 fn answer(alloc: Global, text: &str) -> Option<Result<Command, CommandFault>> {

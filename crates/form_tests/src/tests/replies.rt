@@ -1,11 +1,12 @@
 //! Replies beside their bodies, which were written by hand from docs/script.md and docs/forms.md.
-use crate::{ReplyBody, reply_body};
+use crate::tests::making::party;
 use ebl_base::{
-    ByteList, Checksum, ChecksumList, Code, Evidence, LimitKind, NoMemory, Party, PlaceTag,
-    Reference, SignedText,
+    ByteList, Checksum, ChecksumList, Code, Evidence, LimitKind, NoMemory, PlaceTag, Reference,
+    SignedText,
 };
 use pint_responses::Response;
 use platform_requests::{IgnoreReason, Reply, View};
+use reply_forms::{ReplyBody, reply_body};
 use std::alloc::Global;
 use std::process::Abort;
 use std::test::Fail;
@@ -26,10 +27,6 @@ fn nothing_row(rt: &impl Abort, alloc: Global, reply: Reply) -> Result<(), NoMem
     let body = reply_body(alloc, reply)?;
     assert!(rt; matches!(&body, ReplyBody::Nothing), "{body:?}");
     Ok(())
-}
-
-fn party(text: &str) -> Result<Party, Fail> {
-    Ok(Party::from_text(text.as_bytes()).ok_or("a party")?)
 }
 
 #[test]

@@ -1,9 +1,9 @@
 //! Lines that are events, and values that are none. In these texts `'` stands for `"`, `$` for a bill's name and
 //! `%` for a reference.
-use crate::{Event, EventFault};
 use canonical_json::{Json, ReadError, read, write};
 use std::alloc::{AllocError, Global};
 use std::test::Fail;
+use world_script::{Event, EventFault};
 
 const BILL: &[u8] = b"44136fa355b3678a1146ad16f7e8649e94fb4fc21fe77e8310c060f61caaff8a";
 

@@ -2,14 +2,17 @@
 ghost use Rattle.platform_requests.specs.Desk.{MayAsk};
 ghost use Rattle.platform_requests.specs.Request.{request_view};
 
-use crate::*;
+use crate::tests::making::{party, platform};
 use canonical_json::read;
 use ebl_base::{
-    ByteList, Checksum, ChecksumList, Code, Copied, Evidence, Kind, Moment, NoMemory, Party,
-    PlaceTag, PlatformCode, Reference, SignedText,
+    ByteList, Checksum, ChecksumList, Code, Copied, Evidence, Kind, Moment, NoMemory, PlaceTag,
+    PlatformCode, Reference, SignedText,
 };
 use holder_commands::Command;
 use pint_responses::Response;
+use platform_requests::{
+    Desk, IgnoreReason, MemoryDesk, Message, MessageList, Outcome, Reply, Request, shard_of, suits,
+};
 use std::alloc::Global;
 use std::test::Fail;
 
@@ -74,7 +77,7 @@ fn an_unread_start_goes_to_shard_0(rt: HostRuntime) -> Result<(), Fail> {
 }
 
 fn command_shard(alloc: Global, command: Command) -> Result<u32, Fail> {
-    let party = Party::from_text(b"ALPH/CARRIER").ok_or("a party")?;
+    let party = party("ALPH/CARRIER")?;
     Ok(shard(alloc, Request::Command { party, command })?)
 }
 
@@ -237,7 +240,7 @@ fn puts(alloc: Global, to: PlatformCode, count: usize) -> Result<MessageList, No
 }
 
 fn stored(alloc: Global, count: usize) -> Result<Outcome, Fail> {
-    let to = PlatformCode::try_new(b"BETA").ok_or("a code")?;
+    let to = platform("BETA")?;
     let messages = puts(alloc, to, count)?;
     Ok(Outcome {
         reply: Reply::Stored,
@@ -269,7 +272,7 @@ fn no_finish_comes_of_other_requests(rt: HostRuntime) -> Result<(), Fail> {
 
 // One Start.
 fn started_again(alloc: Global) -> Result<Outcome, Fail> {
-    let to = PlatformCode::try_new(b"BETA").ok_or("a code")?;
+    let to = platform("BETA")?;
     let mut messages = MessageList::new(alloc);
     messages.push(start_message(alloc, to))?;
     Ok(Outcome {
@@ -303,7 +306,7 @@ fn a_started_names_documents(rt: HostRuntime) -> Result<(), Fail> {
 
 // A desk with one outcome: a Finish.
 fn desk(alloc: Global) -> Result<MemoryDesk, Fail> {
-    let party = Party::from_text(b"BETA/IMPORT").ok_or("a party")?;
+    let party = party("BETA/IMPORT")?;
     let mut parties = Vec::new(alloc);
     parties.push(party)?;
     let mut outcomes = Vec::new(alloc);
@@ -350,7 +353,7 @@ fn an_outcome_that_does_not_suit_is_not_given(rt: HostRuntime) -> Result<(), Fai
 #[test]
 fn a_desk_in_memory_knows_its_parties(rt: HostRuntime) -> Result<(), Fail> {
     let desk = desk(rt.alloc())?;
-    assert!(rt; desk.knows(Party::from_text(b"BETA/IMPORT").ok_or("a party")?));
-    assert!(rt; !desk.knows(Party::from_text(b"BETA/OTHER").ok_or("a party")?));
+    assert!(rt; desk.knows(party("BETA/IMPORT")?));
+    assert!(rt; !desk.knows(party("BETA/OTHER")?));
     Ok(())
 }

@@ -1,8 +1,9 @@
 //! What is sealed by a platform is unsealed from it, and from no other one.
-use crate::tests::{platform, response};
-use crate::{ResponseField, SealFault, UnsealFault, seal, unseal};
+use crate::tests::answers::response;
+use crate::tests::making::platform;
 use document_checksum::checksum;
 use ebl_base::{CallList, ChecksumList, Code, Copied, Reason};
+use pint_responses::{ResponseField, SealFault, UnsealFault, seal, unseal};
 use signed_envelope::BadSigned;
 use std::process::Abort;
 use std::test::Fail;
@@ -15,7 +16,7 @@ const MISSING: &str =
 #[test]
 fn missing_documents_of_beta(rt: HostRuntime) -> Result<(), Fail> {
     let mut ring = KeyedRing::derived();
-    let beta = platform(&rt, "BETA");
+    let beta = platform("BETA")?;
     let abc = checksum(b"abc");
     let object = checksum(b"{}");
     let missing = ChecksumList::from_slice(rt.alloc(), &[object, abc])?;
@@ -34,7 +35,7 @@ fn missing_documents_of_beta(rt: HostRuntime) -> Result<(), Fail> {
     let copy = again.copy(rt.alloc())?;
     assert_eq!(rt; copy.missing.as_slice(), [object, abc].as_slice());
     assert!(rt; copy.evidence.own.is_none() && copy.evidence.theirs.is_none());
-    let alph = platform(&rt, "ALPH");
+    let alph = platform("ALPH")?;
     assert_eq!(rt;
         unseal(rt.alloc(), &ring, text.0.as_slice(), alph).err(),
         Some(UnsealFault::Signature(BadSigned::WrongKey))
@@ -148,7 +149,7 @@ fn there_and_back(
     reason: Option<Reason>,
 ) -> Result<bool, Fail> {
     let mut ring = KeyedRing::derived();
-    let alph = platform(rt, "ALPH");
+    let alph = platform("ALPH")?;
     let name = Some(checksum(b"abc"));
     let r = response(code, reason, name, ChecksumList::new(rt.alloc()));
     let text = seal(rt.alloc(), &mut ring, alph, &r).ok().ok_or("sealed")?;
@@ -179,7 +180,7 @@ fn reasons_outside_the_form(rt: HostRuntime) -> Result<(), Fail> {
         ),
     ] {
         let mut ring = KeyedRing::derived();
-        let alph = platform(&rt, "ALPH");
+        let alph = platform("ALPH")?;
         let r = response(code, Some(reason), None, ChecksumList::new(rt.alloc()));
         let text = seal(rt.alloc(), &mut ring, alph, &r).ok().ok_or("sealed")?;
         assert_eq!(rt;
@@ -193,7 +194,7 @@ fn reasons_outside_the_form(rt: HostRuntime) -> Result<(), Fail> {
 #[test]
 fn failing_ring(rt: HostRuntime) -> Result<(), Fail> {
     let mut ring = FailingRing::derived(CallList::from_slice(rt.alloc(), &[0])?);
-    let alph = platform(&rt, "ALPH");
+    let alph = platform("ALPH")?;
     let r = response(Code::Received, None, None, ChecksumList::new(rt.alloc()));
     assert_eq!(rt;
         seal(rt.alloc(), &mut ring, alph, &r).err(),

@@ -5,13 +5,8 @@ mod form;
 mod largest;
 mod rounds;
 
-use crate::Response;
-use ebl_base::{Checksum, ChecksumList, Code, Evidence, PlatformCode, Reason};
-use std::process::Abort;
-
-fn platform(rt: &impl Abort, text: &str) -> PlatformCode {
-    PlatformCode::try_new(text.as_bytes()).expect(rt, "a platform code")
-}
+use ebl_base::{Checksum, ChecksumList, Code, Evidence, Reason};
+use pint_responses::Response;
 
 // A response without evidence, which stands where it has names.
 fn response(

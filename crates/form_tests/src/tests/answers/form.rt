@@ -1,7 +1,6 @@
 //! Each member wrong in each way. In these texts `'` stands for `"`.
-use crate::tests::platform;
-use crate::{ResponseField, UnsealFault, unseal};
-use canonical_json::read;
+use crate::tests::making::{json, platform};
+use pint_responses::{ResponseField, UnsealFault, unseal};
 use signed_envelope::compose;
 use std::process::Abort;
 use std::test::Fail;
@@ -28,13 +27,9 @@ pub(crate) fn fault_with(
 }
 
 fn fault_of(rt: &(impl Abort + AllocGlobal), payload: &str) -> Result<Option<UnsealFault>, Fail> {
-    let mut bytes = Vec::new(rt.alloc());
-    for byte in payload.as_bytes() {
-        bytes.push(if *byte == b'\'' { b'"' } else { *byte })?;
-    }
-    let json = read(rt.alloc(), bytes.as_slice()).ok().ok_or("json")?;
+    let json = json(rt.alloc(), payload).ok().ok_or("json")?;
     let mut ring = KeyedRing::derived();
-    let alph = platform(rt, "ALPH");
+    let alph = platform("ALPH")?;
     let text = compose(rt.alloc(), &mut ring, alph, &json, 65_536)
         .ok()
         .ok_or("composed")?;

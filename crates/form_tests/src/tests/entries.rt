@@ -1,6 +1,7 @@
 //! Entries, and values that are none. In these texts `'` stands for `"`.
-use crate::{EntryFault, EntryField, decode, decode_transaction, encode, encode_transaction};
-use canonical_json::{Json, Member, MemberList, ReadError, read, write};
+use crate::tests::making::{json, quoted};
+use canonical_json::{Json, Member, MemberList, write};
+use chain_entry::{EntryFault, EntryField, decode, decode_transaction, encode, encode_transaction};
 use ebl_base::{CharList, Entry};
 use std::alloc::{AllocError, Global};
 use std::test::Fail;
@@ -62,22 +63,6 @@ const FIELDS: [EntryField; 5] = [
     EntryField::Attempt,
     EntryField::Transactions,
 ];
-
-// The value that a text is, with quotes for its apostrophes.
-fn json(alloc: Global, text: &str) -> Result<Json, ReadError> {
-    match quoted(alloc, text) {
-        Ok(bytes) => read(alloc, &bytes),
-        Err(_) => Err(ReadError::NoMemory),
-    }
-}
-
-fn quoted(alloc: Global, text: &str) -> Result<Vec<u8>, AllocError> {
-    let mut bytes = Vec::new(alloc);
-    for byte in text.bytes() {
-        bytes.push(if byte == b'\'' { b'"' } else { byte })?;
-    }
-    Ok(bytes)
-}
 
 // An object of these members, and a further one.
 fn object(alloc: Global, members: [&str; 5]) -> Result<String, AllocError> {

@@ -1,11 +1,12 @@
 //! Manifests and bodies in and out of their forms. In these texts `'` stands for `"`.
-use crate::{
+use crate::tests::making::{json, quoted};
+use canonical_json::{text_of, write};
+use document_checksum::checksum;
+use ebl_base::{CharList, Checksum, Copied, NoMemory};
+use envelope_manifest::{
     Body, BodyFault, BodyField, Manifest, ManifestFault, ManifestField, Piece, PieceList, decode,
     decode_piece, encode, encode_piece,
 };
-use canonical_json::{Json, ReadError, read, text_of, write};
-use document_checksum::checksum;
-use ebl_base::{CharList, Checksum, Copied, NoMemory};
 use std::alloc::{AllocError, Global};
 use std::test::Fail;
 
@@ -14,23 +15,6 @@ const BILL: ManifestFault = ManifestFault::ManifestForm(ManifestField::Bill);
 const LAST: ManifestFault = ManifestFault::ManifestForm(ManifestField::Last);
 
 const DOCUMENTS: ManifestFault = ManifestFault::ManifestForm(ManifestField::Documents);
-
-fn quoted(alloc: Global, text: &str) -> Result<Vec<u8>, AllocError> {
-    let mut bytes = Vec::from_slice(alloc, text.as_bytes())?;
-    for byte in &mut bytes {
-        if *byte == b'\'' {
-            *byte = b'"';
-        }
-    }
-    Ok(bytes)
-}
-
-fn json(alloc: Global, text: &str) -> Result<Json, ReadError> {
-    match quoted(alloc, text) {
-        Ok(bytes) => read(alloc, &bytes),
-        Err(_) => Err(ReadError::NoMemory),
-    }
-}
 
 // The checksum of `abc` and that of `{}` stand in FIPS 180-4's examples and in Python's hashlib.
 const MANIFEST: &str =

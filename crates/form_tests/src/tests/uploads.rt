@@ -1,13 +1,14 @@
 //! Uploads beside what is stored, references, and answers in and out of their form. In these texts `'` stands for `"`.
-use crate::{
-    Started, StartedFault, fits, missing, reference_from, reference_of, reference_text,
-    started_read, started_write,
-};
+use crate::tests::making::quoted;
 use document_checksum::checksum;
 use ebl_base::{CharList, Checksum, ChecksumList, Copied, NoMemory, Reference};
 use envelope_manifest::{Manifest, Piece, PieceList};
-use std::alloc::{AllocError, Global};
+use std::alloc::Global;
 use std::test::Fail;
+use upload_state::{
+    Started, StartedFault, fits, missing, reference_from, reference_of, reference_text,
+    started_read, started_write,
+};
 
 fn piece(alloc: Global, bytes: &[u8]) -> Result<Piece, NoMemory> {
     Ok(Piece {
@@ -105,16 +106,6 @@ fn forms_of_a_reference(rt: HostRuntime) {
     ] {
         assert_eq!(rt; reference_from(text.as_bytes()), None, "{text}");
     }
-}
-
-fn quoted(alloc: Global, text: &str) -> Result<Vec<u8>, AllocError> {
-    let mut bytes = Vec::from_slice(alloc, text.as_bytes())?;
-    for byte in &mut bytes {
-        if *byte == b'\'' {
-            *byte = b'"';
-        }
-    }
-    Ok(bytes)
 }
 
 #[test]

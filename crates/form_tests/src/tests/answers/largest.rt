@@ -2,11 +2,12 @@
 ghost use Rattle.std.specs.Prelude.{IfOk};
 ghost use Rattle.pint_responses.specs.Response.{IsEvidence};
 
-use crate::tests::form::fault_with;
-use crate::tests::{platform, response};
-use crate::{Response, is_sealable, seal, unseal};
+use crate::tests::answers::form::fault_with;
+use crate::tests::answers::response;
+use crate::tests::making::platform;
 use document_checksum::checksum;
 use ebl_base::{ByteList, ChecksumList, Code, Evidence, Reason, SignedText};
+use pint_responses::{Response, is_sealable, seal, unseal};
 use signed_envelope::is_compact;
 use std::alloc::Global;
 use std::process::Abort;
@@ -80,7 +81,7 @@ fn missing_documents_that_can_be_sealed(rt: HostRuntime) -> Result<(), Fail> {
 #[test]
 fn longest_response(rt: HostRuntime) -> Result<(), Fail> {
     let mut ring = KeyedRing::derived();
-    let alph = platform(&rt, "ALPH");
+    let alph = platform("ALPH")?;
     let name = checksum(b"abc");
     let missing = ChecksumList::from_slice(rt.alloc(), &[name; 16])?;
     let reason = Some(Reason::Signature(usize::MAX));
@@ -107,7 +108,7 @@ fn longest_response(rt: HostRuntime) -> Result<(), Fail> {
 #[test]
 fn evidence_there_and_back(rt: HostRuntime) -> Result<(), Fail> {
     let mut ring = KeyedRing::derived();
-    let alph = platform(&rt, "ALPH");
+    let alph = platform("ALPH")?;
     let missing = ChecksumList::new(rt.alloc());
     let theirs = longest_evidence(rt.alloc())?;
     let r = Response {

@@ -4,11 +4,12 @@ ghost use Rattle.pint_responses.specs.Response.{IsEvidence};
 ghost use Rattle.answer_lines.specs.Lines.{IsWritable};
 ghost use Rattle.answer_lines.specs.declared.answer.Answer.TheVariants.{Replied};
 
-use crate::*;
+use crate::tests::making::{party, platform};
+use answer_lines::{Answer, Content, Parcel, answer_line};
 use document_checksum::checksum;
 use ebl_base::{
-    ByteList, Checksum, ChecksumList, Code, Evidence, LimitKind, NoMemory, Party, PlaceTag,
-    PlatformCode, Reason, Reference, SignedText,
+    ByteList, Checksum, ChecksumList, Code, Evidence, LimitKind, NoMemory, Party, PlaceTag, Reason,
+    Reference, SignedText,
 };
 use pint_responses::Response;
 use platform_requests::{IgnoreReason, Reply, View};
@@ -38,14 +39,6 @@ fn answers(alloc: Global, answer: Answer, want: &str) -> Result<bool, NoMemory>
     requires { IsWritable answer }
 {
     says(alloc, 1, &[], None, answer, want)
-}
-
-fn party(text: &str) -> Result<Party, Fail> {
-    Ok(Party::from_text(text.as_bytes()).ok_or("party")?)
-}
-
-fn platform(text: &str) -> Result<PlatformCode, Fail> {
-    Ok(PlatformCode::try_new(text.as_bytes()).ok_or("platform")?)
 }
 
 // ---- bills that are shown
