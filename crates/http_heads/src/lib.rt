@@ -10,8 +10,6 @@ mod routes;
 mod scan;
 mod segments;
 mod status;
-#[cfg(test)]
-mod tests;
 
 pub use fields::MAX_BODY;
 pub use head::{MAX_FIELDS, Plans};

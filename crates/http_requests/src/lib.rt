@@ -5,8 +5,6 @@ mod asked;
 mod end;
 mod front;
 mod reading;
-#[cfg(test)]
-mod tests;
 
 pub use asked::{Asked, asked_of};
 pub use end::LinkEnd;

@@ -9,8 +9,6 @@ mod receiving;
 mod reply_head;
 mod request;
 mod sending;
-#[cfg(test)]
-mod tests;
 
 pub use client_fault::ClientFault;
 pub use incoming::Incoming;

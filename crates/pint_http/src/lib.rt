@@ -4,8 +4,6 @@
 mod known;
 mod reply;
 mod serve;
-#[cfg(test)]
-mod tests;
 
 pub use http_requests::LinkEnd;
 pub use serve::{MOST_REPLIES, serve_link};

@@ -1,8 +1,9 @@
 //! The front of a link's bytes, however they come.
-use crate::{Front, LinkEnd, await_next};
+use crate::tests::making::link_of;
 use ebl_base::{ByteList, CallList, NoMemory};
 use ebl_edge::{MemoryLink, PieceList};
 use http_heads::{MAX_HEAD, Plans, Route, Status};
+use http_requests::{Front, LinkEnd, await_next};
 use std::alloc::Global;
 use std::process::Abort;
 use std::test::Fail;
@@ -19,12 +20,6 @@ const FRONT: Front = Front::Whole {
     end: 86,
     keeps: true,
 };
-
-fn link_of(alloc: Global, input: &[u8], pieces: &[usize]) -> Result<MemoryLink, NoMemory> {
-    let bytes = ByteList::from_slice(alloc, input)?;
-    let pieces = PieceList::from_slice(alloc, pieces)?;
-    Ok(MemoryLink::in_pieces(alloc, bytes, pieces, CallList::new(alloc)))
-}
 
 // What stands at the front of the input.
 fn front_of(

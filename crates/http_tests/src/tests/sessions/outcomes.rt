@@ -1,12 +1,17 @@
-//! Each reply of a desk as its bytes; all bodies are in the tests of `reply_forms`.
-use super::*;
-use ebl_base::{ChecksumList, Code, Evidence, LimitKind, PlaceTag, SignedText};
+//! Each reply of a desk as its bytes; all bodies are in `replies` of the crate `form_tests`.
+use crate::tests::making::CHECKSUM;
+use crate::tests::sessions::{FINISH, REFERENCE, plain, session_row};
+use ebl_base::{
+    ByteList, ChecksumList, Code, Evidence, LimitKind, NoMemory, Party, PlaceTag, SignedText,
+};
+use pint_http::LinkEnd;
 use pint_responses::Response;
-use platform_requests::{IgnoreReason, View};
+use platform_requests::{IgnoreReason, Reply, View};
+use std::alloc::Global;
+use std::process::Abort;
+use std::test::Fail;
 use title_fold::FoldRefusal;
 use transport_document::DocumentFault;
-
-const BILL: Checksum = Checksum([0x44; 32]);
 
 const ASK: &[u8] =
     b"GET /v3/bills/4444444444444444444444444444444444444444444444444444444444444444 HTTP/1.1\r\n\r\n";
@@ -128,7 +133,7 @@ fn refusals_of_a_command(rt: HostRuntime) -> Result<(), Fail> {
 #[test]
 fn a_bill_that_is_shown(rt: HostRuntime) -> Result<(), Fail> {
     let view = View {
-        bill: BILL,
+        bill: CHECKSUM,
         place: PlaceTag::Absent,
         entries: 0,
         title: None,
@@ -142,7 +147,7 @@ fn a_bill_that_is_shown(rt: HostRuntime) -> Result<(), Fail> {
 fn a_transfer_that_starts(rt: HostRuntime) -> Result<(), Fail> {
     let alloc = rt.alloc();
     let mut missing = ChecksumList::new(alloc);
-    missing.push(BILL)?;
+    missing.push(CHECKSUM)?;
     let reply = Reply::Started {
         reference: REFERENCE,
         missing,

@@ -1,5 +1,11 @@
 //! The rows that were worked by hand.
-use super::*;
+use crate::tests::making::{joined, link_of};
+use crate::tests::sessions::{
+    FINISH, KNOWN, NOT_FOUND, REFERENCE, UNKNOWN_REFERENCE, VALIDATION, clock, desk_with,
+    no_outcomes, refused_row, session_row,
+};
+use pint_http::{LinkEnd, serve_link};
+use std::test::Fail;
 
 #[test]
 fn http_in_single_bytes(rt: HostRuntime) -> Result<(), Fail> {

@@ -1,5 +1,14 @@
 //! A session however its bytes come, and where it ends.
-use super::*;
+use crate::tests::making::{joined, link_of};
+use crate::tests::sessions::{
+    FINISH, KNOWN, UNKNOWN_REFERENCE, VALIDATION, clock, desk_with, no_outcomes, session_row,
+};
+use ebl_base::{ByteList, CallList, NoMemory};
+use ebl_edge::{MemoryLink, PieceList};
+use pint_http::{LinkEnd, serve_link};
+use std::alloc::Global;
+use std::process::Abort;
+use std::test::Fail;
 
 // Three requests, with an empty line between two of them.
 fn three_requests(alloc: Global) -> Result<Vec<u8>, NoMemory> {

@@ -1,15 +1,12 @@
 //! What each route asks with a body.
-use crate::{Asked, asked_of};
-use ebl_base::{Checksum, NoMemory, Party, Reference};
+use crate::tests::making::{CHECKSUM, REFERENCE};
+use ebl_base::{NoMemory, Party};
 use http_heads::Route;
+use http_requests::{Asked, asked_of};
 use platform_requests::Request;
 use std::alloc::Global;
 use std::process::Abort;
 use std::test::Fail;
-
-const REFERENCE: Reference = Reference([0x11; 16]);
-
-const CHECKSUM: Checksum = Checksum([0x44; 32]);
 
 #[test]
 fn an_envelope_of_any_bytes(rt: HostRuntime) -> Result<(), Fail> {

@@ -4,9 +4,10 @@ mod heads;
 mod outcomes;
 mod rows;
 
-use crate::{LinkEnd, serve_link};
-use ebl_base::{ByteList, CallList, Checksum, Moment, NoMemory, Party, Reference};
-use ebl_edge::{MemoryClock, MemoryLink, PieceList};
+use crate::tests::making::link_of;
+use ebl_base::{Moment, Party, Reference};
+use ebl_edge::MemoryClock;
+use pint_http::{LinkEnd, serve_link};
 use platform_requests::{MemoryDesk, MessageList, Outcome, Reply};
 use std::alloc::Global;
 use std::process::Abort;
@@ -31,14 +32,6 @@ const REFERENCE: Reference = Reference([
     0x00, 0x11, 0x22, 0x33, 0x44, 0x55, 0x66, 0x77, 0x88, 0x99, 0xaa, 0xbb, 0xcc, 0xdd, 0xee, 0xff,
 ]);
 
-fn joined(alloc: Global, parts: &[&[u8]]) -> Result<Vec<u8>, NoMemory> {
-    let mut text = Vec::new(alloc);
-    for part in parts {
-        text.extend_from_slice(part)?;
-    }
-    Ok(text)
-}
-
 fn plain(alloc: Global, reply: Reply) -> Outcome {
     Outcome {
         reply,
@@ -60,12 +53,6 @@ fn desk_with(alloc: Global, outcomes: Vec<Outcome>) -> Result<MemoryDesk, Fail> 
 
 fn clock() -> Result<MemoryClock, Fail> {
     Ok(MemoryClock::new(Moment::try_new(1000).ok_or("a moment")?))
-}
-
-fn link_of(alloc: Global, input: &[u8], pieces: &[usize]) -> Result<MemoryLink, NoMemory> {
-    let bytes = ByteList::from_slice(alloc, input)?;
-    let pieces = PieceList::from_slice(alloc, pieces)?;
-    Ok(MemoryLink::in_pieces(alloc, bytes, pieces, CallList::new(alloc)))
 }
 
 // What a session writes, and how it ends.

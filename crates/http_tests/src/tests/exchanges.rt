@@ -1,7 +1,7 @@
 //! Exchanges over links in memory: the bytes of each request, replies and what is none, every cut, the limits.
-use crate::{ClientFault, Incoming, exchange};
 use ebl_base::{ByteList, CallList, Checksum, NoMemory, PlatformCode, Reference};
 use ebl_edge::{MemoryLink, PieceList};
+use pint_client::{ClientFault, Incoming, exchange};
 use platform_requests::Message;
 use std::alloc::{AllocError, Global};
 use std::test::Fail;

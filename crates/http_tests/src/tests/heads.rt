@@ -1,13 +1,10 @@
 //! Heads beside what they ask for.
-use crate::{MAX_BODY, MAX_FIELDS, Plan, Plans, Route, Scan, Status};
-use ebl_base::{Checksum, NoMemory, Reference};
+use crate::tests::making::{CHECKSUM, REFERENCE, joined};
+use ebl_base::{NoMemory, Reference};
+use http_heads::{MAX_BODY, MAX_FIELDS, Plan, Plans, Route, Scan, Status};
 use std::alloc::Global;
 use std::process::Abort;
 use std::test::Fail;
-
-const REFERENCE: Reference = Reference([0x11; 16]);
-
-const CHECKSUM: Checksum = Checksum([0x44; 32]);
 
 const START: &[u8] = b"/v3/envelopes";
 
@@ -21,14 +18,6 @@ const VALIDATION: &[u8] = b"/v3/receiver-validation";
 const COMMAND: &[u8] = b"/v3/holder-commands";
 
 const BILL: &[u8] = b"/v3/bills/4444444444444444444444444444444444444444444444444444444444444444";
-
-fn joined(alloc: Global, parts: &[&[u8]]) -> Result<Vec<u8>, NoMemory> {
-    let mut text = Vec::new(alloc);
-    for part in parts {
-        text.extend_from_slice(part)?;
-    }
-    Ok(text)
-}
 
 // What a head asks for: its method, a path, and its lines from the version on.
 fn asks(

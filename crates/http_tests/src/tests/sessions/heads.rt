@@ -1,5 +1,10 @@
 //! Heads that end a session, and those that don't.
-use super::*;
+use crate::tests::making::joined;
+use crate::tests::sessions::{
+    KNOWN, UNKNOWN_REFERENCE, VALIDATION, no_outcomes, refused_row, session_row,
+};
+use pint_http::LinkEnd;
+use std::test::Fail;
 
 // Each is refused by its status, and by the next in order too: what is wrong with the second stands behind the comma.
 const REFUSED: [(&[u8], &str); 9] = [
