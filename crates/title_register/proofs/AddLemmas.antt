@@ -26,7 +26,8 @@ use Rattle.title_register.specs.declared.bill_state.BillState.{BillState}
 use Rattle.title_register.specs.BillState.{state_of, state_with, unknown}
 use Rattle.title_register.specs.Frames.{key_eq, number_in, number_of, with_number}
 use Rattle.title_register.specs.Register.{IsRoomFor, state_in}
-use Rattle.title_register.proofs.RegisterLemmas.{begun_taken, other_history}
+use Rattle.title_register.proofs.RegisterLemmas.{begun_taken}
+use Rattle.bill_diary.proofs.LinkedLemmas.{other_history}
 
 -- a Begun whose chain has a last entry is taken in its frame
 pub begun_is_taken : (P : List Record → Type 0) (bill : Checksum) (chain : List ChainLink) (manifest : Manifest)

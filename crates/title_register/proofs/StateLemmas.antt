@@ -31,7 +31,7 @@ use Rattle.title_register.specs.declared.bill_state.StateChange.{StateChange}
 use Rattle.title_register.specs.Past.{arrived, is_fresh}
 use Rattle.title_register.specs.Standing.{place_at, standing_of, standing_with}
 use Rattle.title_register.specs.BillState.{acts_with, state_of, state_with, title_by}
-use Rattle.title_register.specs.Register.{bill_in}
+use Rattle.bill_diary.specs.Linked.{bill_in}
 use Rattle.title_register.proofs.RegisterLemmas.{place_at-standing_of, begun_received}
 
 -- ---- titles

@@ -5,8 +5,8 @@ use Rattle.std.specs.Vec.{vec_len, vec_capacity}
 use Rattle.ebl_base.specs.Checksum.{checksum_cmp}
 use Rattle.ebl_base.specs.declared.checksum.Checksum.{Checksum}
 use Rattle.bill_diary.specs.declared.frame.Frame.{Frame}
-use Rattle.bill_diary.specs.History.{bill_of, history}
-use Rattle.bill_diary.specs.Searches.{kept_in}
+use Rattle.bill_diary.specs.History.{history}
+use Rattle.bill_diary.specs.Linked.{bill_in}
 use Rattle.title_register.specs.declared.bill_state.BillState.{BillState}
 use Rattle.title_register.specs.declared.frame_key.FrameKey.{FrameKey}
 use Rattle.title_register.specs.declared.frame_numbers.FrameNumbers.{FrameNumbers}
@@ -23,10 +23,6 @@ pub record Registered : Type 0 where
 -- what is kept of a bill among some
 abbrev pub state_in : BTreeMap Checksum BillState → Checksum → BillState
 state_in bills bill = unwrap_or (get checksum_cmp bills bill) unknown
-
--- the bill of a frame
-abbrev pub bill_in : Frame → Checksum
-bill_in frame = bill_of (kept_in frame)
 
 -- whether there is room for a number under a key, if there is a key
 abbrev pub HasRoom : FrameNumbers → Option FrameKey → Type 0

@@ -3,10 +3,10 @@
 
 ghost use Rattle.std.specs.Prelude.{◌≡◌, ◌∷◌, [], ◌++◌, IfOk, count_by, reverse, unwrap_or};
 ghost use Rattle.bill_diary.specs.History.{history, records_of};
+ghost use Rattle.bill_diary.specs.Linked.{bill_in};
 ghost use Rattle.bill_diary.specs.Pieces.{pieces_of};
 ghost use Rattle.bill_diary.specs.Searches.{kept_in, listed};
 ghost use Rattle.bill_diary.specs.Sound.{is_parted};
-ghost use Rattle.title_register.specs.Register.{bill_in};
 
 use crate::past::Past;
 use bill_chain::last_link;

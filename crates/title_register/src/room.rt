@@ -4,11 +4,12 @@
 ghost use Rattle.std.specs.Prelude.{◌≡◌, ◌∷◌, [], ◌++◌, IfOk, reverse};
 ghost use Rattle.bill_diary.specs.declared.frame.Frame.TheVariants.{BegunTaken};
 ghost use Rattle.bill_diary.specs.History.{history, records_of};
+ghost use Rattle.bill_diary.specs.Linked.{bill_in};
 ghost use Rattle.ebl_base.specs.declared.checksum.Checksum.{Checksum};
 ghost use Rattle.title_register.specs.declared.frame_key.FrameKey.{FrameKey};
 ghost use Rattle.title_register.specs.BillState.{state_of, state_with};
 ghost use Rattle.title_register.specs.Frames.{key_of, number_in, number_of, unless_numbered};
-ghost use Rattle.title_register.specs.Register.{IsRoomFor, bill_in, state_in};
+ghost use Rattle.title_register.specs.Register.{IsRoomFor, state_in};
 ghost use Rattle.title_register.specs.Standing.{standing_of, standing_with};
 
 use crate::arrived::{arrived_after, fresh_after};

@@ -5,7 +5,7 @@ use Rattle.ebl_base.specs.declared.checksum.Checksum.{Checksum}
 use Rattle.bill_diary.specs.History.{bill_of, history}
 use Rattle.title_register.specs.declared.bill_state.BillState.{BillState}
 use Rattle.title_register.specs.BillState.{state_of, state_with, unknown}
-use Rattle.title_register.specs.Register.{bill_in}
+use Rattle.bill_diary.specs.Linked.{bill_in}
 use Rattle.title_register.proofs.AddLemmas.{found}
 use Rattle.title_register.proofs.room.change_among.Goals as goal
 

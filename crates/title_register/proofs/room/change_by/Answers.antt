@@ -6,7 +6,7 @@ use Rattle.bill_diary.specs.History.{bill_of, history, records_of}
 use Rattle.bill_diary.specs.Pieces.{pieces_of}
 use Rattle.title_register.specs.declared.bill_state.StateChange.{StateChange}
 use Rattle.title_register.specs.Past.{arrived, is_fresh}
-use Rattle.title_register.specs.Register.{bill_in}
+use Rattle.bill_diary.specs.Linked.{bill_in}
 use Rattle.title_register.specs.Standing.{standing_of}
 use Rattle.title_register.proofs.RegisterLemmas.{own_history}
 use Rattle.title_register.proofs.StateLemmas.{state_changed}
