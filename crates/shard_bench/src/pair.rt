@@ -11,7 +11,6 @@ use platform_requests::{Message, MessageList, Outcome, Reply, Request};
 use std::alloc::Global;
 use test_signer::KeyedRing;
 use transfer_core::Shard;
-use transfer_judge::has_attempts;
 
 /// Two platforms of one shard each.
 #[derive(Drop)]
@@ -153,7 +152,7 @@ fn ask(
     requires nests { Nests (command_view command) }
 {
     let now = Moment::try_new(1000)?;
-    if !has_attempts(shard.diary(), &command) {
+    if !shard.has_attempts(&command) {
         return None;
     }
     Some(shard.take(alloc, now, Request::Command { party, command }))

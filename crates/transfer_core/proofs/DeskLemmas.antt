@@ -1,5 +1,5 @@
 -- A shard as a desk: what it gives suits its requests, and each of its calls goes on with a run.
-use Rattle.std.proofs.Common.{◌≡◌, ◌++◌, ◌∷◌, [], ℕ, Bool, true, false, List, refl, sym, subst, ◌∙◌, arith}
+use Rattle.std.proofs.Common.{◌≡◌, ◌++◌, ◌∷◌, [], ℕ, Bool, true, false, List, refl, sym, subst, arith}
 use Rattle.ebl_base.specs.declared.moment.Moment.{Moment}
 use Rattle.ebl_base.specs.declared.platform_code.PlatformCode.{PlatformCode}
 use Rattle.signed_envelope.specs.KeyRing.{Keys}
@@ -7,7 +7,6 @@ use Rattle.party_roster.specs.RosterRecord.{RosterRecord}
 use Rattle.holder_commands.specs.Command.{CommandRecord, signs, acts, attaches}
 use Rattle.platform_requests.specs.Desk.{Call, IsFlatEnough, MayAsk, MayGive, NamesMissing}
 use Rattle.platform_requests.specs.Request.{RequestRecord, commands, starts, puts, finishes, start_replies, finish_replies, resends, asks}
-use Rattle.platform_requests.specs.declared.message.Message.{Message}
 use Rattle.platform_requests.specs.declared.outcome.Outcome.{Outcome}
 use Rattle.platform_requests.specs.declared.reply.Reply.{Reply}
 use Rattle.platform_requests.specs.declared.reply.Reply.TheVariants as replies

@@ -1,6 +1,6 @@
 -- The messages and the reply of a step suit its request: of a Resend at most one message, a Start; of a reply to a start
 -- at most 16 Puts and then at most one Finish; of a reply to a finish none; and a Started names 1 to 16 documents.
-use Rattle.std.proofs.Common.{◌≡◌, ◌≤◌, ℕ, suc, ◌++◌, ◌∷◌, [], Bool, true, false, cond, List, inl, inr, Option, Some, None, Ok, Err, length, refl, ap, sym, subst, ◌∙◌, arith}
+use Rattle.std.proofs.Common.{◌≡◌, ◌≤◌, ℕ, suc, ◌++◌, ◌∷◌, [], Bool, true, false, cond, List, inl, inr, Option, Some, None, Ok, Err, length, refl, sym, subst, ◌∙◌, arith}
 use Rattle.std.specs.Prelude.{◌&&◌, IfSome, IsTrue, find, option_map}
 use Rattle.std.specs.Set.{is_member}
 use Rattle.std.specs.List.{flat_map, list_all}
@@ -20,12 +20,11 @@ use Rattle.party_roster.specs.RosterRecord.{RosterRecord, knows}
 use Rattle.holder_commands.specs.Command.{CommandRecord, signs, acts, attaches}
 use Rattle.pint_responses.specs.Response.{IsSealable}
 use Rattle.pint_responses.specs.declared.response.Response.{Response}
-use Rattle.platform_requests.specs.Desk.{ArePutsAndFinish, AtMostOne, MayGive, NamesMissing, is_finish, is_put, is_start}
+use Rattle.platform_requests.specs.Desk.{ArePutsAndFinish, MayGive, NamesMissing, is_put}
 use Rattle.platform_requests.specs.Request.{RequestRecord, commands, starts, puts, finishes, start_replies, finish_replies, resends, asks}
 use Rattle.platform_requests.specs.declared.message.Message.{Message}
 use Rattle.platform_requests.specs.declared.message.Message.TheVariants as messages
 use Rattle.platform_requests.specs.declared.reply.Reply.{Reply}
-use Rattle.platform_requests.specs.declared.reply.Reply.TheVariants as replies
 use Rattle.bill_chain.specs.Chain.{last_of}
 use Rattle.bill_diary.specs.declared.record.Record.{Record}
 use Rattle.bill_diary.specs.declared.record.Record.TheVariants.{Signed, Acted, Attached, Parted, Settled, Regained, Begun, Stored, Taken, Declined}
@@ -43,13 +42,13 @@ use Rattle.transfer_judge.specs.declared.planned.Planned.TheVariants.{Nothing, A
 use Rattle.transfer_judge.specs.declared.planned.PlanRefusal.{PlanRefusal}
 use Rattle.transfer_judge.specs.declared.planned.PlanRefusal.TheVariants as refusals
 use Rattle.transfer_judge.specs.Dispute.{dispute_of}
-use Rattle.transfer_judge.specs.Judgement.{judgement_at_place, judgement_by, judgement_here, judgement_of, on_declined, on_dispute, on_last, on_missing, on_receiver, on_receiver_here, on_taken, receiver_of}
+use Rattle.transfer_judge.specs.Judgement.{judgement_at_place, judgement_by, judgement_here, judgement_of, on_declined, on_dispute, on_last, on_missing, on_receiver, on_receiver_here, receiver_of}
 use Rattle.transfer_judge.specs.Plan.{Plan, plan_of}
 use Rattle.platform_machine.specs.declared.step.Step.{Step}
 use Rattle.platform_machine.specs.declared.subject.Subject.{Subject}
 use Rattle.platform_machine.specs.Answer.{subject_of}
 use Rattle.platform_machine.specs.Commanding.{FollowsPlan, reply_to}
-use Rattle.platform_machine.specs.Hearing.{StepsAtAnswer, StepsAtRequest}
+use Rattle.platform_machine.specs.Hearing.{StepsAtAnswer}
 use Rattle.platform_machine.specs.Judged.{response_for}
 use Rattle.platform_machine.specs.Machine.{Steps}
 use Rattle.platform_machine.specs.Receiving.{SaysAtStart, judgement_at_start}

@@ -1,6 +1,8 @@
 mod DeskLemmas
 mod GiveLemmas
+mod LookUpLemmas
 mod PartLemmas
+mod PutLemmas
 mod StartLemmas
 mod StepLemmas
 mod TakeLemmas

@@ -1,10 +1,11 @@
 -- What a start writes and says, from what its parts are.
-use Rattle.std.proofs.Common.{◌≡◌, ℕ, Bool, List, Option, Some, None, cond, refl, ap, ◌∙◌}
+use Rattle.std.proofs.Common.{◌≡◌, ℕ, Bool, List, Option, Some, None, Ok, Err, inl, cond, refl, ap, ◌∙◌}
 use Rattle.std.specs.Prelude.{IfOk, Result}
 use Rattle.ebl_base.specs.declared.checksum.Checksum.{Checksum}
 use Rattle.ebl_base.specs.declared.platform_code.PlatformCode.{PlatformCode}
 use Rattle.ebl_base.specs.declared.reference.Reference.{Reference}
 use Rattle.signed_envelope.specs.KeyRing.{Keys}
+use Rattle.party_roster.specs.RosterRecord.{RosterRecord}
 use Rattle.pint_responses.specs.declared.fault.SealFault.{SealFault}
 use Rattle.platform_requests.specs.declared.reply.Reply.{Reply}
 use Rattle.bill_diary.specs.declared.record.Record.{Record}
@@ -13,10 +14,14 @@ use Rattle.bill_diary.specs.declared.frame.Frame.{Frame}
 use Rattle.transfer_judge.specs.declared.judgement.Judgement.{Judgement}
 use Rattle.transfer_judge.specs.declared.judgement.Judgement.TheVariants.{Elsewhere, Duplicate, Declined, Parts, Unknown, Missing, Accept}
 use Rattle.platform_machine.specs.declared.subject.Subject.{Subject}
-use Rattle.platform_machine.specs.Preface.{ShownRecord}
-use Rattle.platform_machine.specs.Answer.{IsAnswer, reference_for, subject_of}
+use Rattle.platform_machine.specs.declared.refusal.Refusal.{Refusal}
+use Rattle.platform_machine.specs.Preface.{IsRefused, ShownRecord}
+use Rattle.platform_machine.specs.Answer.{IsAnswer, reference_for, refusal_response, subject_of}
 use Rattle.platform_machine.specs.Judged.{response_for}
-use Rattle.platform_machine.specs.Receiving.{SaysAtStart, body_text, is_again, news_of}
+use Rattle.platform_machine.specs.Receiving.{SaysAtStart, StepsAtStart, body_text, is_again, news_of}
+use Rattle.platform_machine.specs.Step.{Answers}
+use Rattle.transfer_core.specs.declared.decision.Decision.{Decision}
+use Rattle.transfer_core.specs.Decision.{step_by}
 
 pub news_by : (diary : List Frame) (s : ShownRecord) (n : Subject) (r : Reference) (body : List ℕ) (again : Bool)
     (begun : Record) (out : Option Record) → n ≡ subject_of s.manifest → r ≡ reference_for n → body ≡ body_text s.parts
@@ -40,3 +45,11 @@ says keys me n (Parts evidence) other r p = p
 says keys me n Unknown other r p = p
 says keys me n (Missing checksums) other r p = absurd (other checksums refl)
 says keys me n Accept other r p = p
+
+-- a body that is refused is answered so, whatever the diary is
+pub turned_away : (roster : RosterRecord) (keys : Keys) (me : PlatformCode) (diary : List Frame) (body : List ℕ)
+    (refusal : Refusal) (r : Result Decision SealFault) → IsRefused roster keys body refusal
+    → IfOk r (λ d. (any : List Frame) → Answers keys me None (refusal_response refusal) (step_by any d))
+    → IfOk r (λ d. StepsAtStart roster keys me diary body (step_by diary d))
+turned_away roster keys me diary body refusal (Ok d) refused answers = inl (refusal, refused, answers diary)
+turned_away roster keys me diary body refusal (Err fault) refused answers = tt

@@ -1,3 +1,4 @@
+pub mod Decision
 pub mod Shown
 pub mod Begun
 pub mod Transfer

@@ -1,6 +1,7 @@
 -- One shard of a platform, and what becomes of it when a request is taken.
-use Rattle.std.specs.Prelude.{◌≡◌, ◌⊎◌, Bool, true, false, ◌&&◌, List, [], Option}
+use Rattle.std.specs.Prelude.{◌≡◌, ◌≤◌, ◌⊎◌, Bool, true, false, ◌&&◌, List, [], Option}
 use Rattle.ebl_base.specs.PlatformCode.{code_eq}
+use Rattle.ebl_base.specs.declared.checksum.Checksum.{Checksum}
 use Rattle.ebl_base.specs.declared.moment.Moment.{Moment}
 use Rattle.ebl_base.specs.declared.party.Party.{Party}
 use Rattle.ebl_base.specs.declared.platform_code.PlatformCode.{PlatformCode}
@@ -11,9 +12,11 @@ use Rattle.platform_requests.specs.declared.outcome.Outcome.{Outcome}
 use Rattle.platform_requests.specs.declared.reply.Reply.{Reply}
 use Rattle.platform_requests.specs.declared.reply.Reply.TheVariants as replies
 use Rattle.bill_diary.specs.declared.frame.Frame.{Frame}
+use Rattle.bill_diary.specs.History.{history}
+use Rattle.bill_diary.specs.Place.{place_of}
 use Rattle.platform_machine.specs.declared.step.Step.{Step}
 use Rattle.platform_machine.specs.Machine.{Steps}
-use Rattle.platform_machine.specs.Step.{with_frame}
+use Rattle.platform_machine.specs.Step.{entries_at, with_frame}
 
 -- how contracts see a shard: its platform, the roster, the ring of keys, and what was written down
 pub record ShardRecord (G : Type 0) : Type 0 where
@@ -49,6 +52,10 @@ IsStepped roster keys me before now request out after =
 -- nothing was written, and nothing is sent
 abbrev pub IsUnchanged : List Frame → Outcome → List Frame → Type 0
 IsUnchanged before out after = (after ≡ before) × (out.messages ≡ [])
+
+-- the known chain of each bill has at most 64 entries
+abbrev pub AreShort : List Frame → Type 0
+AreShort diary = (bill : Checksum) → entries_at (place_of (history bill diary)) ≤ 64
 
 -- a step is carried out: its frame is in the diary, its reply and its messages are handed out; or memory ran out
 abbrev pub IsCarriedOut : List Frame → Step → Outcome → List Frame → Type 0

@@ -1,20 +1,23 @@
 //! Answers to another platform: what is said, sealed, and what is written of a judgement.
-ghost use Rattle.std.specs.Prelude.{◌≡◌, ◌≤◌, Err, IfOk, option_map};
+ghost use Rattle.std.specs.Prelude.{◌≡◌, ◌≤◌, Err, IfOk, List, option_map};
 ghost use Rattle.ebl_base.specs.Faults.{Rose};
+ghost use Rattle.bill_diary.specs.declared.frame.Frame.{Frame};
 ghost use Rattle.bill_diary.specs.declared.frame.Frame.TheVariants.{One};
 ghost use Rattle.pint_responses.specs.Response.{IsSealable};
 ghost use Rattle.pint_responses.specs.declared.fault.SealFault.TheVariants.{Sign};
 ghost use Rattle.platform_machine.specs.Answer.{IsAnswer, document_response, no_evidence, reference_for, refusal_response, response_with, subject_of};
 ghost use Rattle.platform_machine.specs.Judged.{frame_for, response_for, taken_with};
 ghost use Rattle.platform_machine.specs.Step.{Answers};
+ghost use Rattle.transfer_core.specs.Decision.{step_by};
 
+use crate::decision::{DecidedReply, Decision};
 use bill_diary::{Frame, Record};
 use ebl_base::{
     ChecksumList, Code, Copied, Evidence, Items, NoMemory, PlatformCode, Reason, Reference,
 };
 use envelope_manifest::Manifest;
 use pint_responses::{Response, SealFault, seal};
-use platform_machine::{Refusal, Step, Subject};
+use platform_machine::{Refusal, Subject};
 use platform_requests::Reply;
 use signed_envelope::KeyRing;
 use std::alloc::Global;
@@ -38,24 +41,25 @@ pub(crate) fn reference_for(subject: Subject) -> Reference
     reference_of(subject.bill, subject.last)
 }
 
-/// The step that answers with this response, sealed, and writes this.
+/// The decision to answer with this response, sealed, and writes this.
 pub(crate) fn answer_with<G: KeyRing>(
     alloc: Global,
     ring: &mut G,
     me: PlatformCode,
     frame: Option<Frame>,
     response: Response,
-) -> Result<Step, SealFault>
+) -> Result<Decision, SealFault>
     requires { IsSealable response }
-    ensures ok { IfOk result (Answers (G.keys ring.old) me frame response) }
+    ensures ok { IfOk result (λ d. (diary : List Frame)
+        → Answers (G.keys ring.old) me frame response (step_by diary d)) }
     ensures sign { result ≡ Err Sign → Rose (G.faults ring.old) (G.faults ring.new) }
     ensures later { G.faults ring.old ≤ G.faults ring.new }
     ensures same { G.keys ring.new ≡ G.keys ring.old }
 {
     let reply = answer(alloc, ring, me, response)?;
-    Ok(Step {
+    Ok(Decision {
         frame,
-        reply,
+        reply: DecidedReply::Ready(reply),
         messages: Items::new(alloc),
     })
 }

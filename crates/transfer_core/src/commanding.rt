@@ -21,70 +21,71 @@ ghost use Rattle.transfer_judge.specs.Plan.{HasAttempts, IsRefusal, Plan, plan_o
 ghost use Rattle.transfer_judge.specs.PlannedTexts.{IsHandedIn, IsListed};
 ghost use Rattle.platform_machine.specs.Commanding.{FollowsPlan, IsParted, IsSignedEntry, IsSignedManifest, IsThere, Parts, SendsStartWith, StepsAtCommand};
 ghost use Rattle.platform_machine.specs.Step.{IsDone};
+ghost use Rattle.transfer_core.specs.Decision.{step_by};
 ghost use Rattle.transfer_core.specs.Held.{IsHeld};
 
-use crate::replying::{done, done_with, only_reply};
+use crate::decision::{Decision, done, done_with, only_reply};
+use crate::planning::plan;
 use crate::transfer::start_message;
-use bill_diary::{BillPlace, Diary, Record, place};
+use bill_diary::Record;
 use canonical_json::Json;
 use chain_entry::encode as entry_json;
 use document_checksum::checksum;
 use ebl_base::{
-    Chain, ChainLink, Checksum, Copied, Entry, Items, MAX_SIGNED_TEXT, Moment, NoMemory, Party,
-    PlatformCode, SignedText,
+    ChainLink, Checksum, Entry, Items, MAX_SIGNED_TEXT, Moment, NoMemory, Party, PlatformCode,
+    SignedText,
 };
 use envelope_manifest::{Manifest, PieceList, encode as manifest_json};
 use holder_commands::Command;
 use party_roster::Roster;
 use pint_responses::SealFault;
-use platform_machine::{Step, held_bill_has_its_document};
+use platform_machine::held_bill_has_its_document;
 use platform_requests::{MessageList, Reply};
 use signed_envelope::{ComposeFault, KeyRing, compose};
 use std::alloc::Global;
-use transfer_judge::{PlanRefusal, Planned, plan};
+use title_register::{PlaceRef, Register};
+use transfer_judge::{PlanRefusal, Planned};
 
 /// What a party's command comes to at a moment. Nothing is written yet.
 ///
-/// Its condition is a well-formed command by a well-formed party, and fewer than 4,294,967,295 Parted of its bill. The
-/// diary is lent `&mut` for the time of the call alone, and is then as it was.
+/// Its condition is a well-formed command by a well-formed party, and fewer than 4,294,967,295 Parted of its bill.
 pub fn command<G: KeyRing>(
     alloc: Global,
     roster: &Roster,
     ring: &mut G,
     me: PlatformCode,
-    d: &mut Diary,
+    register: &Register,
     now: Moment,
     party: Party,
     asked: &Command,
-) -> Result<Step, SealFault>
-    requires sound { IsSound me d.old }
+) -> Result<Decision, SealFault>
+    requires sound { IsSound me register.now.diary }
     requires handed { IsHandedIn party (command_view asked.now) now }
-    requires attempts { HasAttempts (command_view asked.now) (newest_first d.old) }
-    ensures ok { IfOk result
-        (StepsAtCommand roster.now (G.keys ring.old) me d.old now party (command_view asked.now)) }
-    ensures diary { d.new ≡ d.old }
+    requires attempts { HasAttempts (command_view asked.now) (newest_first register.now.diary) }
+    ensures ok { IfOk result (λ d. StepsAtCommand roster.now (G.keys ring.old) me register.now.diary now party
+        (command_view asked.now) (step_by register.now.diary d)) }
     ensures sign { result ≡ Err Sign → Rose (G.faults ring.old) (G.faults ring.new) }
     ensures later { G.faults ring.old ≤ G.faults ring.new }
     ensures same { G.keys ring.new ≡ G.keys ring.old }
 {
-    match plan(alloc, &*d, roster, me, party, asked, now) {
-        Ok(Planned::Nothing) => Ok(nothing(alloc, me, &*d, asked)?),
-        Ok(Planned::Add(written)) => Ok(add(alloc, me, d, written)?),
+    match plan(alloc, register, roster, me, party, asked, now) {
+        Ok(Planned::Nothing) => Ok(nothing(alloc, register, asked)),
+        Ok(Planned::Add(written)) => Ok(add(alloc, written)),
         Ok(
             Planned::Part {
                 entry,
                 documents,
                 to,
             },
-        ) => part(alloc, ring, me, d, entry, documents, to),
+        ) => part(alloc, ring, me, register, entry, documents, to),
         Err(refusal) => refuse(alloc, refusal),
     }
 }
 
 // A command that is refused: the refusal is the reply.
-fn refuse(alloc: Global, refusal: PlanRefusal) -> Result<Step, SealFault>
+fn refuse(alloc: Global, refusal: PlanRefusal) -> Result<Decision, SealFault>
     ensures ok { (keys : Keys) (me : PlatformCode) (diary : List Frame) (command : CommandRecord) (plan : Plan)
-        → IsRefusal plan refusal → IfOk result (FollowsPlan keys me diary command plan) }
+        → IsRefusal plan refusal → IfOk result (λ d. FollowsPlan keys me diary command plan (step_by diary d)) }
     ensures no_sign { result ≢ Err Sign }
 {
     let reply = match refusal {
@@ -102,25 +103,22 @@ fn refuse(alloc: Global, refusal: PlanRefusal) -> Result<Step, SealFault>
 }
 
 // An attachment whose bytes are there already: nothing is written.
-fn nothing(alloc: Global, me: PlatformCode, d: &Diary, asked: &Command) -> Result<Step, NoMemory>
-    requires sound { IsSound me d.now }
-    requires listed { IsListed (newest_first d.now) (command_view asked.now) }
-    ensures { IfOk result (IsThere d.now (command_view asked.now)) }
+fn nothing(alloc: Global, register: &Register, asked: &Command) -> Decision
+    requires { IsListed (newest_first register.now.diary) (command_view asked.now) }
+    ensures { IsThere register.now.diary (command_view asked.now) (step_by register.now.diary result) }
 {
     match asked {
-        Command::Attach { bill, .. } => done(alloc, me, d, *bill, Items::new(alloc)),
+        Command::Attach { bill, .. } => done(*bill, Items::new(alloc)),
         Command::Sign { .. } | Command::Act { .. } => unreachable!(),
     }
 }
 
 // One record is written.
-fn add(alloc: Global, me: PlatformCode, d: &mut Diary, written: Record) -> Result<Step, NoMemory>
-    requires { IsSound me d.old }
-    ensures ok { IfOk result (IsDone (bill_of written) d.old (Some (One written)) []) }
-    ensures diary { d.new ≡ d.old }
+fn add(alloc: Global, written: Record) -> Decision
+    ensures { (diary : List Frame) → IsDone (bill_of written) diary (Some (One written)) [] (step_by diary result) }
 {
     let bill = written.bill();
-    done_with(alloc, me, d, bill, written, Items::new(alloc))
+    done_with(bill, written, Items::new(alloc))
 }
 
 // ---- an entry that moves the bill
@@ -130,17 +128,17 @@ fn part<G: KeyRing>(
     alloc: Global,
     ring: &mut G,
     me: PlatformCode,
-    d: &mut Diary,
+    register: &Register,
     entry: Entry,
     documents: PieceList,
     to: PlatformCode,
-) -> Result<Step, SealFault>
-    requires sound { IsSound me d.old }
-    requires held { IsHeld (place_of (history entry.bill d.old)) }
+) -> Result<Decision, SealFault>
+    requires sound { IsSound me register.now.diary }
+    requires held { IsHeld (place_of (history entry.bill register.now.diary)) }
     requires entry { IsEntry entry }
     requires documents { AreDocuments documents }
-    ensures ok { IfOk result (IsParted (G.keys ring.old) me d.old entry documents to) }
-    ensures diary { d.new ≡ d.old }
+    ensures ok { IfOk result (λ d. IsParted (G.keys ring.old) me register.now.diary entry documents to
+        (step_by register.now.diary d)) }
     ensures sign { result ≡ Err Sign → Rose (G.faults ring.old) (G.faults ring.new) }
     ensures later { G.faults ring.old ≤ G.faults ring.new }
     ensures same { G.keys ring.new ≡ G.keys ring.old }
@@ -153,56 +151,54 @@ fn part<G: KeyRing>(
         documents,
     };
     let text = signed_manifest(alloc, ring, me, &manifest)?;
-    Ok(parted(alloc, me, d, link, manifest, text, to)?)
+    Ok(parted(alloc, me, register, link, manifest, text, to)?)
 }
 
 // The Parted of a signed entry is written, and its start is sent.
 fn parted(
     alloc: Global,
     me: PlatformCode,
-    d: &mut Diary,
+    register: &Register,
     link: ChainLink,
     manifest: Manifest,
     manifest_text: SignedText,
     to: PlatformCode,
-) -> Result<Step, NoMemory>
-    requires sound { IsSound me d.old }
-    requires held { IsHeld (place_of (history manifest.bill d.old)) }
-    ensures ok { IfOk result (Parts d.old link manifest manifest_text to) }
-    ensures diary { d.new ≡ d.old }
+) -> Result<Decision, NoMemory>
+    requires sound { IsSound me register.now.diary }
+    requires held { IsHeld (place_of (history manifest.bill register.now.diary)) }
+    ensures { IfOk result (λ d. Parts register.now.diary link manifest manifest_text to
+        (step_by register.now.diary d)) }
 {
     let bill = manifest.bill;
-    let messages = start_of(alloc, me, &*d, bill, &link, &manifest_text, to)?;
+    let messages = start_of(alloc, me, register, bill, &link, &manifest_text, to)?;
     let written = Record::Parted {
         bill,
         link,
         manifest,
         manifest_text,
     };
-    done_with(alloc, me, d, bill, written, messages)
+    Ok(done_with(bill, written, messages))
 }
 
 // The start of the known chain with the entry.
 fn start_of(
     alloc: Global,
     me: PlatformCode,
-    d: &Diary,
+    register: &Register,
     bill: Checksum,
     link: &ChainLink,
     manifest_text: &SignedText,
     to: PlatformCode,
 ) -> Result<MessageList, NoMemory>
-    requires sound { IsSound me d.now }
-    requires held { IsHeld (place_of (history bill d.now)) }
-    ensures { IfOk result (SendsStartWith bill (history bill d.now) link.now manifest_text.now to) }
+    requires sound { IsSound me register.now.diary }
+    requires held { IsHeld (place_of (history bill register.now.diary)) }
+    ensures { IfOk result (SendsStartWith bill (history bill register.now.diary) link.now manifest_text.now to) }
 {
     held_bill_has_its_document();
-    let BillPlace::Held { known, since: _ } = place(alloc, d, bill)? else {
+    let PlaceRef::Held { known, since: _ } = register.place(bill) else {
         unreachable!()
     };
-    let mut chain = known;
-    chain.push((*link).copy(alloc)?)?;
-    start_message(alloc, d, bill, &chain, manifest_text, to)
+    start_message(alloc, register, bill, known, link, manifest_text, to)
 }
 
 // The entry's text, signed, and its name.

@@ -4,17 +4,19 @@ ghost use Rattle.bill_diary.specs.History.{history};
 ghost use Rattle.bill_diary.specs.Sound.{IsSound};
 ghost use Rattle.platform_machine.specs.Hearing.{IsAnswerIgnored, IsEnded, IsRequestIgnored, IsUpload, StepsAtAnswer, StepsAtFinishReply, StepsAtRequest, StepsAtStartReply, EndsBy, IsPassedOver, begins_object, ending_by, ending_in, is_for, record_for};
 ghost use Rattle.platform_machine.specs.Transfer.{reference_at};
+ghost use Rattle.transfer_core.specs.Decision.{step_by};
 ghost use Rattle.transfer_core.specs.Transfer.{transfer_view};
 
-use crate::replying::{done, done_with, only_reply};
+use crate::decision::{Decision, done, done_with, only_reply};
 use crate::transfer::{Transfer, reference_at, under_way, uploads};
-use bill_diary::{Diary, Record};
+use bill_diary::Record;
 use ebl_base::{Checksum, Code, Items, NoMemory, PlatformCode};
 use pint_responses::{Response, UnsealFault, unseal};
-use platform_machine::{Ending, Step};
+use platform_machine::Ending;
 use platform_requests::{IgnoreReason, MessageList, Reply};
 use signed_envelope::KeyRing;
 use std::alloc::Global;
+use title_register::Register;
 use upload_state::{Started, StartedFault, started_read};
 
 /// What a reply to the start of a transfer comes to: a request for documents, or an answer. Nothing is written yet.
@@ -22,18 +24,18 @@ pub fn start_reply<G: KeyRing>(
     alloc: Global,
     ring: &G,
     me: PlatformCode,
-    d: &mut Diary,
+    register: &Register,
     bill: Checksum,
     bytes: &[u8],
-) -> Result<Step, NoMemory>
-    requires { IsSound me d.old }
-    ensures ok { IfOk result (StepsAtStartReply (G.keys ring.now) d.old bill bytes.now) }
-    ensures same { d.new ≡ d.old }
+) -> Result<Decision, NoMemory>
+    requires { IsSound me register.now.diary }
+    ensures { IfOk result (λ d. StepsAtStartReply (G.keys ring.now) register.now.diary bill bytes.now
+        (step_by register.now.diary d)) }
 {
     if begins_object(bytes) {
-        request(alloc, me, &*d, bill, bytes)
+        request(alloc, me, register, bill, bytes)
     } else {
-        answer(alloc, ring, me, d, bill, bytes)
+        answer(alloc, ring, me, register, bill, bytes)
     }
 }
 
@@ -42,15 +44,15 @@ pub fn finish_reply<G: KeyRing>(
     alloc: Global,
     ring: &G,
     me: PlatformCode,
-    d: &mut Diary,
+    register: &Register,
     bill: Checksum,
     bytes: &[u8],
-) -> Result<Step, NoMemory>
-    requires { IsSound me d.old }
-    ensures ok { IfOk result (StepsAtFinishReply (G.keys ring.now) d.old bill bytes.now) }
-    ensures same { d.new ≡ d.old }
+) -> Result<Decision, NoMemory>
+    requires { IsSound me register.now.diary }
+    ensures { IfOk result (λ d. StepsAtFinishReply (G.keys ring.now) register.now.diary bill bytes.now
+        (step_by register.now.diary d)) }
 {
-    answer(alloc, ring, me, d, bill, bytes)
+    answer(alloc, ring, me, register, bill, bytes)
 }
 
 // Whether bytes begin as a JSON object does.
@@ -69,16 +71,16 @@ fn answer<G: KeyRing>(
     alloc: Global,
     ring: &G,
     me: PlatformCode,
-    d: &mut Diary,
+    register: &Register,
     bill: Checksum,
     bytes: &[u8],
-) -> Result<Step, NoMemory>
-    requires { IsSound me d.old }
-    ensures ok { IfOk result (StepsAtAnswer (G.keys ring.now) d.old bill bytes.now) }
-    ensures same { d.new ≡ d.old }
+) -> Result<Decision, NoMemory>
+    requires { IsSound me register.now.diary }
+    ensures { IfOk result (λ d. StepsAtAnswer (G.keys ring.now) register.now.diary bill bytes.now
+        (step_by register.now.diary d)) }
 {
-    match record_of_answer(alloc, ring, me, &*d, bill, bytes)? {
-        Ok(written) => done_with(alloc, me, d, bill, written, Items::new(alloc)),
+    match record_of_answer(alloc, ring, me, register, bill, bytes)? {
+        Ok(written) => Ok(done_with(bill, written, Items::new(alloc))),
         Err(reason) => Ok(only_reply(alloc, Reply::Ignored(reason))),
     }
 }
@@ -88,16 +90,17 @@ fn record_of_answer<G: KeyRing>(
     alloc: Global,
     ring: &G,
     me: PlatformCode,
-    d: &Diary,
+    register: &Register,
     bill: Checksum,
     bytes: &[u8],
 ) -> Result<Result<Record, IgnoreReason>, NoMemory>
-    requires { IsSound me d.now }
-    ensures ended { IfOk result (λ r. IfOk r (IsEnded (G.keys ring.now) (history bill d.now) bill bytes.now)) }
+    requires { IsSound me register.now.diary }
+    ensures ended { IfOk result (λ r.
+        IfOk r (IsEnded (G.keys ring.now) (history bill register.now.diary) bill bytes.now)) }
     ensures ignored { IfOk result (λ r.
-        IfErr r (IsAnswerIgnored (G.keys ring.now) (history bill d.now) bill bytes.now)) }
+        IfErr r (IsAnswerIgnored (G.keys ring.now) (history bill register.now.diary) bill bytes.now)) }
 {
-    match under_way(alloc, me, d, bill)? {
+    match under_way(me, register, bill) {
         Ok(t) => match ending_of(alloc, ring, &t, bytes)? {
             Ok(ending) => Ok(Ok(record_for(bill, t.parted.link.name, ending))),
             Err(reason) => Ok(Err(reason)),
@@ -168,15 +171,15 @@ fn record_for(bill: Checksum, entry: Checksum, ending: Ending) -> Record
 fn request(
     alloc: Global,
     me: PlatformCode,
-    d: &Diary,
+    register: &Register,
     bill: Checksum,
     bytes: &[u8],
-) -> Result<Step, NoMemory>
-    requires { IsSound me d.now }
-    ensures { IfOk result (StepsAtRequest d.now bill bytes.now) }
+) -> Result<Decision, NoMemory>
+    requires { IsSound me register.now.diary }
+    ensures { IfOk result (λ d. StepsAtRequest register.now.diary bill bytes.now (step_by register.now.diary d)) }
 {
-    match uploads_for(alloc, me, d, bill, bytes)? {
-        Ok(messages) => done(alloc, me, d, bill, messages),
+    match uploads_for(alloc, me, register, bill, bytes)? {
+        Ok(messages) => Ok(done(bill, messages)),
         Err(reason) => Ok(only_reply(alloc, Reply::Ignored(reason))),
     }
 }
@@ -185,15 +188,15 @@ fn request(
 fn uploads_for(
     alloc: Global,
     me: PlatformCode,
-    d: &Diary,
+    register: &Register,
     bill: Checksum,
     bytes: &[u8],
 ) -> Result<Result<MessageList, IgnoreReason>, NoMemory>
-    requires { IsSound me d.now }
-    ensures sent { IfOk result (λ r. IfOk r (IsUpload (history bill d.now) bill bytes.now)) }
-    ensures ignored { IfOk result (λ r. IfErr r (IsRequestIgnored (history bill d.now) bill bytes.now)) }
+    requires { IsSound me register.now.diary }
+    ensures sent { IfOk result (λ r. IfOk r (IsUpload (history bill register.now.diary) bill bytes.now)) }
+    ensures ignored { IfOk result (λ r. IfErr r (IsRequestIgnored (history bill register.now.diary) bill bytes.now)) }
 {
-    let t = match under_way(alloc, me, d, bill)? {
+    let t = match under_way(me, register, bill) {
         Ok(t) => t,
         Err(_) => return Ok(Err(IgnoreReason::NotParting)),
     };
@@ -203,7 +206,7 @@ fn uploads_for(
         Err(StartedFault::NoMemory) => return Err(NoMemory),
     };
     if asks_of(&started, bill, &t) {
-        Ok(Ok(uploads(alloc, d, bill, &t, &started.missing)?))
+        Ok(Ok(uploads(alloc, register, bill, &t, &started.missing)?))
     } else {
         Ok(Err(IgnoreReason::Reference))
     }

@@ -4,7 +4,11 @@
 mod answering;
 mod commanding;
 mod deciding;
+mod decision;
 mod hearing;
+mod judging;
+mod lookups;
+mod planning;
 mod preface;
 mod replying;
 mod shard;
@@ -16,6 +20,7 @@ mod uploading;
 
 pub use commanding::command;
 pub use deciding::decide;
+pub use decision::{DecidedReply, Decision};
 pub use hearing::{finish_reply, start_reply};
 pub use shard::Shard;
 pub use shard_desk::ShardDesk;

@@ -12,13 +12,12 @@ ghost use Rattle.transfer_core.specs.Shard.{ShardRecord, is_own_party};
 ghost use Rattle.transfer_core.specs.ShardDesk.{AreTaken, IsAskable, IsTaken};
 
 use crate::shard::Shard;
-use bill_diary::Diary;
 use ebl_base::{Items, Moment, Party};
 use holder_commands::Command;
 use platform_requests::{Desk, Outcome, Reply, Request};
 use signed_envelope::KeyRing;
 use std::alloc::Global;
-use transfer_judge::{has_attempts, legal_diary_is_sound};
+use transfer_judge::legal_diary_is_sound;
 
 /// One shard that answers the requests of a platform: its `take` is one [`Shard::take`].
 ///
@@ -90,9 +89,10 @@ fn is_askable<G: KeyRing>(shard: &Shard<G>, now: Moment, request: &Request) -> b
     ensures askable { IsTrue result → IsAskable shard.now.diary now (request_view request.now) }
     ensures legal { IsLegal shard.now.roster (G.keys shard.now.ring) shard.now.me shard.now.diary }
 {
-    let diary = shard.diary();
+    // For its clause `legal`.
+    let _ = shard.diary();
     match request {
-        Request::Command { party, command } => is_askable_by(diary, now, *party, command),
+        Request::Command { party, command } => is_askable_by(shard, now, *party, command),
         Request::Start { .. } => true,
         Request::Put { .. } => true,
         Request::Finish { .. } => true,
@@ -103,10 +103,10 @@ fn is_askable<G: KeyRing>(shard: &Shard<G>, now: Moment, request: &Request) -> b
     }
 }
 
-fn is_askable_by(d: &Diary, now: Moment, party: Party, command: &Command) -> bool
+fn is_askable_by<G: KeyRing>(shard: &Shard<G>, now: Moment, party: Party, command: &Command) -> bool
     ensures party { IsTrue result → IsParty party }
     ensures time { IsTrue result → IsMoment now }
-    ensures attempts { IsTrue result → HasAttempts (command_view command.now) (newest_first d.now) }
+    ensures attempts { IsTrue result → HasAttempts (command_view command.now) (newest_first shard.now.diary) }
 {
-    party.is_well_formed() && now.is_well_formed() && has_attempts(d, command)
+    party.is_well_formed() && now.is_well_formed() && shard.has_attempts(command)
 }

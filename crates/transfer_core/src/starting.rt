@@ -1,7 +1,8 @@
 //! What the start of a transfer comes to, at the platform to which it is sent.
-ghost use Rattle.std.specs.Prelude.{◌≡◌, ◌≤◌, Err, IfOk, None, Some, if◌then◌else◌};
+ghost use Rattle.std.specs.Prelude.{◌≡◌, ◌≤◌, Err, IfOk, List, None, Some, if◌then◌else◌};
 ghost use Rattle.ebl_base.specs.Faults.{Rose};
 ghost use Rattle.bill_diary.specs.Sound.{IsSound};
+ghost use Rattle.bill_diary.specs.declared.frame.Frame.{Frame};
 ghost use Rattle.bill_diary.specs.declared.record.Record.TheVariants.{Begun};
 ghost use Rattle.envelope_manifest.specs.Body.{body_view};
 ghost use Rattle.pint_responses.specs.Response.{IsSealable};
@@ -10,22 +11,27 @@ ghost use Rattle.platform_machine.specs.Answer.{refusal_response, subject_of};
 ghost use Rattle.platform_machine.specs.Judged.{response_for};
 ghost use Rattle.platform_machine.specs.Receiving.{IsJudged, SaysAtStart, StepsAtStart, body_text, frame_at_start, has_body, is_again, judgement_at_start, news_of};
 ghost use Rattle.platform_machine.specs.Step.{Answers};
+ghost use Rattle.transfer_core.specs.Decision.{step_by};
 ghost use Rattle.transfer_core.specs.Shown.{shown_view};
 
 use crate::answering::{
     answer, answer_with, frame_for, reference_for, refusal_response, response_for, subject_of,
 };
+use crate::decision::{DecidedReply, Decision};
+use crate::judging::judge;
+use crate::lookups::last_with_reference;
 use crate::preface::{Shown, show};
-use bill_diary::{Diary, Frame, Record, last_with_reference};
+use bill_diary::{Frame, Record};
 use ebl_base::{ByteList, Items, NoMemory, PlatformCode, Reference};
 use envelope_manifest::Body;
 use party_roster::Roster;
 use pint_responses::SealFault;
-use platform_machine::{Refusal, Step, Subject};
+use platform_machine::{Refusal, Subject};
 use platform_requests::Reply;
 use signed_envelope::KeyRing;
 use std::alloc::Global;
-use transfer_judge::{Judgement, judge};
+use title_register::Register;
+use transfer_judge::Judgement;
 
 /// What the start of a transfer with this body comes to. Nothing is written yet.
 ///
@@ -35,17 +41,18 @@ pub fn start<G: KeyRing>(
     roster: &Roster,
     ring: &mut G,
     me: PlatformCode,
-    d: &Diary,
+    register: &Register,
     body: &[u8],
-) -> Result<Step, SealFault>
-    requires { IsSound me d.now }
-    ensures ok { IfOk result (StepsAtStart roster.now (G.keys ring.old) me d.now body.now) }
+) -> Result<Decision, SealFault>
+    requires { IsSound me register.now.diary }
+    ensures ok { IfOk result (λ d. StepsAtStart roster.now (G.keys ring.old) me register.now.diary body.now
+        (step_by register.now.diary d)) }
     ensures sign { result ≡ Err Sign → Rose (G.faults ring.old) (G.faults ring.new) }
     ensures later { G.faults ring.old ≤ G.faults ring.new }
     ensures same { G.keys ring.new ≡ G.keys ring.old }
 {
     match show(alloc, roster, &*ring, body)? {
-        Ok(shown) => start_shown(alloc, roster, ring, me, d, shown),
+        Ok(shown) => start_shown(alloc, roster, ring, me, register, shown),
         Err(refusal) => turn_away(alloc, ring, me, refusal),
     }
 }
@@ -56,8 +63,9 @@ fn turn_away<G: KeyRing>(
     ring: &mut G,
     me: PlatformCode,
     refusal: Refusal,
-) -> Result<Step, SealFault>
-    ensures ok { IfOk result (Answers (G.keys ring.old) me None (refusal_response refusal)) }
+) -> Result<Decision, SealFault>
+    ensures ok { IfOk result (λ d. (diary : List Frame)
+        → Answers (G.keys ring.old) me None (refusal_response refusal) (step_by diary d)) }
     ensures sign { result ≡ Err Sign → Rose (G.faults ring.old) (G.faults ring.new) }
     ensures later { G.faults ring.old ≤ G.faults ring.new }
     ensures same { G.keys ring.new ≡ G.keys ring.old }
@@ -71,39 +79,40 @@ fn start_shown<G: KeyRing>(
     roster: &Roster,
     ring: &mut G,
     me: PlatformCode,
-    d: &Diary,
+    register: &Register,
     shown: Shown,
-) -> Result<Step, SealFault>
+) -> Result<Decision, SealFault>
     requires { IsSealable (response_for (subject_of shown.manifest)
-        (judgement_at_start roster.now me d.now (shown_view shown))) }
-    ensures ok { IfOk result (IsJudged roster.now (G.keys ring.old) me d.now (shown_view shown)) }
+        (judgement_at_start roster.now me register.now.diary (shown_view shown))) }
+    ensures ok { IfOk result (λ d. IsJudged roster.now (G.keys ring.old) me register.now.diary (shown_view shown)
+        (step_by register.now.diary d)) }
     ensures sign { result ≡ Err Sign → Rose (G.faults ring.old) (G.faults ring.new) }
     ensures later { G.faults ring.old ≤ G.faults ring.new }
     ensures same { G.keys ring.new ≡ G.keys ring.old }
 {
     let subject = subject_of(&shown.manifest);
-    let judgement = judge(alloc, d, roster, me, &shown.chain, &shown.manifest)?;
-    let frame = frame_at_start(alloc, d, shown, &judgement)?;
+    let judgement = judge(alloc, register, roster, me, &shown.chain, &shown.manifest)?;
+    let frame = frame_at_start(alloc, register, shown, &judgement)?;
     let reply = say_at_start(alloc, ring, me, subject, judgement)?;
-    Ok(Step {
+    Ok(Decision {
         frame,
-        reply,
+        reply: DecidedReply::Ready(reply),
         messages: Items::new(alloc),
     })
 }
 
 fn frame_at_start(
     alloc: Global,
-    d: &Diary,
+    register: &Register,
     shown: Shown,
     judgement: &Judgement,
 ) -> Result<Option<Frame>, NoMemory>
-    ensures { IfOk result (λ frame. frame ≡ frame_at_start d.now (shown_view shown) judgement.now) }
+    ensures { IfOk result (λ frame. frame ≡ frame_at_start register.now.diary (shown_view shown) judgement.now) }
 {
     let subject = subject_of(&shown.manifest);
     match judgement {
         Judgement::Missing(_) | Judgement::Accept => {
-            let begun = news(alloc, d, shown)?;
+            let begun = news(alloc, register, shown)?;
             frame_for(alloc, begun, subject, judgement)
         }
         _ => frame_for(alloc, None, subject, judgement),
@@ -111,12 +120,12 @@ fn frame_at_start(
 }
 
 // The Begun of a body, unless the last one with its reference is of the same body.
-fn news(alloc: Global, d: &Diary, shown: Shown) -> Result<Option<Record>, NoMemory>
-    ensures { IfOk result (λ begun. begun ≡ news_of d.now (shown_view shown)) }
+fn news(alloc: Global, register: &Register, shown: Shown) -> Result<Option<Record>, NoMemory>
+    ensures { IfOk result (λ begun. begun ≡ news_of register.now.diary (shown_view shown)) }
 {
     let body = body_text(alloc, &shown.body)?;
     let subject = subject_of(&shown.manifest);
-    let again = is_again(d, reference_for(subject), &body);
+    let again = is_again(register, reference_for(subject), &body);
     Ok(unless(again, begun_with(subject, shown, body)))
 }
 
@@ -145,10 +154,10 @@ fn unless(test: bool, one: Record) -> Option<Record>
 }
 
 // Whether the last Begun with a reference is of this body.
-fn is_again(d: &Diary, reference: Reference, body: &ByteList) -> bool
-    ensures { result ≡ is_again reference body.now d.now }
+fn is_again(register: &Register, reference: Reference, body: &ByteList) -> bool
+    ensures { result ≡ is_again reference body.now register.now.diary }
 {
-    match last_with_reference(d, reference) {
+    match last_with_reference(register, reference) {
         Some(begun) => begun.body.as_slice() == body.as_slice(),
         None => false,
     }

@@ -1,9 +1,10 @@
 //! A transfer of a bill that is under way from here, its start, and its uploads.
-ghost use Rattle.std.specs.Prelude.{◌≡◌, ◌≢◌, ◌++◌, List, IfErr, IfOk, None, OnOk, Some, option_map};
+ghost use Rattle.std.specs.Prelude.{◌≡◌, ◌≢◌, ◌++◌, ◌∷◌, [], List, IfErr, IfOk, None, OnOk, Some, option_map};
 ghost use Rattle.std.specs.Option.{option_to_list};
 ghost use Rattle.canonical_json.specs.View.{view};
 ghost use Rattle.bill_diary.specs.History.{history};
-ghost use Rattle.bill_diary.specs.Place.{place_of, tag_of};
+ghost use Rattle.bill_chain.specs.Chain.{platform_with};
+ghost use Rattle.bill_diary.specs.Place.{place_of, tag_of, title_at};
 ghost use Rattle.bill_diary.specs.Sound.{IsSound};
 ghost use Rattle.bill_diary.specs.declared.bill_place.BillPlace.TheVariants.{Parting};
 ghost use Rattle.transfer_chain.specs.Checked.{texts_of};
@@ -11,10 +12,8 @@ ghost use Rattle.canonical_json.specs.Reading.{value_in};
 ghost use Rattle.platform_machine.specs.Transfer.{IsStartBody, IsUnderWay, NothingUnderWay, SendsStart, document_in, document_of_body, if_read, put_of, reference_at, uploads_of};
 ghost use Rattle.transfer_core.specs.Transfer.{transfer_view};
 
-use bill_diary::{
-    BillPlace, Diary, PartedRef, Record, first_bytes, last_body, last_parted_record, place,
-    signed_text,
-};
+use crate::lookups::{first_bytes, last_body, last_parted_record, signed_text};
+use bill_diary::{PartedRef, Record};
 use canonical_json::{Json, read_if_any};
 use ebl_base::{
     ByteList, Chain, ChainLink, Checksum, ChecksumList, Copied, Items, NoMemory, PlaceTag,
@@ -23,78 +22,88 @@ use ebl_base::{
 use envelope_manifest::{Body, BodyFault, Piece};
 use platform_requests::{Message, MessageList};
 use std::alloc::Global;
-use transfer_chain::dest;
+use title_fold::possessor;
+use title_register::{PlaceRef, Register};
 use upload_state::reference_of;
 
 /// A transfer of a bill that is under way from here.
-#[derive(Drop)]
+#[derive(Clone, Copy)]
 pub(crate) struct Transfer<'a> {
-    /// The known chain, with the entry that is parting at its end.
-    pub(crate) chain: Chain,
-    /// What was written when it parted.
+    /// The known chain.
+    pub(crate) known: &'a Chain,
+    /// What was written when the entry that follows it parted.
     pub(crate) parted: PartedRef<'a>,
     /// Where the entry moves possession.
     pub(crate) to: PlatformCode,
 }
 
-/// The transfer of a bill that is under way; `None` where the bill isn't parting.
+/// The transfer of a bill that is under way; where the bill isn't parting, where it is.
 ///
 /// In a sound diary the entry that is parting has its record, and moves possession to some platform.
 pub(crate) fn under_way(
-    alloc: Global,
     me: PlatformCode,
-    d: &Diary,
+    register: &Register,
     bill: Checksum,
-) -> Result<Result<Transfer<'_>, PlaceTag>, NoMemory>
-    requires { IsSound me d.now }
-    ensures found { IfOk result (λ r. IfOk r (λ t. IsUnderWay bill (history bill d.now) (transfer_view t))) }
-    ensures nothing { IfOk result (λ r. IfErr r (λ tag. NothingUnderWay (history bill d.now))) }
-    ensures tag { IfOk result (λ r. IfErr r (λ tag. tag ≡ tag_of (place_of (history bill d.now)))) }
+) -> Result<Transfer<'_>, PlaceTag>
+    requires { IsSound me register.now.diary }
+    ensures found { IfOk result (λ t. IsUnderWay bill (history bill register.now.diary) (transfer_view t)) }
+    ensures nothing { IfErr result (λ tag. NothingUnderWay (history bill register.now.diary)) }
+    ensures tag { IfErr result (λ tag. tag ≡ tag_of (place_of (history bill register.now.diary))) }
 {
-    match place(alloc, d, bill)? {
-        BillPlace::Parting { known, entry } => Ok(Ok(transfer_of(me, d, bill, known, entry)?)),
-        place => Ok(Err(place.tag())),
+    match register.place(bill) {
+        PlaceRef::Parting { known, entry } => Ok(transfer_of(me, register, bill, known, entry)),
+        _ => Err(register.tag(bill)),
     }
 }
 
 // The transfer of a bill that is parting with this entry.
 #[tactic(auto, using(crate::proofs::WayLemmas::ways))]
-fn transfer_of(
+fn transfer_of<'a>(
     me: PlatformCode,
-    d: &Diary,
+    register: &'a Register,
     bill: Checksum,
-    known: Chain,
-    entry: ChainLink,
-) -> Result<Transfer<'_>, NoMemory>
-    requires sound { IsSound me d.now }
-    requires parting { place_of (history bill d.now) ≡ Parting known entry }
-    ensures { IfOk result (λ t. IsUnderWay bill (history bill d.now) (transfer_view t)) }
+    known: &'a Chain,
+    entry: &'a ChainLink,
+) -> Transfer<'a>
+    requires sound { IsSound me register.now.diary }
+    requires parting { place_of (history bill register.now.diary) ≡ Parting known.now entry.now }
+    ensures { IsUnderWay bill (history bill register.now.diary) (transfer_view result) }
 {
-    let mut chain = known;
-    chain.push(entry)?;
-    let Some(parted) = last_parted_record(d, bill) else {
+    let Some(parted) = last_parted_record(register, bill) else {
         unreachable!()
     };
-    let Some(to) = dest(&chain) else {
+    let Some(to) = platform_at(register, bill) else {
         unreachable!()
     };
-    Ok(Transfer { chain, parted, to })
+    Transfer { known, parted, to }
 }
 
-/// The start of a transfer: the bill's document, the manifest's text, and the texts of the whole chain. The document is
-/// read again, from the text that was signed here or the body that came last.
+// The platform of the possessor at the place of a bill.
+fn platform_at(register: &Register, bill: Checksum) -> Option<PlatformCode>
+    ensures { result ≡ platform_with (title_at (place_of (history bill register.now.diary))) }
+{
+    match register.title(bill) {
+        Ok(Some(title)) => Some(possessor(title).platform),
+        Ok(None) | Err(_) => None,
+    }
+}
+
+/// The start of a transfer: the bill's document, the manifest's text, and the texts of the known chain, followed by
+/// that of the entry. The document is read again, from the text that was signed here or the body that came last.
 pub(crate) fn start_message(
     alloc: Global,
-    d: &Diary,
+    register: &Register,
     bill: Checksum,
-    chain: &Chain,
+    known: &Chain,
+    link: &ChainLink,
     manifest_text: &SignedText,
     to: PlatformCode,
 ) -> Result<MessageList, NoMemory>
-    requires { document_in (history bill d.now) ≢ None }
-    ensures { IfOk result (SendsStart bill (history bill d.now) chain.now manifest_text.now to) }
+    requires { document_in (history bill register.now.diary) ≢ None }
+    ensures { IfOk result (SendsStart bill (history bill register.now.diary) (known.now ++ link.now ∷ [])
+        manifest_text.now to) }
 {
-    let body = start_body(alloc, d, bill, chain, manifest_text)?;
+    let body = start_body(alloc, register, bill, known, link, manifest_text)?;
     let mut messages = Items::new(alloc);
     messages.push(Message::Start { to, bill, body })?;
     Ok(messages)
@@ -102,19 +111,21 @@ pub(crate) fn start_message(
 
 fn start_body(
     alloc: Global,
-    d: &Diary,
+    register: &Register,
     bill: Checksum,
-    chain: &Chain,
+    known: &Chain,
+    link: &ChainLink,
     manifest_text: &SignedText,
 ) -> Result<ByteList, NoMemory>
-    requires { document_in (history bill d.now) ≢ None }
-    ensures { IfOk result (IsStartBody (history bill d.now) chain.now manifest_text.now) }
+    requires { document_in (history bill register.now.diary) ≢ None }
+    ensures { IfOk result
+        (IsStartBody (history bill register.now.diary) (known.now ++ link.now ∷ []) manifest_text.now) }
 {
-    let Some(document) = document_in(alloc, d, bill)? else {
+    let Some(document) = document_in(alloc, register, bill)? else {
         unreachable!()
     };
     let manifest = manifest_text.copy(alloc)?;
-    let texts = texts_of(alloc, chain)?;
+    let texts = texts_of(alloc, known, link)?;
     written(alloc, document, manifest, texts)
 }
 
@@ -137,12 +148,12 @@ fn written(
 }
 
 // The document of a bill: the one that was signed here, or else the one that came with the last body.
-fn document_in(alloc: Global, d: &Diary, bill: Checksum) -> Result<Option<Json>, NoMemory>
-    ensures { IfOk result (λ any. option_map view any ≡ document_in (history bill d.now)) }
+fn document_in(alloc: Global, register: &Register, bill: Checksum) -> Result<Option<Json>, NoMemory>
+    ensures { IfOk result (λ any. option_map view any ≡ document_in (history bill register.now.diary)) }
 {
-    match signed_text(d, bill) {
+    match signed_text(register, bill) {
         Some(text) => value_of(alloc, text),
-        None => match last_body(d, bill) {
+        None => match last_body(register, bill) {
             Some(body) => document_of_body(alloc, body),
             None => Ok(None),
         },
@@ -167,35 +178,39 @@ fn document_of_body(alloc: Global, body: &ByteList) -> Result<Option<Json>, NoMe
     }
 }
 
-// The texts of a chain.
-fn texts_of(alloc: Global, chain: &Chain) -> Result<TextList, NoMemory>
-    ensures { IfOk result (λ texts. texts ≡ texts_of chain.now) }
+// The texts of a chain and of the entry that follows it.
+#[tactic(auto, using(crate::proofs::StepLemmas::texts))]
+fn texts_of(alloc: Global, known: &Chain, link: &ChainLink) -> Result<TextList, NoMemory>
+    ensures { IfOk result (λ texts. texts ≡ texts_of (known.now ++ link.now ∷ [])) }
 {
     let mut texts = Items::new(alloc);
-    let mut left = chain.as_slice();
-    while let Some((link, rest)) = left.split_first() {
-        texts.push(link.text.copy(alloc)?)?;
+    let mut left = known.as_slice();
+    while let Some((next, rest)) = left.split_first() {
+        texts.push(next.text.copy(alloc)?)?;
         left = rest;
     }
+    texts.push(link.text.copy(alloc)?)?;
     Ok(texts)
 }
 
 /// The documents of a transfer that are asked for, in the manifest's order, and then the finish.
-///
-/// For each document that is asked for it goes over the diary once.
 pub(crate) fn uploads(
     alloc: Global,
-    d: &Diary,
+    register: &Register,
     bill: Checksum,
     t: &Transfer<'_>,
     missing: &ChecksumList,
 ) -> Result<MessageList, NoMemory>
-    ensures { IfOk result (λ list. list ≡ uploads_of bill (history bill d.now) (transfer_view t.now) missing.now) }
+    ensures { IfOk result (λ list. list
+        ≡ uploads_of bill (history bill register.now.diary) (transfer_view t.now) missing.now) }
 {
     let mut messages = Items::new(alloc);
     let mut left = t.parted.manifest.documents.as_slice();
     while let Some((piece, rest)) = left.split_first() {
-        push_if_any(&mut messages, put_of(alloc, d, bill, t, missing, piece)?)?;
+        push_if_any(
+            &mut messages,
+            put_of(alloc, register, bill, t, missing, piece)?,
+        )?;
         left = rest;
     }
     messages.push(Message::Finish {
@@ -218,18 +233,19 @@ fn push_if_any(messages: &mut MessageList, message: Option<Message>) -> Result<(
 // The document, if it is asked for, with the bytes that were there first.
 fn put_of(
     alloc: Global,
-    d: &Diary,
+    register: &Register,
     bill: Checksum,
     t: &Transfer<'_>,
     missing: &ChecksumList,
     piece: &Piece,
 ) -> Result<Option<Message>, NoMemory>
-    ensures { IfOk result (λ put. put ≡ put_of bill (history bill d.now) (transfer_view t.now) missing.now piece.now) }
+    ensures { IfOk result (λ put. put
+        ≡ put_of bill (history bill register.now.diary) (transfer_view t.now) missing.now piece.now) }
 {
     if !missing.as_slice().contains(&piece.checksum) {
         return Ok(None);
     }
-    match first_bytes(d, bill, piece.checksum) {
+    match first_bytes(register, bill, piece.checksum) {
         Some(bytes) => Ok(Some(Message::Put {
             to: t.to,
             bill,

@@ -1,6 +1,7 @@
 //! What the documents and the finish of a transfer come to, at the platform to which they are sent.
 ghost use Rattle.std.specs.Prelude.{◌≡◌, ◌≤◌, Err, IfOk, IsTrue, None, Some, if◌then◌else◌, option_copied};
 ghost use Rattle.ebl_base.specs.Faults.{Rose};
+ghost use Rattle.document_checksum.specs.Digest.{checksum_of};
 ghost use Rattle.bill_diary.specs.History.{history, record_at};
 ghost use Rattle.bill_diary.specs.Pieces.{are_there, brings_bytes};
 ghost use Rattle.bill_diary.specs.Sound.{IsSound};
@@ -11,19 +12,21 @@ ghost use Rattle.platform_machine.specs.Judged.{response_for};
 ghost use Rattle.platform_machine.specs.Receiving.{IsFinished, IsPut, StepsAtFinish, StepsAtPut, frame_at_put, judgement_at_finish, listed_with};
 ghost use Rattle.platform_machine.specs.Step.{OnlyReplies};
 ghost use Rattle.transfer_core.specs.Begun.{begun_view};
+ghost use Rattle.transfer_core.specs.Decision.{step_by};
 
 use crate::answering::{answer_with, document_response, frame_for, response_for, subject_of};
-use crate::replying::only_reply;
-use bill_diary::{BegunRef, Diary, Frame, History, Record, RecordRef, last_with_reference};
+use crate::decision::{DecidedReply, Decision, only_reply};
+use crate::judging::judge;
+use crate::lookups::{first_bytes, last_with_reference};
+use bill_diary::{BegunRef, Frame, History, Record, RecordRef};
 use ebl_base::{ByteList, Checksum, Items, PlatformCode, Reason, Reference};
 use envelope_manifest::{Manifest, Piece};
 use party_roster::Roster;
 use pint_responses::SealFault;
-use platform_machine::Step;
 use platform_requests::Reply;
 use signed_envelope::KeyRing;
 use std::alloc::Global;
-use transfer_judge::judge;
+use title_register::Register;
 use upload_state::fits;
 
 /// What a document, sent under a reference and a checksum, comes to. Nothing is written yet.
@@ -31,18 +34,20 @@ pub fn put<G: KeyRing>(
     alloc: Global,
     ring: &mut G,
     me: PlatformCode,
-    d: &Diary,
+    register: &Register,
     reference: Reference,
     checksum: Checksum,
     bytes: ByteList,
-) -> Result<Step, SealFault>
-    ensures ok { IfOk result (StepsAtPut (G.keys ring.old) me d.now reference checksum bytes) }
+) -> Result<Decision, SealFault>
+    requires { IsSound me register.now.diary }
+    ensures ok { IfOk result (λ d. StepsAtPut (G.keys ring.old) me register.now.diary reference checksum bytes
+        (step_by register.now.diary d)) }
     ensures sign { result ≡ Err Sign → Rose (G.faults ring.old) (G.faults ring.new) }
     ensures later { G.faults ring.old ≤ G.faults ring.new }
     ensures same { G.keys ring.new ≡ G.keys ring.old }
 {
-    match last_with_reference(d, reference) {
-        Some(begun) => put_begun(alloc, ring, me, d, begun, checksum, bytes),
+    match last_with_reference(register, reference) {
+        Some(begun) => put_begun(alloc, ring, me, register, begun, checksum, bytes),
         None => Ok(only_reply(alloc, Reply::UnknownReference)),
     }
 }
@@ -51,12 +56,14 @@ fn put_begun<G: KeyRing>(
     alloc: Global,
     ring: &mut G,
     me: PlatformCode,
-    d: &Diary,
+    register: &Register,
     begun: BegunRef<'_>,
     checksum: Checksum,
     bytes: ByteList,
-) -> Result<Step, SealFault>
-    ensures ok { IfOk result (IsPut (G.keys ring.old) me d.now (begun_view begun.entry) checksum bytes) }
+) -> Result<Decision, SealFault>
+    requires { IsSound me register.now.diary }
+    ensures ok { IfOk result (λ d. IsPut (G.keys ring.old) me register.now.diary (begun_view begun.entry) checksum bytes
+        (step_by register.now.diary d)) }
     ensures sign { result ≡ Err Sign → Rose (G.faults ring.old) (G.faults ring.new) }
     ensures later { G.faults ring.old ≤ G.faults ring.new }
     ensures same { G.keys ring.new ≡ G.keys ring.old }
@@ -70,9 +77,9 @@ fn put_begun<G: KeyRing>(
         let response = document_response(alloc, subject, Reason::Bytes);
         return answer_with(alloc, ring, me, None, response);
     }
-    Ok(Step {
-        frame: frame_at_put(d, begun, checksum, bytes),
-        reply: Reply::Stored,
+    Ok(Decision {
+        frame: frame_at_put(me, register, begun, checksum, bytes),
+        reply: DecidedReply::Ready(Reply::Stored),
         messages: Items::new(alloc),
     })
 }
@@ -90,14 +97,17 @@ fn listed_with(checksum: Checksum, manifest: &Manifest) -> Option<&Piece>
 
 // A Stored of the bytes, unless they are there for the bill.
 fn frame_at_put(
-    d: &Diary,
+    me: PlatformCode,
+    register: &Register,
     begun: BegunRef<'_>,
     checksum: Checksum,
     bytes: ByteList,
 ) -> Option<Frame>
-    ensures { result ≡ frame_at_put d.now (begun_view begun.entry) checksum bytes }
+    requires sound { IsSound me register.now.diary }
+    requires named { checksum ≡ checksum_of bytes }
+    ensures { result ≡ frame_at_put register.now.diary (begun_view begun.entry) checksum bytes }
 {
-    if are_there(d, begun.bill, bytes.as_slice()) {
+    if are_there(me, register, begun.bill, checksum, bytes.as_slice()) {
         return None;
     }
     Some(Frame::One(Record::Stored {
@@ -108,11 +118,30 @@ fn frame_at_put(
     }))
 }
 
-// Whether these bytes are there for a bill: attached, or stored.
-fn are_there(d: &Diary, bill: Checksum, bytes: &[u8]) -> bool
-    ensures { result ≡ are_there (history bill d.now) bytes.now }
+// Whether these bytes are there for a bill: attached, or stored. They are asked for by their checksum. Only where other
+// bytes have the same one are the records of the bill gone over.
+#[tactic(auto, using(crate::proofs::PutLemmas::puts))]
+fn are_there(
+    me: PlatformCode,
+    register: &Register,
+    bill: Checksum,
+    checksum: Checksum,
+    bytes: &[u8],
+) -> bool
+    requires sound { IsSound me register.now.diary }
+    requires named { checksum ≡ checksum_of bytes.now }
+    ensures { result ≡ are_there (history bill register.now.diary) bytes.now }
 {
-    let mut left = History::of(d.as_slice(), bill);
+    match first_bytes(register, bill, checksum) {
+        Some(first) => first.as_slice() == bytes || are_among(register.frames(), bill, bytes),
+        None => false,
+    }
+}
+
+fn are_among(frames: &[Frame], bill: Checksum, bytes: &[u8]) -> bool
+    ensures { result ≡ are_there (history bill frames.now) bytes.now }
+{
+    let mut left = History::of(frames, bill);
     while let Some(record) = left.next() {
         if brings_bytes(record, bytes) {
             return true;
@@ -140,17 +169,18 @@ pub fn finish<G: KeyRing>(
     roster: &Roster,
     ring: &mut G,
     me: PlatformCode,
-    d: &Diary,
+    register: &Register,
     reference: Reference,
-) -> Result<Step, SealFault>
-    requires { IsSound me d.now }
-    ensures ok { IfOk result (StepsAtFinish roster.now (G.keys ring.old) me d.now reference) }
+) -> Result<Decision, SealFault>
+    requires { IsSound me register.now.diary }
+    ensures ok { IfOk result (λ d. StepsAtFinish roster.now (G.keys ring.old) me register.now.diary reference
+        (step_by register.now.diary d)) }
     ensures sign { result ≡ Err Sign → Rose (G.faults ring.old) (G.faults ring.new) }
     ensures later { G.faults ring.old ≤ G.faults ring.new }
     ensures same { G.keys ring.new ≡ G.keys ring.old }
 {
-    match last_with_reference(d, reference) {
-        Some(begun) => finish_begun(alloc, roster, ring, me, d, begun),
+    match last_with_reference(register, reference) {
+        Some(begun) => finish_begun(alloc, roster, ring, me, register, begun),
         None => Ok(only_reply(alloc, Reply::UnknownReference)),
     }
 }
@@ -160,18 +190,19 @@ fn finish_begun<G: KeyRing>(
     roster: &Roster,
     ring: &mut G,
     me: PlatformCode,
-    d: &Diary,
+    register: &Register,
     begun: BegunRef<'_>,
-) -> Result<Step, SealFault>
+) -> Result<Decision, SealFault>
     requires { IsSealable (response_for (subject_of begun.manifest.now)
-        (judgement_at_finish roster.now me d.now (begun_view begun))) }
-    ensures ok { IfOk result (IsFinished roster.now (G.keys ring.old) me d.now (begun_view begun.entry)) }
+        (judgement_at_finish roster.now me register.now.diary (begun_view begun))) }
+    ensures ok { IfOk result (λ d. IsFinished roster.now (G.keys ring.old) me register.now.diary
+        (begun_view begun.entry) (step_by register.now.diary d)) }
     ensures sign { result ≡ Err Sign → Rose (G.faults ring.old) (G.faults ring.new) }
     ensures later { G.faults ring.old ≤ G.faults ring.new }
     ensures same { G.keys ring.new ≡ G.keys ring.old }
 {
     let subject = subject_of(begun.manifest);
-    let judgement = judge(alloc, d, roster, me, begun.chain, begun.manifest)?;
+    let judgement = judge(alloc, register, roster, me, begun.chain, begun.manifest)?;
     let frame = frame_for(alloc, None, subject, &judgement)?;
     answer_with(
         alloc,

@@ -19,7 +19,6 @@ use std::alloc::Global;
 use std::test::Fail;
 use test_signer::KeyedRing;
 use transfer_core::Shard;
-use transfer_judge::has_attempts;
 use upload_state::{Started, started_write};
 
 // What was sent.
@@ -151,7 +150,7 @@ pub(crate) fn asks<G: KeyRing>(
     requires nests { Nests (command_view command) }
 {
     let (party, now) = (party(by)?, moment(1000)?);
-    if !has_attempts(shard.diary(), &command) {
+    if !shard.has_attempts(&command) {
         return Err("too many attempts".into());
     }
     Ok(shard.take(alloc, now, Request::Command { party, command }))
@@ -357,12 +356,12 @@ impl World {
     pub(crate) fn may_act(&self, at: &str) -> Result<bool, Fail> {
         let bill = bill()?;
         if at == "ALPH" {
-            return Ok(self.alph.may_act(self.alloc, bill)?);
+            return Ok(self.alph.may_act(bill));
         }
         if at == "BETA" {
-            return Ok(self.beta.may_act(self.alloc, bill)?);
+            return Ok(self.beta.may_act(bill));
         }
-        Ok(self.gamm.may_act(self.alloc, bill)?)
+        Ok(self.gamm.may_act(bill))
     }
 
     /// A reply to the start comes to ALPH.

@@ -5,6 +5,7 @@ pub start_message-requires : goal.start_message-requires
 start_message-requires c = λ none.
     let (known, since, held) = c.requires.held in
     let (document, there) =
-    c.held_bill_has_its_document.ensures c.args.me c.args.d.now c.args.bill known since c.requires.sound held in
+    c.held_bill_has_its_document.ensures c.args.me c.args.register.now.diary c.args.bill known since c.requires.sound
+    held in
     let both : Some document ≡ None = sym there ∙ none in
     cc both

@@ -6,7 +6,7 @@ use Rattle.transfer_core.proofs.showing.start_again.Goals as goal
 
 pub start_message-requires : goal.start_message-requires
 start_message-requires c =
-    let way = rw c.in-Ok.is at c.in_ok-t.ensures.found in
-    not_none (document_in (history c.args.bill c.args.d.now))
-    (c.parting_bill_is_under_way.ensures.document c.args.me c.args.d.now c.args.bill way.known
+    let way = c.in-Ok.ensures.found in
+    not_none (document_in (history c.args.bill c.args.register.now.diary))
+    (c.parting_bill_is_under_way.ensures.document c.args.me c.args.register.now.diary c.args.bill way.known
     (transfer_view c.in-Ok.t).entry c.requires way.parting)

@@ -3,8 +3,8 @@ use Rattle.std.proofs.Common.{◌≡◌, ◌++◌, length}
 use Rattle.transfer_chain.specs.Checked.{texts_of}
 use Rattle.transfer_core.proofs.transfer.texts_of.Given as goal
 
-abbrev pub invariant-loop-link : goal.invariant-loop-link
-invariant-loop-link l = l.texts ++ texts_of l.left ≡ texts_of l.chain
+abbrev pub invariant-loop-next : goal.invariant-loop-next
+invariant-loop-next l = l.texts ++ texts_of l.left ≡ texts_of l.known
 
-abbrev pub decreases-loop-link : goal.decreases-loop-link
-decreases-loop-link l = length l.left
+abbrev pub decreases-loop-next : goal.decreases-loop-next
+decreases-loop-next l = length l.left

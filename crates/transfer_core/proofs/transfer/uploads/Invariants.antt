@@ -9,8 +9,8 @@ use Rattle.transfer_core.proofs.transfer.uploads.Given as goal
 
 abbrev pub invariant-loop-piece : goal.invariant-loop-piece
 invariant-loop-piece l =
-    l.messages ++ flat_map (λ piece. option_to_list (put_of l.bill (history l.bill l.d) (transfer_view l.t) l.missing piece)) l.left
-    ≡ flat_map (λ piece. option_to_list (put_of l.bill (history l.bill l.d) (transfer_view l.t) l.missing piece))
+    l.messages ++ flat_map (λ piece. option_to_list (put_of l.bill (history l.bill l.register.diary) (transfer_view l.t) l.missing piece)) l.left
+    ≡ flat_map (λ piece. option_to_list (put_of l.bill (history l.bill l.register.diary) (transfer_view l.t) l.missing piece))
     l.t.parted.manifest.now.documents
 
 abbrev pub decreases-loop-piece : goal.decreases-loop-piece
