@@ -27,15 +27,17 @@ def peak(words):
 
 def main():
     program = proved("register_bench", ["1", "1", "4", "14"])
-    run = lambda *words: instructions([program, *map(str, words)])
+    # Words of one length in the runs that are compared: by their length the heap may lie otherwise, and then one run
+    # copies a list that the other one grows where it is.
+    run = lambda bills, events, asked: instructions([program, str(bills), str(ROWS), str(events), "%02d" % asked])
     sizes = (10, 100, 1000, 10000)
     costs = {}
     for bills in sizes:
-        upto = [run(bills, ROWS, count, 0) for count in range(len(EVENTS) + 1)]
+        upto = [run(bills, count, 0) for count in range(len(EVENTS) + 1)]
         for at, event in enumerate(EVENTS):
             costs[event, bills] = difference(upto[at + 1], upto[at], "%s with %d bills" % (event, bills)) // ROWS
         for at, asked in enumerate(ASKED):
-            more = run(bills, ROWS, len(EVENTS), at + 1)
+            more = run(bills, len(EVENTS), at + 1)
             costs[asked, bills] = difference(more, upto[-1], "%s with %d bills" % (asked, bills)) // ROWS
     print("| | " + " | ".join("{:,} bills".format(bills) for bills in sizes) + " | from 10 to 10,000 |")
     print("|---|" + "---|" * (len(sizes) + 1))

@@ -1,15 +1,15 @@
 //! A register beside its diary, and whether both say the same.
 use crate::tests::making::name;
 use bill_diary::{
-    BillPlace, Diary, Frame, Record, count_parted, first_bytes, is_taken, last_declined,
-    last_with_reference, may_act, pieces, place, title_at,
+    BillPlace, Diary, Frame, Record, count_parted, first_bytes, is_taken, last_body, last_declined,
+    last_parted_record, last_with_reference, may_act, pieces, place, signed_text, title_at,
 };
-use ebl_base::{Chain, ChainLink, Checksum, Copied, Items, NoMemory, PlaceTag};
+use ebl_base::{ByteList, Chain, ChainLink, Checksum, Copied, Items, NoMemory, PlaceTag};
 use envelope_manifest::Piece;
 use std::alloc::Global;
 use std::process::Abort;
 use std::test::Fail;
-use title_register::Register;
+use title_register::{PlaceRef, Register};
 use upload_state::reference_of;
 
 /// A diary, and the register beside it.
@@ -60,6 +60,10 @@ pub(crate) fn assert_same<R: Abort>(
     let frames = diary.len();
     let stands = place(alloc, diary, bill)?;
     assert_eq!(rt; register.tag(bill), stands.tag(), "after {frames} frames");
+    assert!(rt;
+        parts_by(register.place(bill)) == parts_of(&stands),
+        "after {frames} frames"
+    );
     assert_eq!(rt;
         register.may_act(bill),
         may_act(alloc, diary, bill)?,
@@ -96,7 +100,62 @@ pub(crate) fn assert_same<R: Abort>(
         count_parted(diary, bill),
         "after {frames} frames"
     );
+    assert_eq!(rt;
+        byte_of(register, register.signed(bill)),
+        byte_in(signed_text(diary, bill)),
+        "after {frames} frames"
+    );
+    assert_eq!(rt;
+        byte_of(register, register.came(bill)),
+        byte_in(last_body(diary, bill)),
+        "after {frames} frames"
+    );
+    let parted = match last_parted_record(diary, bill) {
+        Some(parted) => Some(number_of(Some(parted.link))),
+        None => None,
+    };
+    assert_eq!(rt;
+        byte_of(register, register.parted(bill)),
+        parted,
+        "after {frames} frames"
+    );
+    assert!(rt;
+        register.record_at(frames).is_none(),
+        "after {frames} frames"
+    );
     Ok(())
+}
+
+// Which place it is, the ends of the known chain, the number of the entry that is parting, and how many transactions
+// were made since.
+type Parts = (PlaceTag, Option<(usize, u8, u8)>, u8, usize);
+
+fn parts_by(place: PlaceRef<'_>) -> Parts {
+    match place {
+        PlaceRef::Absent => (PlaceTag::Absent, None, 0, 0),
+        PlaceRef::Held { known, since } => (PlaceTag::Held, ends(Some(known)), 0, since.len()),
+        PlaceRef::Parting { known, entry } => (
+            PlaceTag::Parting,
+            ends(Some(known)),
+            number_of(Some(entry)),
+            0,
+        ),
+        PlaceRef::Gone { known } => (PlaceTag::Gone, ends(Some(known)), 0, 0),
+    }
+}
+
+fn parts_of(place: &BillPlace) -> Parts {
+    match place {
+        BillPlace::Absent => (PlaceTag::Absent, None, 0, 0),
+        BillPlace::Held { known, since } => (PlaceTag::Held, ends(Some(known)), 0, since.len()),
+        BillPlace::Parting { known, entry } => (
+            PlaceTag::Parting,
+            ends(Some(known)),
+            number_of(Some(entry)),
+            0,
+        ),
+        BillPlace::Gone { known } => (PlaceTag::Gone, ends(Some(known)), 0, 0),
+    }
 }
 
 // Whether two lists of documents have the same checksums.
@@ -132,13 +191,9 @@ pub(crate) fn assert_same_entry<R: Abort>(rt: &R, pair: &Pair, bill: Checksum, n
         begun,
         "after {frames} frames"
     );
-    let stored = match first_bytes(diary, bill, name(n)) {
-        Some(bytes) => first_byte(bytes.as_slice()),
-        None => None,
-    };
     assert_eq!(rt;
         byte_of(register, register.kept(bill, name(n))),
-        stored,
+        byte_in(first_bytes(diary, bill, name(n))),
         "after {frames} frames"
     );
 }
@@ -147,16 +202,20 @@ fn first_byte(bytes: &[u8]) -> Option<u8> {
     bytes.first().copied()
 }
 
-// The byte by which the frame of a number tells itself from others.
+fn byte_in(bytes: Option<&ByteList>) -> Option<u8> {
+    first_byte(bytes?.as_slice())
+}
+
+// The byte by which the record of a number tells itself from others.
 fn byte_of(register: &Register, number: Option<usize>) -> Option<u8> {
-    match register.frames().get(number?)? {
-        Frame::One(kept) | Frame::BegunTaken(kept) => match kept {
-            Record::Begun { body, .. } => first_byte(body.as_slice()),
-            Record::Attached { bytes, .. } | Record::Stored { bytes, .. } => first_byte(
-                bytes.as_slice(),
-            ),
-            _ => None,
-        },
+    match register.record_at(number?)? {
+        Record::Begun { body, .. } => first_byte(body.as_slice()),
+        Record::Attached { bytes, .. } | Record::Stored { bytes, .. } => first_byte(
+            bytes.as_slice(),
+        ),
+        Record::Signed { document, .. } => first_byte(document.as_slice()),
+        Record::Parted { link, .. } => Some(number_of(Some(link))),
+        _ => None,
     }
 }
 

@@ -117,7 +117,7 @@ impl Cast {
         match step {
             Step::Signed => Ok(Record::Signed {
                 bill,
-                document: Items::new(alloc),
+                document: ByteList::from_slice(alloc, &[self.mark])?,
                 transaction: self.act(Kind::Sign, self.carrier, None),
             }),
             Step::Issued => Ok(self.acted(bill, Kind::Issue, self.carrier, Some(self.exporter))),
