@@ -1,8 +1,5 @@
-//! Frames and their bytes, bytes that spell none, frames that may follow and frames of a journal.
-mod follow;
+//! Frames and their bytes, and bytes that spell none.
 mod frames;
-mod journals;
-mod making;
 mod near_misses;
 mod no_frames;
 mod spellings;
