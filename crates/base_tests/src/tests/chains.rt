@@ -5,10 +5,11 @@ use bill_chain::{
     possessor_after,
 };
 use ebl_base::{
-    ByteList, Chain, ChainLink, Checksum, Entry, Kind, Moment, SignedText, Transaction,
+    ByteList, Chain, ChainLink, Checksum, Entry, Kind, Moment, Party, SignedText, Transaction,
     TransactionList,
 };
 use std::alloc::Global;
+use std::process::Abort;
 use std::test::Fail;
 use title_fold::FoldRefusal;
 
@@ -51,31 +52,39 @@ fn two_links(alloc: Global, second: u8) -> Result<Chain, Fail> {
     Ok(chain)
 }
 
-#[test]
-fn names_of_a_chain(rt: HostRuntime) -> Result<(), Fail> {
-    let chain = two_links(rt.alloc(), 2)?;
-    let other = two_links(rt.alloc(), 3)?;
-    let (links, others) = (chain.as_slice(), other.as_slice());
-    assert!(rt; last_link(links).is_some_and(|link| link.name == Checksum([2; 32])));
+fn assert_names(rt: &impl Abort, links: &[ChainLink], others: &[ChainLink]) {
+    let last = last_link(links).map(|link| link.name);
+    assert_eq!(rt; last, Some(Checksum([2; 32])));
     assert!(rt; ends_in(links, Checksum([2; 32])));
     assert!(rt; has_entry(links, Checksum([1; 32])));
     assert!(rt; !has_entry(links, Checksum([3; 32])));
     assert_eq!(rt; common_front(links, others), 1);
-    assert!(rt; goes_beyond(&links[..1], others));
     assert!(rt; !goes_beyond(links, others));
+}
+
+#[test]
+fn names_of_a_chain(rt: HostRuntime) -> Result<(), Fail> {
+    let chain = two_links(rt.alloc(), 2)?;
+    let other = two_links(rt.alloc(), 3)?;
+    assert_names(&rt, chain.as_slice(), other.as_slice());
+    let front = chain.as_slice().get(..1).ok_or("a front")?;
+    assert!(rt; goes_beyond(front, other.as_slice()));
     Ok(())
+}
+
+fn assert_title(rt: &impl Abort, links: &[ChainLink], bank: Party, again: Transaction) {
+    assert_eq!(rt; possessor_after(links), Some(bank));
+    assert_eq!(rt; destination(links), Some(bank.platform));
+    assert_eq!(rt; fold_after_chain(links, &[again]), Err(FoldRefusal::F7));
 }
 
 #[test]
 fn the_title_after_a_chain(rt: HostRuntime) -> Result<(), Fail> {
-    let chain = two_links(rt.alloc(), 2)?;
-    let links = chain.as_slice();
     let bank = party(b"GAMM/BANK")?;
-    assert_eq!(rt; possessor_after(links), Some(bank));
-    assert_eq!(rt; destination(links), Some(bank.platform));
-    assert_eq!(rt; destination(&[]), None);
     let again = act(Kind::Transfer, b"BETA/EXPORT", Some(b"GAMM/BANK"))?;
-    assert_eq!(rt; fold_after_chain(links, &[again]), Err(FoldRefusal::F7));
+    let chain = two_links(rt.alloc(), 2)?;
+    assert_title(&rt, chain.as_slice(), bank, again);
+    assert_eq!(rt; destination(&[]), None);
     assert_eq!(rt; fold_after_chain(&[], &[]), Ok(None));
     Ok(())
 }

@@ -3,6 +3,7 @@ use crate::tests::making::{json, quoted};
 use document_checksum::from_text;
 use ebl_base::{CarrierCode, Copied, Provider};
 use std::alloc::{AllocError, Global};
+use std::process::Abort;
 use std::test::Fail;
 use transport_document::{Document, DocumentFault, DocumentField};
 
@@ -97,26 +98,28 @@ fn answer(alloc: Global, text: &str) -> Option<Result<(), DocumentFault>> {
     }
 }
 
-#[test]
-fn keeps_the_canonical_text(rt: HostRuntime) -> Result<(), Fail> {
-    let Ok(json) = json(rt.alloc(), CAME) else {
-        panic!(rt; "no JSON");
-    };
-    let Ok(document) = Document::of_json(rt.alloc(), &json) else {
-        panic!(rt; "no document");
-    };
-    assert_eq!(rt;
-        document.text().as_slice(),
-        quoted(rt.alloc(), CANONICAL)?.as_slice()
-    );
+fn sample_document(alloc: Global) -> Result<Document, Fail> {
+    let json = json(alloc, CAME)?;
+    match Document::of_json(alloc, &json) {
+        Ok(document) => Ok(document),
+        Err(_) => Err("a document".into()),
+    }
+}
+
+fn assert_sample(rt: &impl Abort, document: &Document, canonical: &[u8]) {
+    assert_eq!(rt; document.text().as_slice(), canonical);
     assert_eq!(rt; Some(document.bill()), from_text(BILL.as_bytes()));
     assert_eq!(rt; document.provider(), Provider::Nmfta);
     assert_eq!(rt; Some(document.code()), CarrierCode::try_new(b"OCNL"));
+}
+
+#[test]
+fn keeps_the_canonical_text(rt: HostRuntime) -> Result<(), Fail> {
+    let canonical = quoted(rt.alloc(), CANONICAL)?;
+    let document = sample_document(rt.alloc())?;
+    assert_sample(&rt, &document, &canonical);
     let copy = document.copy(rt.alloc())?;
-    assert_eq!(rt; copy.text().as_slice(), document.text().as_slice());
-    assert_eq!(rt; copy.bill(), document.bill());
-    assert_eq!(rt; copy.provider(), Provider::Nmfta);
-    assert_eq!(rt; copy.code(), document.code());
+    assert_sample(&rt, &copy, &canonical);
     Ok(())
 }
 

@@ -38,6 +38,13 @@ fn puts<K: Sink>(sink: &mut K) -> [u8; 3] {
     [put(sink, b"ab"), put(sink, b"cdef"), put(sink, b"ghi")]
 }
 
+// A source of seven bytes, which fails at these reads.
+fn source_of(alloc: Global, fails: &[u64]) -> Result<MemorySource, NoMemory> {
+    let fails = CallList::from_slice(alloc, fails)?;
+    let bytes = ByteList::from_slice(alloc, b"abcdefg")?;
+    MemorySource::new(bytes, fails).copy(alloc)
+}
+
 fn source_row(
     rt: &impl Abort,
     alloc: Global,
@@ -45,22 +52,27 @@ fn source_row(
     told: &[u8],
     faults: u64,
 ) -> Result<(), Fail> {
-    let bytes = ByteList::from_slice(alloc, b"abcdefg")?;
-    let source = MemorySource::new(bytes, CallList::from_slice(alloc, fails)?);
-    let mut source = source.copy(alloc)?;
-    assert_eq!(rt; reads(alloc, &mut source)?.as_slice(), told);
-    assert_eq!(rt; source.faults(), faults);
-    assert_eq!(rt; source.left().len(), 0);
+    let mut source = source_of(alloc, fails)?;
+    let answers = reads(alloc, &mut source)?;
+    assert_eq!(rt; answers.as_slice(), told);
+    assert_eq!(rt; (source.faults(), source.left().len()), (faults, 0));
     Ok(())
 }
 
+// The reads that fail, what the reads answer, and how many faults are counted.
+const SOURCES: [(&[u64], &[u8], u64); 4] = [
+    (&[9], b"abc|def|g||||", 0),
+    (&[0, 9], b"!|abc|def|g|||", 1),
+    (&[3, 1], b"abc|!|def|!|g||", 2),
+    (&[4, 4], b"abc|def|g||!||", 1),
+];
+
 #[test]
 fn a_memory_source_fails_at_the_listed_reads(rt: HostRuntime) -> Result<(), Fail> {
-    let alloc = rt.alloc();
-    source_row(&rt, alloc, &[9], b"abc|def|g||||", 0)?;
-    source_row(&rt, alloc, &[0, 9], b"!|abc|def|g|||", 1)?;
-    source_row(&rt, alloc, &[3, 1], b"abc|!|def|!|g||", 2)?;
-    source_row(&rt, alloc, &[4, 4], b"abc|def|g||!||", 1)
+    for (fails, told, faults) in SOURCES {
+        source_row(&rt, rt.alloc(), fails, told, faults)?;
+    }
+    Ok(())
 }
 
 #[test]
@@ -250,8 +262,21 @@ fn link_puts<L: Link>(link: &mut L) -> [u8; 3] {
     ]
 }
 
-fn pieces_of(alloc: Global, sizes: &[usize]) -> Result<PieceList, NoMemory> {
-    PieceList::from_slice(alloc, sizes)
+fn link_with(
+    alloc: Global,
+    bytes: ByteList,
+    sizes: PieceList,
+    fails: &[u64],
+) -> Result<MemoryLink, NoMemory> {
+    let fails = CallList::from_slice(alloc, fails)?;
+    Ok(MemoryLink::in_pieces(alloc, bytes, sizes, fails))
+}
+
+// A link of seven bytes in pieces of these sizes, which fails at these calls.
+fn link_of(alloc: Global, sizes: &[usize], fails: &[u64]) -> Result<MemoryLink, NoMemory> {
+    let bytes = ByteList::from_slice(alloc, b"abcdefg")?;
+    let sizes = PieceList::from_slice(alloc, sizes)?;
+    link_with(alloc, bytes, sizes, fails)
 }
 
 fn link_row(
@@ -261,32 +286,43 @@ fn link_row(
     fails: &[u64],
     told: &[u8],
 ) -> Result<(), Fail> {
-    let bytes = ByteList::from_slice(alloc, b"abcdefg")?;
-    let fails = CallList::from_slice(alloc, fails)?;
-    let link = MemoryLink::in_pieces(alloc, bytes, pieces_of(alloc, sizes)?, fails);
-    let mut link = link.copy(alloc)?;
-    assert_eq!(rt; link_reads(alloc, &mut link)?.as_slice(), told);
+    let mut link = link_of(alloc, sizes, fails)?.copy(alloc)?;
+    let answers = link_reads(alloc, &mut link)?;
+    assert_eq!(rt; answers.as_slice(), told);
     assert_eq!(rt; link.left().len(), 0);
     Ok(())
 }
 
+// The sizes of the pieces, the calls that fail, and what the reads answer.
+const LINKS: [(&[usize], &[u64], &[u8]); 4] = [
+    (&[], &[], b"abc|def|g||||"),
+    (&[1, 9, 2], &[], b"a|bcd|ef|g|||"),
+    (&[0, 0], &[3], b"a|b|cde|!|fg||"),
+    (&[2], &[0, 4], b"!|ab|cde|fg|!||"),
+];
+
 #[test]
 fn a_memory_link_hands_out_its_pieces(rt: HostRuntime) -> Result<(), Fail> {
-    let alloc = rt.alloc();
-    link_row(&rt, alloc, &[], &[], b"abc|def|g||||")?;
-    link_row(&rt, alloc, &[1, 9, 2], &[], b"a|bcd|ef|g|||")?;
-    link_row(&rt, alloc, &[0, 0], &[3], b"a|b|cde|!|fg||")?;
-    link_row(&rt, alloc, &[2], &[0, 4], b"!|ab|cde|fg|!||")
+    for (sizes, fails, told) in LINKS {
+        link_row(&rt, rt.alloc(), sizes, fails, told)?;
+    }
+    Ok(())
+}
+
+// What is left to be read of a link, what was written, and how many faults were counted.
+fn assert_link(rt: &impl Abort, link: &MemoryLink, written: &[u8], faults: u64) {
+    assert_eq!(rt; link.written(), written);
+    assert_eq!(rt; link.left(), b"b".as_slice());
+    assert_eq!(rt; link.faults(), faults);
 }
 
 fn put_row(rt: &impl Abort, mut link: MemoryLink, told: &[u8], written: &[u8], faults: u64) {
     let mut into = [0u8; 1];
-    let read = link.read(&mut into);
-    assert!(rt; read.is_ok());
-    assert_eq!(rt; link_puts(&mut link).as_slice(), told);
-    assert_eq!(rt; link.written(), written);
-    assert_eq!(rt; link.faults(), faults);
-    assert_eq!(rt; link.left(), b"b".as_slice());
+    let is_read = link.read(&mut into).is_ok();
+    assert!(rt; is_read);
+    let answers = link_puts(&mut link);
+    assert_eq!(rt; answers.as_slice(), told);
+    assert_link(rt, &link, written, faults);
 }
 
 fn two_bytes(alloc: Global) -> Result<ByteList, NoMemory> {
@@ -305,19 +341,25 @@ fn reads_and_puts_of_a_link_are_counted_together(rt: HostRuntime) -> Result<(), 
     Ok(())
 }
 
-#[test]
-fn a_bounded_link_fails_past_its_room_alone(rt: HostRuntime) -> Result<(), Fail> {
-    let alloc = rt.alloc();
+fn bounded_link(alloc: Global) -> Result<BoundedLink, NoMemory> {
     let link = BoundedLink::new(alloc, two_bytes(alloc)?, 5)?;
-    let mut link = link.copy(alloc)?;
-    assert_eq!(rt; link_puts(&mut link).as_slice(), b".!.".as_slice());
+    link.copy(alloc)
+}
+
+fn assert_bounded(rt: &impl Abort, link: &BoundedLink) {
     assert_eq!(rt; link.written(), b"abghi".as_slice());
     assert_eq!(rt; link.faults(), 1);
     assert_eq!(rt; link.left(), b"ab".as_slice());
-    assert_eq!(rt;
-        link_reads(alloc, &mut link)?.as_slice(),
-        b"ab||||||".as_slice()
-    );
+}
+
+#[test]
+fn a_bounded_link_fails_past_its_room_alone(rt: HostRuntime) -> Result<(), Fail> {
+    let mut link = bounded_link(rt.alloc())?;
+    let answers = link_puts(&mut link);
+    assert_eq!(rt; answers.as_slice(), b".!.".as_slice());
+    assert_bounded(&rt, &link);
+    let told = link_reads(rt.alloc(), &mut link)?;
+    assert_eq!(rt; told.as_slice(), b"ab||||||".as_slice());
     Ok(())
 }
 

@@ -180,13 +180,19 @@ fn assert_links(rt: &impl Abort, copy: &ChainLink, link: &ChainLink) {
     assert!(rt; copy.entry.transactions.as_slice() == link.entry.transactions.as_slice());
 }
 
+// A link and its copy.
+fn sample_chain(alloc: Global) -> Result<Chain, Fail> {
+    let link = sample_link(alloc)?;
+    let mut chain = Chain::new(alloc);
+    chain.push(link.copy(alloc)?)?;
+    chain.push(link)?;
+    Ok(chain)
+}
+
 #[test]
 fn copies_of_chains(rt: HostRuntime) -> Result<(), Fail> {
+    let copy = sample_chain(rt.alloc())?.copy(rt.alloc())?;
     let link = sample_link(rt.alloc())?;
-    let mut chain = Chain::new(rt.alloc());
-    chain.push(link.copy(rt.alloc())?)?;
-    chain.push(sample_link(rt.alloc())?)?;
-    let copy = chain.copy(rt.alloc())?;
     assert_eq!(rt; copy.len(), 2);
     for copied in copy.as_slice() {
         assert_links(&rt, copied, &link);
@@ -198,21 +204,25 @@ fn copies_of_chains(rt: HostRuntime) -> Result<(), Fail> {
 fn copies_of_lists(rt: HostRuntime) -> Result<(), Fail> {
     let bytes = ByteList::from_slice(rt.alloc(), b"abc")?.copy(rt.alloc())?;
     assert!(rt; bytes.as_slice() == b"abc".as_slice());
-    let names = ChecksumList::from_slice(rt.alloc(), &[Checksum([5; 32]), Checksum([6; 32])])?;
-    let names = names.copy(rt.alloc())?;
-    assert!(rt; names.as_slice() == [Checksum([5; 32]), Checksum([6; 32])].as_slice());
+    let two = [Checksum([5; 32]), Checksum([6; 32])];
+    let names = ChecksumList::from_slice(rt.alloc(), &two)?.copy(rt.alloc())?;
+    assert!(rt; names.as_slice() == two.as_slice());
     let text = CharList::from_text(rt.alloc(), "größe")?.copy(rt.alloc())?;
     assert!(rt; text.into_string().as_str() == "größe");
+    Ok(())
+}
+
+#[test]
+fn copies_of_evidence(rt: HostRuntime) -> Result<(), Fail> {
+    let bytes = ByteList::from_slice(rt.alloc(), b"abc")?;
     let evidence = Evidence {
         own: None,
         theirs: Some(SignedText(bytes)),
     };
     let copy = evidence.copy(rt.alloc())?;
     assert!(rt; copy.own.is_none());
-    assert!(rt;
-        copy.theirs
-            .is_some_and(|text| text.0.as_slice() == b"abc".as_slice())
-    );
+    let theirs = copy.theirs.ok_or("a text")?;
+    assert!(rt; theirs.0.as_slice() == b"abc".as_slice());
     Ok(())
 }
 

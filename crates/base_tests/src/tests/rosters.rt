@@ -1,8 +1,9 @@
 //! Rosters, and the first wrong place of values that are none. In these texts `'` stands for `"`.
-use crate::tests::making::{json, party};
+use crate::tests::making::json;
 use ebl_base::{CarrierCode, Copied, Party, PlatformCode, Provider};
 use party_roster::{Roster, RosterFault, RosterPlace};
 use std::alloc::{AllocError, Global};
+use std::process::Abort;
 use std::test::Fail;
 
 const PLATFORMS: &str = "['ALPH','BETA']";
@@ -91,6 +92,8 @@ const PLACES: [(&str, &str, &str, RosterPlace); 19] = [
     ),
 ];
 
+const LISTED: [(&[u8], bool); 3] = [(b"ALPH", true), (b"BETA", true), (b"GAMM", false)];
+
 const TAKES_PART: [(&str, bool); 4] = [
     ("ALPH/BANK", true),
     ("BETA/IMPORT", true),
@@ -129,43 +132,33 @@ fn text_of(
 }
 
 // Members come in any order, and further members are ignored.
-#[test]
-fn looks_up(rt: HostRuntime) -> Result<(), Fail> {
-    let text = text_of(rt.alloc(), PLATFORMS, PARTIES, CARRIERS)?;
-    let Ok(json) = json(rt.alloc(), &text) else {
-        panic!(rt; "no JSON");
-    };
-    let Ok(roster) = Roster::read(rt.alloc(), &json) else {
-        panic!(rt; "no roster");
-    };
-    let platforms = [
-        PlatformCode::try_new(b"ALPH"),
-        PlatformCode::try_new(b"BETA"),
-    ];
-    assert_eq!(rt; roster.platforms().first().copied(), platforms[0]);
+fn sample_roster(alloc: Global) -> Result<Roster, Fail> {
+    let text = text_of(alloc, PLATFORMS, PARTIES, CARRIERS)?;
+    let json = json(alloc, &text)?;
+    match Roster::read(alloc, &json) {
+        Ok(roster) => Ok(roster),
+        Err(_) => Err("a roster".into()),
+    }
+}
+
+fn assert_lists(rt: &impl Abort, roster: &Roster) {
+    let alph = PlatformCode::try_new(b"ALPH");
+    assert_eq!(rt; roster.platforms().first().copied(), alph);
     assert_eq!(rt; roster.platforms().len(), 2);
-    assert_eq!(rt;
-        platforms[1].map(|platform| roster.has_platform(platform)),
-        Some(true)
-    );
-    assert_eq!(rt;
-        PlatformCode::try_new(b"GAMM").map(|platform| roster.has_platform(platform)),
-        Some(false)
-    );
-    assert_eq!(rt;
-        roster.parties().last().copied(),
-        Party::from_text(b"BETA/IMPORT")
-    );
-    assert_eq!(rt;
-        roster.carriers().first().map(|carrier| carrier.party),
-        Party::from_text(b"ALPH/CARRIER")
-    );
+    let last = Party::from_text(b"BETA/IMPORT");
+    assert_eq!(rt; roster.parties().last().copied(), last);
+    let first = roster.carriers().first().map(|carrier| carrier.party);
+    assert_eq!(rt; first, Party::from_text(b"ALPH/CARRIER"));
+}
+
+fn assert_look_ups(rt: &impl Abort, roster: &Roster) {
+    for (text, want) in LISTED {
+        let found = PlatformCode::try_new(text).map(|platform| roster.has_platform(platform));
+        assert_eq!(rt; found, Some(want), "{text:?}");
+    }
     for (text, want) in &TAKES_PART {
-        assert_eq!(rt;
-            Party::from_text(text.as_bytes()).map(|party| roster.knows(party)),
-            Some(*want),
-            "{text}"
-        );
+        let found = Party::from_text(text.as_bytes()).map(|party| roster.knows(party));
+        assert_eq!(rt; found, Some(*want), "{text}");
     }
     for (provider, code, want) in &CARRIERS_FOR {
         let party = CarrierCode::try_new(code.as_bytes()).and_then(|code| roster.carrier(
@@ -173,23 +166,31 @@ fn looks_up(rt: HostRuntime) -> Result<(), Fail> {
         ));
         assert_eq!(rt; party, Party::from_text(want.as_bytes()), "{code}");
     }
+}
+
+#[test]
+fn looks_up(rt: HostRuntime) -> Result<(), Fail> {
+    let roster = sample_roster(rt.alloc())?;
+    assert_lists(&rt, &roster);
+    assert_look_ups(&rt, &roster);
     Ok(())
+}
+
+fn assert_same(rt: &impl Abort, copy: &Roster, roster: &Roster) {
+    assert_eq!(rt; copy.platforms(), roster.platforms());
+    assert_eq!(rt; copy.platforms().len(), 2);
+    assert_eq!(rt; copy.parties(), roster.parties());
+    assert_eq!(rt; copy.parties().len(), 3);
+    assert_eq!(rt; copy.carriers(), roster.carriers());
+    assert_eq!(rt; copy.carriers().len(), 2);
 }
 
 #[test]
 fn copied(rt: HostRuntime) -> Result<(), Fail> {
-    let alloc = rt.alloc();
-    let text = text_of(alloc, PLATFORMS, PARTIES, CARRIERS)?;
-    let json = json(alloc, &text).ok().ok_or("json")?;
-    let roster = Roster::read(alloc, &json).ok().ok_or("roster")?;
-    let copy = roster.copy(alloc).ok().ok_or("memory")?;
-    assert!(rt; copy.platforms() == roster.platforms() && copy.platforms().len() == 2);
-    assert!(rt; copy.parties() == roster.parties() && copy.parties().len() == 3);
-    assert!(rt; copy.carriers() == roster.carriers() && copy.carriers().len() == 2);
-    let bank = party(b"ALPH/BANK")?;
-    assert!(rt; copy.knows(bank) && copy.has_platform(bank.platform));
-    let code = CarrierCode::try_new(b"OCNL").ok_or("code")?;
-    assert!(rt; copy.carrier(Provider::Nmfta, code) == Party::from_text(b"ALPH/CARRIER"));
+    let roster = sample_roster(rt.alloc())?;
+    let copy = roster.copy(rt.alloc())?;
+    assert_same(&rt, &copy, &roster);
+    assert_look_ups(&rt, &copy);
     Ok(())
 }
 
