@@ -1,5 +1,5 @@
 //! What no clause can say: that the definitions are those of RFC 8785, and that the calls succeed.
-ghost use Rattle.std.specs.Prelude.{◌<◌, length};
+ghost use Rattle.std.specs.Prelude.{◌<◌, IfOk, length};
 
 use canonical_json::{
     Json, JsonList, Member, MemberList, ReadError, append, canonical_reads, decimal_of,
@@ -9,45 +9,47 @@ use canonical_json::{
 use ebl_base::{CharList, NoMemory};
 use serde_json::Value;
 use std::alloc::{AllocError, Global};
+use std::process::Abort;
 use std::test::Fail;
 
 // RFC 8785, sections 3.2.2 and 3.2.3, and rows worked by hand from them.
+const TEXTS: [(&[u8], &[u8]); 12] = [
+    (b"{}", b"{}"),
+    (b" [ ] ", b"[]"),
+    // Long enough for the kit's writer.
+    (
+        b"\"0123456789012345678901234567890123456789012345678901234567890123456789\\u000a\\\"\\/\xc3\xa9\"",
+        b"\"0123456789012345678901234567890123456789012345678901234567890123456789\\n\\\"/\xc3\xa9\"",
+    ),
+    (
+        b"{\"string\": \"\\u20ac$\\u000F\\u000aA'\\u0042\\u0022\\u005c\\\\\\\"\\/\", \"literals\": [null, true, false]}",
+        b"{\"literals\":[null,true,false],\"string\":\"\xe2\x82\xac$\\u000f\\nA'B\\\"\\\\\\\\\\\"/\"}",
+    ),
+    (
+        b"{\"\\u20ac\": \"Euro Sign\", \"\\r\": \"Carriage Return\", \"\\ufb33\": \"Hebrew Letter Dalet With Dagesh\", \"1\": \"One\", \"\\ud83d\\ude00\": \"Emoji: Grinning Face\", \"\\u0080\": \"Control\", \"\\u00f6\": \"Latin Small Letter O With Diaeresis\"}",
+        b"{\"\\r\":\"Carriage Return\",\"1\":\"One\",\"\xc2\x80\":\"Control\",\"\xc3\xb6\":\"Latin Small Letter O With Diaeresis\",\"\xe2\x82\xac\":\"Euro Sign\",\"\xf0\x9f\x98\x80\":\"Emoji: Grinning Face\",\"\xef\xac\xb3\":\"Hebrew Letter Dalet With Dagesh\"}",
+    ),
+    (
+        b"{\"\\ufb33\":7,\"\\ud83d\\ude00\":6,\"\\u20ac\":5,\"\\u00f6\":4,\"\\u0080\":3,\"1\":2,\"\\r\":1}",
+        b"\x7b\x22\x5c\x72\x22\x3a\x31\x2c\x22\x31\x22\x3a\x32\x2c\x22\xc2\x80\x22\x3a\x33\x2c\x22\xc3\xb6\x22\x3a\x34\x2c\x22\xe2\x82\xac\x22\x3a\x35\x2c\x22\xf0\x9f\x98\x80\x22\x3a\x36\x2c\x22\xef\xac\xb3\x22\x3a\x37\x7d",
+    ),
+    (
+        b"\"\\u0000\\u0008\\u0009\\u000A\\u000C\\u000D\\u001F\\u0020\\u007F\\/\"",
+        b"\"\\u0000\\b\\t\\n\\f\\r\\u001f \x7f/\"",
+    ),
+    (b"9007199254740991", b"9007199254740991"),
+    (b"-9007199254740991", b"-9007199254740991"),
+    (b"[0,10,-1,100000000000]", b"[0,10,-1,100000000000]"),
+    (b"{\"b\":1,\"a\":2}", b"{\"a\":2,\"b\":1}"),
+    (
+        b"{\"aa\":1,\"a\":2,\"\":3,\"B\":4}",
+        b"{\"\":3,\"B\":4,\"a\":2,\"aa\":1}",
+    ),
+];
+
 #[test]
 fn the_text_is_that_of_rfc_8785(rt: HostRuntime) -> Result<(), Fail> {
-    let rows: [(&[u8], &[u8]); 12] = [
-        (b"{}", b"{}"),
-        (b" [ ] ", b"[]"),
-        // Long enough for the kit's writer.
-        (
-            b"\"0123456789012345678901234567890123456789012345678901234567890123456789\\u000a\\\"\\/\xc3\xa9\"",
-            b"\"0123456789012345678901234567890123456789012345678901234567890123456789\\n\\\"/\xc3\xa9\"",
-        ),
-        (
-            b"{\"string\": \"\\u20ac$\\u000F\\u000aA'\\u0042\\u0022\\u005c\\\\\\\"\\/\", \"literals\": [null, true, false]}",
-            b"{\"literals\":[null,true,false],\"string\":\"\xe2\x82\xac$\\u000f\\nA'B\\\"\\\\\\\\\\\"/\"}",
-        ),
-        (
-            b"{\"\\u20ac\": \"Euro Sign\", \"\\r\": \"Carriage Return\", \"\\ufb33\": \"Hebrew Letter Dalet With Dagesh\", \"1\": \"One\", \"\\ud83d\\ude00\": \"Emoji: Grinning Face\", \"\\u0080\": \"Control\", \"\\u00f6\": \"Latin Small Letter O With Diaeresis\"}",
-            b"{\"\\r\":\"Carriage Return\",\"1\":\"One\",\"\xc2\x80\":\"Control\",\"\xc3\xb6\":\"Latin Small Letter O With Diaeresis\",\"\xe2\x82\xac\":\"Euro Sign\",\"\xf0\x9f\x98\x80\":\"Emoji: Grinning Face\",\"\xef\xac\xb3\":\"Hebrew Letter Dalet With Dagesh\"}",
-        ),
-        (
-            b"{\"\\ufb33\":7,\"\\ud83d\\ude00\":6,\"\\u20ac\":5,\"\\u00f6\":4,\"\\u0080\":3,\"1\":2,\"\\r\":1}",
-            b"\x7b\x22\x5c\x72\x22\x3a\x31\x2c\x22\x31\x22\x3a\x32\x2c\x22\xc2\x80\x22\x3a\x33\x2c\x22\xc3\xb6\x22\x3a\x34\x2c\x22\xe2\x82\xac\x22\x3a\x35\x2c\x22\xf0\x9f\x98\x80\x22\x3a\x36\x2c\x22\xef\xac\xb3\x22\x3a\x37\x7d",
-        ),
-        (
-            b"\"\\u0000\\u0008\\u0009\\u000A\\u000C\\u000D\\u001F\\u0020\\u007F\\/\"",
-            b"\"\\u0000\\b\\t\\n\\f\\r\\u001f \x7f/\"",
-        ),
-        (b"9007199254740991", b"9007199254740991"),
-        (b"-9007199254740991", b"-9007199254740991"),
-        (b"[0,10,-1,100000000000]", b"[0,10,-1,100000000000]"),
-        (b"{\"b\":1,\"a\":2}", b"{\"a\":2,\"b\":1}"),
-        (
-            b"{\"aa\":1,\"a\":2,\"\":3,\"B\":4}",
-            b"{\"\":3,\"B\":4,\"a\":2,\"aa\":1}",
-        ),
-    ];
-    for (text, want) in rows {
+    for (text, want) in TEXTS {
         let json = read(rt.alloc(), text)?;
         assert!(rt; is_lawful(&json));
         assert_eq!(rt; write(rt.alloc(), &json)?.as_slice(), want);
@@ -56,96 +58,95 @@ fn the_text_is_that_of_rfc_8785(rt: HostRuntime) -> Result<(), Fail> {
 }
 
 // RFC 8259 and RFC 3629 say which texts are none; 2^53 - 1 and the forms of numbers are this crate's limits.
+const NONE: [&[u8]; 41] = [
+    b"",
+    b" ",
+    b"{",
+    b"[1,]",
+    b"{\"a\":1,}",
+    b"{a:1}",
+    b"'a'",
+    b"tru",
+    b"True",
+    b"NaN",
+    b"{} {}",
+    b"1 2",
+    b"[]x",
+    b"\xef\xbb\xbf{}",
+    // truncated and unknown escapes
+    b"\"\\",
+    b"\"\\\"",
+    b"\"\\u\"",
+    b"\"\\u12\"",
+    b"\"\\u123g\"",
+    b"\"\\x41\"",
+    // lone surrogates, in either half
+    b"\"\\ud800\"",
+    b"\"\\udc00\"",
+    b"\"\\ud83d\\ud83d\"",
+    b"\"\\ud83d\\u0041\"",
+    b"\"\\ude00\\ud83d\"",
+    // no UTF-8: overlong, above U+10FFFF, a surrogate, a stray byte
+    b"\"\xc0\xaf\"",
+    b"\"\xe0\x80\xaf\"",
+    b"\"\xf0\x80\x80\xaf\"",
+    b"\"\xf4\x90\x80\x80\"",
+    b"\"\xed\xa0\x80\"",
+    b"\"\xff\"",
+    b"\"\x80\"",
+    // control characters
+    b"\"\x00\"",
+    b"\"\n\"",
+    b"\"\x1f\"",
+    // numbers
+    b"01",
+    b"-01",
+    b"+1",
+    b".5",
+    b"1.",
+    b"1e",
+];
+
+const OTHERS: [(&[u8], ReadError); 21] = [
+    (b"{\"a\":1,\"\\u0061\":2}", ReadError::Repeated),
+    (b"{\"\":1,\"b\":{\"\":1,\"\":2}}", ReadError::Repeated),
+    (b"{\"/\":1,\"b\":2,\"\\/\":1}", ReadError::Repeated),
+    (
+        b"{\"\xf0\x9f\x98\x80\":1,\"\\uD83D\\ude00\":1}",
+        ReadError::Repeated,
+    ),
+    (b"{\"\\t\":1e3,\"\\u0009\":1}", ReadError::Repeated),
+    (
+        b"[1e400,{\"a\":9007199254740992,\"a\":1}]",
+        ReadError::Repeated,
+    ),
+    (b"1e3", ReadError::Fraction),
+    (b"1E-3", ReadError::Fraction),
+    (b"0e0", ReadError::Fraction),
+    (b"1e400", ReadError::Fraction),
+    (b"0.0000001", ReadError::Fraction),
+    (b"123456789012345.6", ReadError::Fraction),
+    (b"[9007199254740992,{\"a\":1e0}]", ReadError::Fraction),
+    (b"9007199254740992", ReadError::Range),
+    (b"9007199254740992.0", ReadError::Range),
+    (b"-9007199254740992", ReadError::Range),
+    (b"9223372036854775808", ReadError::Range),
+    (b"18446744073709551616", ReadError::Range),
+    (b"-9223372036854775809", ReadError::Range),
+    (
+        b"100000000000000000000000000000000000000000.000",
+        ReadError::Range,
+    ),
+    (b"{\"a\":[9007199254740992]}", ReadError::Range),
+];
+
 #[test]
 fn each_refusal_has_its_cause(rt: HostRuntime) -> Result<(), Fail> {
-    let none: [&[u8]; 41] = [
-        b"",
-        b" ",
-        b"{",
-        b"[1,]",
-        b"{\"a\":1,}",
-        b"{a:1}",
-        b"'a'",
-        b"tru",
-        b"True",
-        b"NaN",
-        b"{} {}",
-        b"1 2",
-        b"[]x",
-        b"\xef\xbb\xbf{}",
-        // truncated and unknown escapes
-        b"\"\\",
-        b"\"\\\"",
-        b"\"\\u\"",
-        b"\"\\u12\"",
-        b"\"\\u123g\"",
-        b"\"\\x41\"",
-        // lone surrogates, in either half
-        b"\"\\ud800\"",
-        b"\"\\udc00\"",
-        b"\"\\ud83d\\ud83d\"",
-        b"\"\\ud83d\\u0041\"",
-        b"\"\\ude00\\ud83d\"",
-        // no UTF-8: overlong, above U+10FFFF, a surrogate, a stray byte
-        b"\"\xc0\xaf\"",
-        b"\"\xe0\x80\xaf\"",
-        b"\"\xf0\x80\x80\xaf\"",
-        b"\"\xf4\x90\x80\x80\"",
-        b"\"\xed\xa0\x80\"",
-        b"\"\xff\"",
-        b"\"\x80\"",
-        // control characters
-        b"\"\x00\"",
-        b"\"\n\"",
-        b"\"\x1f\"",
-        // numbers
-        b"01",
-        b"-01",
-        b"+1",
-        b".5",
-        b"1.",
-        b"1e",
-    ];
-    for text in none {
-        assert_eq!(rt;
-            read(rt.alloc(), text).err(),
-            Some(ReadError::NotJson),
-            "{text:?}"
-        );
+    for text in NONE {
+        let refusal = read(rt.alloc(), text).err();
+        assert_eq!(rt; refusal, Some(ReadError::NotJson), "{text:?}");
     }
-    let others: [(&[u8], ReadError); 21] = [
-        (b"{\"a\":1,\"\\u0061\":2}", ReadError::Repeated),
-        (b"{\"\":1,\"b\":{\"\":1,\"\":2}}", ReadError::Repeated),
-        (b"{\"/\":1,\"b\":2,\"\\/\":1}", ReadError::Repeated),
-        (
-            b"{\"\xf0\x9f\x98\x80\":1,\"\\uD83D\\ude00\":1}",
-            ReadError::Repeated,
-        ),
-        (b"{\"\\t\":1e3,\"\\u0009\":1}", ReadError::Repeated),
-        (
-            b"[1e400,{\"a\":9007199254740992,\"a\":1}]",
-            ReadError::Repeated,
-        ),
-        (b"1e3", ReadError::Fraction),
-        (b"1E-3", ReadError::Fraction),
-        (b"0e0", ReadError::Fraction),
-        (b"1e400", ReadError::Fraction),
-        (b"0.0000001", ReadError::Fraction),
-        (b"123456789012345.6", ReadError::Fraction),
-        (b"[9007199254740992,{\"a\":1e0}]", ReadError::Fraction),
-        (b"9007199254740992", ReadError::Range),
-        (b"9007199254740992.0", ReadError::Range),
-        (b"-9007199254740992", ReadError::Range),
-        (b"9223372036854775808", ReadError::Range),
-        (b"18446744073709551616", ReadError::Range),
-        (b"-9223372036854775809", ReadError::Range),
-        (
-            b"100000000000000000000000000000000000000000.000",
-            ReadError::Range,
-        ),
-        (b"{\"a\":[9007199254740992]}", ReadError::Range),
-    ];
-    for (text, want) in others {
+    for (text, want) in OTHERS {
         assert_eq!(rt; read(rt.alloc(), text).err(), Some(want), "{text:?}");
         assert!(rt; read_if_any(rt.alloc(), text)?.is_none());
     }
@@ -153,36 +154,37 @@ fn each_refusal_has_its_cause(rt: HostRuntime) -> Result<(), Fail> {
 }
 
 // RFC 8785, section 3.2.2.3, with rows of its appendix B in our range, and the edges of a decimal.
+const NUMBERS: [(&[u8], &[u8]); 25] = [
+    (b"24000.50", b"24000.5"),
+    (b"-0", b"0"),
+    (b"-0.00", b"0"),
+    (b"1.0", b"1"),
+    (b"-1.000000000000000000000000000000", b"-1"),
+    (b"0.000001", b"0.000001"),
+    (b"-0.0000033333333333333333", b"-"),
+    (b"333333333.3333333", b"-"),
+    (b"333333333.333333", b"333333333.333333"),
+    (b"-333333333.333333", b"-333333333.333333"),
+    (b"4.50", b"4.5"),
+    (b"0.002", b"0.002"),
+    (b"12345678901234.5", b"12345678901234.5"),
+    (b"999999999999999.0", b"999999999999999"),
+    (b"9007199254740991.000", b"9007199254740991"),
+    (b"-9007199254740991.0", b"-9007199254740991"),
+    (b"99999999999999.9", b"99999999999999.9"),
+    (b"999999999999999.9", b"-"),
+    (b"0.1", b"0.1"),
+    (b"-0.10", b"-0.1"),
+    (b"0.00000123456789012345", b"0.00000123456789012345"),
+    (b"0.000001234567890123456", b"-"),
+    (b"0.000000999999999999999", b"-"),
+    (b"10.0000000000000", b"10"),
+    (b"0.123456789012345000", b"0.123456789012345"),
+];
+
 #[test]
 fn a_number_is_read_exactly(rt: HostRuntime) -> Result<(), Fail> {
-    let rows: [(&[u8], &[u8]); 25] = [
-        (b"24000.50", b"24000.5"),
-        (b"-0", b"0"),
-        (b"-0.00", b"0"),
-        (b"1.0", b"1"),
-        (b"-1.000000000000000000000000000000", b"-1"),
-        (b"0.000001", b"0.000001"),
-        (b"-0.0000033333333333333333", b"-"),
-        (b"333333333.3333333", b"-"),
-        (b"333333333.333333", b"333333333.333333"),
-        (b"-333333333.333333", b"-333333333.333333"),
-        (b"4.50", b"4.5"),
-        (b"0.002", b"0.002"),
-        (b"12345678901234.5", b"12345678901234.5"),
-        (b"999999999999999.0", b"999999999999999"),
-        (b"9007199254740991.000", b"9007199254740991"),
-        (b"-9007199254740991.0", b"-9007199254740991"),
-        (b"99999999999999.9", b"99999999999999.9"),
-        (b"999999999999999.9", b"-"),
-        (b"0.1", b"0.1"),
-        (b"-0.10", b"-0.1"),
-        (b"0.00000123456789012345", b"0.00000123456789012345"),
-        (b"0.000001234567890123456", b"-"),
-        (b"0.000000999999999999999", b"-"),
-        (b"10.0000000000000", b"10"),
-        (b"0.123456789012345000", b"0.123456789012345"),
-    ];
-    for (text, want) in rows {
+    for (text, want) in NUMBERS {
         let read = read(rt.alloc(), text);
         if want == b"-".as_slice() {
             assert_eq!(rt; read.err(), Some(ReadError::Fraction), "{text:?}");
@@ -193,26 +195,36 @@ fn a_number_is_read_exactly(rt: HostRuntime) -> Result<(), Fail> {
     Ok(())
 }
 
+// A decimal is lawful and reads back up to a scale, and isn't read beyond it.
+fn scale_row(
+    rt: &impl Abort,
+    alloc: Global,
+    digits: i64,
+    scale: u32,
+    most: u32,
+) -> Result<(), Fail> {
+    let json = Json::Decimal { digits, scale };
+    assert_eq!(rt; is_lawful(&json), scale <= most);
+    let text = write(alloc, &json)?;
+    match read(alloc, text.as_slice()) {
+        Ok(back) => {
+            assert!(rt; scale <= most);
+            assert_eq!(rt; write(alloc, &back)?.as_slice(), text.as_slice());
+        }
+        Err(e) => {
+            assert!(rt; most < scale);
+            assert_eq!(rt; e, ReadError::Fraction);
+        }
+    }
+    Ok(())
+}
+
 // One digit at each scale: 10^-6 is the least, and 15 digits below it are the most.
 #[test]
 fn each_scale_has_its_edge(rt: HostRuntime) -> Result<(), Fail> {
-    let alloc = rt.alloc();
     for scale in 1..22 {
-        for (digits, most) in [(1, 6), (999_999_999_999_999, 20)] {
-            let json = Json::Decimal { digits, scale };
-            assert_eq!(rt; is_lawful(&json), scale <= most);
-            let text = write(alloc, &json)?;
-            match read(alloc, text.as_slice()) {
-                Ok(back) => {
-                    assert!(rt; scale <= most);
-                    assert_eq!(rt; write(alloc, &back)?.as_slice(), text.as_slice());
-                }
-                Err(e) => {
-                    assert!(rt; most < scale);
-                    assert_eq!(rt; e, ReadError::Fraction);
-                }
-            }
-        }
+        scale_row(&rt, rt.alloc(), 1, scale, 6)?;
+        scale_row(&rt, rt.alloc(), 999_999_999_999_999, scale, 20)?;
     }
     Ok(())
 }
@@ -236,20 +248,45 @@ fn nested(
     Ok(text)
 }
 
+fn nesting_row(
+    rt: &impl Abort,
+    alloc: Global,
+    open: &[u8],
+    middle: &[u8],
+    close: u8,
+) -> Result<(), Fail> {
+    let deepest = nested(alloc, open, middle, close, 127)?;
+    let json = read(alloc, &deepest)?;
+    assert_eq!(rt; write(alloc, &json)?.as_slice(), deepest.as_slice());
+    let deeper = nested(alloc, open, middle, close, 128)?;
+    assert_eq!(rt; read(alloc, &deeper).err(), Some(ReadError::NotJson));
+    Ok(())
+}
+
 #[test]
 fn a_value_nests_127_deep(rt: HostRuntime) -> Result<(), Fail> {
-    let alloc = rt.alloc();
-    for (open, middle, close) in [
-        (&b"["[..], &b""[..], b']'),
-        (&b"{\"a\":"[..], &b"1"[..], b'}'),
-    ] {
-        let deepest = nested(alloc, open, middle, close, 127)?;
-        let json = read(alloc, &deepest)?;
-        assert_eq!(rt; write(alloc, &json)?.as_slice(), deepest.as_slice());
-        let deeper = nested(alloc, open, middle, close, 128)?;
-        assert_eq!(rt; read(alloc, &deeper).err(), Some(ReadError::NotJson));
+    nesting_row(&rt, rt.alloc(), b"[", b"", b']')?;
+    nesting_row(&rt, rt.alloc(), b"{\"a\":", b"1", b'}')
+}
+
+fn assert_found(rt: &impl Abort, json: &Json) {
+    assert_eq!(rt; text_of(json, "t").map(|t| t.as_str()), Some("at sea"));
+    assert_eq!(rt; int_of(json, "n"), Some(-7));
+    assert_eq!(rt; decimal_of(json, "d"), Some((-25, 2)));
+    assert_eq!(rt; flag_of(json, "f"), Some(false));
+    assert_eq!(rt; list_of(json, "l").map(|l| l.len()), Some(2));
+    assert!(rt; matches!(member_of(json, "o"), Some(Json::Object(_))));
+}
+
+fn assert_not_found(rt: &impl Abort, json: &Json) {
+    for name in ["f", "x", "", "tt"] {
+        assert!(rt; text_of(json, name).is_none());
+        assert!(rt; int_of(json, name).is_none());
+        assert!(rt; decimal_of(json, name).is_none());
+        assert!(rt; list_of(json, name).is_none());
     }
-    Ok(())
+    assert!(rt; flag_of(json, "t").is_none());
+    assert!(rt; member_of(&Json::Null, "t").is_none());
 }
 
 #[test]
@@ -258,51 +295,53 @@ fn members_are_found_by_their_names(rt: HostRuntime) -> Result<(), Fail> {
         rt.alloc(),
         b"{\"d\":-0.25,\"f\":false,\"l\":[1,2],\"n\":-7,\"o\":{\"x\":null},\"t\":\"at sea\"}",
     )?;
-    assert_eq!(rt; text_of(&json, "t").map(|t| t.as_str()), Some("at sea"));
-    assert_eq!(rt; int_of(&json, "n"), Some(-7));
-    assert_eq!(rt; decimal_of(&json, "d"), Some((-25, 2)));
-    assert_eq!(rt; flag_of(&json, "f"), Some(false));
-    assert_eq!(rt; list_of(&json, "l").map(|l| l.len()), Some(2));
-    assert!(rt; matches!(member_of(&json, "o"), Some(Json::Object(_))));
-    for name in ["f", "x", "", "tt"] {
-        assert!(rt; text_of(&json, name).is_none());
-        assert!(rt; int_of(&json, name).is_none());
-        assert!(rt; decimal_of(&json, name).is_none());
-        assert!(rt; list_of(&json, name).is_none());
-    }
-    assert!(rt; flag_of(&json, "t").is_none());
-    assert!(rt; member_of(&Json::Null, "t").is_none());
+    assert_found(&rt, &json);
+    assert_not_found(&rt, &json);
     Ok(())
+}
+
+fn members_in(alloc: Global, text: &[u8]) -> Result<Vec<Member>, Fail> {
+    match read(alloc, text)? {
+        Json::Object(members) => Ok(members.into_vec()),
+        _ => Err("an object".into()),
+    }
+}
+
+// What is taken out under a name.
+fn taken(members: &mut Vec<Member>, name: &str) -> &'static str {
+    match take_member(members, name) {
+        Some(Json::List(_)) => "a list",
+        Some(Json::Null) => "null",
+        Some(_) => "another value",
+        None => "none",
+    }
 }
 
 #[test]
 fn a_member_is_taken_out(rt: HostRuntime) -> Result<(), Fail> {
     let alloc = rt.alloc();
-    let Json::Object(members) = read(alloc, b"{\"a\":[1],\"b\":\"x\\n\",\"c\":null}")? else {
-        assert!(rt; false);
-        return Ok(());
-    };
-    let mut members = members.into_vec();
-    assert!(rt; take_member(&mut members, "d").is_none());
-    assert!(rt; matches!(take_member(&mut members, "a"), Some(Json::List(_))));
-    assert!(rt; take_member(&mut members, "a").is_none());
-    assert!(rt; matches!(take_member(&mut members, "c"), Some(Json::Null)));
+    let mut members = members_in(alloc, b"{\"a\":[1],\"b\":\"x\\n\",\"c\":null}")?;
+    for (name, want) in [("d", "none"), ("a", "a list"), ("a", "none"), ("c", "null")] {
+        assert_eq!(rt; taken(&mut members, name), want, "{name}");
+    }
     let left = Json::Object(MemberList::from_vec(members));
     assert_eq!(rt;
         write(alloc, &left)?.as_slice(),
         b"{\"b\":\"x\\n\"}".as_slice()
     );
-    assert_eq!(rt;
-        write_text(alloc, b"x\n")?.as_slice(),
-        b"\"x\\n\"".as_slice()
-    );
-    assert_eq!(rt;
-        write_text(alloc, b"\xff\n")?.as_slice(),
-        b"\"\xff\\n\"".as_slice()
-    );
     let mut out = Vec::from_slice(alloc, b"= ")?;
     append(&mut out, &left)?;
     assert_eq!(rt; out.as_slice(), b"= {\"b\":\"x\\n\"}".as_slice());
+    Ok(())
+}
+
+#[test]
+fn a_text_is_written_alone(rt: HostRuntime) -> Result<(), Fail> {
+    let alloc = rt.alloc();
+    let text = write_text(alloc, b"x\n")?;
+    assert_eq!(rt; text.as_slice(), b"\"x\\n\"".as_slice());
+    let text = write_text(alloc, b"\xff\n")?;
+    assert_eq!(rt; text.as_slice(), b"\"\xff\\n\"".as_slice());
     Ok(())
 }
 
@@ -317,49 +356,52 @@ fn pair(alloc: Global, first: &str, second: &str, number: i64) -> Result<Json, N
     Ok(Json::Object(MemberList::from_vec(members)))
 }
 
+// A list of a flag and such an object.
+fn built(alloc: Global, first: &str, second: &str, number: i64) -> Result<Json, NoMemory> {
+    let mut items = Vec::new(alloc);
+    items.push(Json::Flag(true))?;
+    items.push(pair(alloc, first, second, number)?)?;
+    Ok(Json::List(JsonList::from_vec(items)))
+}
+
+// The names of two members and a number, and whether the value that is built of them is lawful.
+const BUILT: [(&str, &str, i64, bool); 7] = [
+    ("a", "b", 1, true),
+    ("\u{1F600}", "\u{FB33}", 9_007_199_254_740_991, true),
+    ("\u{FB33}", "\u{1F600}", 1, false),
+    ("b", "a", 1, false),
+    ("a", "a", 1, false),
+    ("a", "b", 9_007_199_254_740_992, false),
+    ("a", "b", -9_007_199_254_740_992, false),
+];
+
 #[test]
 fn values_are_built_and_copied(rt: HostRuntime) -> Result<(), Fail> {
     let alloc = rt.alloc();
-    for (first, second, number, lawful) in [
-        ("a", "b", 1, true),
-        ("\u{1F600}", "\u{FB33}", 9_007_199_254_740_991, true),
-        ("\u{FB33}", "\u{1F600}", 1, false),
-        ("b", "a", 1, false),
-        ("a", "a", 1, false),
-        ("a", "b", 9_007_199_254_740_992, false),
-        ("a", "b", -9_007_199_254_740_992, false),
-    ] {
-        let mut items = Vec::new(alloc);
-        items.push(Json::Flag(true))?;
-        items.push(pair(alloc, first, second, number)?)?;
-        let json = Json::List(JsonList::from_vec(items));
+    for (first, second, number, lawful) in BUILT {
+        let json = built(alloc, first, second, number)?;
         assert_eq!(rt; is_lawful(&json), lawful);
         let copy = json.copy(alloc)?;
-        assert_eq!(rt;
-            write(alloc, &copy)?.as_slice(),
-            write(alloc, &json)?.as_slice()
-        );
+        let text = write(alloc, &json)?;
+        assert_eq!(rt; write(alloc, &copy)?.as_slice(), text.as_slice());
     }
-    let list = JsonList::new(alloc).copy(alloc)?;
-    assert_eq!(rt;
-        (list.len(), list.as_slice().len(), list.into_vec().len()),
-        (0, 0, 0)
-    );
-    let members = MemberList::new(alloc).copy(alloc)?;
-    assert_eq!(rt;
-        (
-            members.len(),
-            members.as_slice().len(),
-            members.into_vec().len()
-        ),
-        (0, 0, 0)
-    );
-    let member = Member::new(CharList::from_text(alloc, "a")?, Json::Int(7)).copy(alloc)?;
-    assert_eq!(rt; member.name.as_str(), "a");
-    assert!(rt; matches!(member.value, Json::Int(7)));
     canonical_reads();
     equal_texts_have_equal_values();
     formerly_read_is_read_alike();
+    Ok(())
+}
+
+#[test]
+fn lists_of_values_are_copied(rt: HostRuntime) -> Result<(), Fail> {
+    let list = JsonList::new(rt.alloc()).copy(rt.alloc())?;
+    assert_eq!(rt; (list.len(), list.as_slice().len()), (0, 0));
+    assert_eq!(rt; list.into_vec().len(), 0);
+    let members = MemberList::new(rt.alloc()).copy(rt.alloc())?;
+    assert_eq!(rt; (members.len(), members.as_slice().len()), (0, 0));
+    assert_eq!(rt; members.into_vec().len(), 0);
+    let member = named(rt.alloc(), "a", Json::Int(7))?.copy(rt.alloc())?;
+    assert_eq!(rt; member.name.as_str(), "a");
+    assert!(rt; matches!(member.value, Json::Int(7)));
     Ok(())
 }
 
@@ -377,99 +419,119 @@ fn pick<'a>(texts: &[&'a [u8]], state: u64) -> &'a [u8]
     texts[(state >> 33) as usize % texts.len()]
 }
 
-// Pieces of JSON, which are mostly no JSON when they are put together.
+// Pieces of JSON.
+const PIECES: [&[u8]; 22] = [
+    b"{",
+    b"}",
+    b"[",
+    b"]",
+    b",",
+    b":",
+    b"\"a\"",
+    b"\"b\":",
+    b"\"\\ud83d\"",
+    b"\"\xc3\xa9\"",
+    b"1",
+    b"-0",
+    b"-",
+    b"0.5",
+    b"2.50",
+    b"1e3 ",
+    b"true",
+    b"null",
+    b" ",
+    b"[1,2]",
+    b"{\"a\":3,\"b\":[]}",
+    b"\xff",
+];
+
+// Pieces that are mostly no JSON when they are put together.
 fn some_pieces(alloc: Global, seed: u64) -> Result<Vec<u8>, AllocError> {
-    let pieces: [&[u8]; 22] = [
-        b"{",
-        b"}",
-        b"[",
-        b"]",
-        b",",
-        b":",
-        b"\"a\"",
-        b"\"b\":",
-        b"\"\\ud83d\"",
-        b"\"\xc3\xa9\"",
-        b"1",
-        b"-0",
-        b"-",
-        b"0.5",
-        b"2.50",
-        b"1e3 ",
-        b"true",
-        b"null",
-        b" ",
-        b"[1,2]",
-        b"{\"a\":3,\"b\":[]}",
-        b"\xff",
-    ];
     let mut text = Vec::new(alloc);
     let mut state = next(seed);
     for _ in 0..(1 + state % 7) {
         state = next(state);
-        text.extend_from_slice(pick(&pieces, state))?;
+        text.extend_from_slice(pick(&PIECES, state))?;
     }
     Ok(text)
 }
 
+const NAMES: [&[u8]; 5] = [
+    b"\"a\"",
+    b"\"\\u0061\"",
+    b" \"\"",
+    b"\"\\ud83d\\ude00\"",
+    b"\"\xf0\x9f\x98\x80\" ",
+];
+
+const VALUES: [&[u8]; 8] = [
+    b"1",
+    b"-0.0",
+    b"2.50",
+    b"1e3",
+    b"9007199254740992",
+    b"[null]",
+    b"{\"b\":0,\"a\":\"\\/\"}",
+    b"01",
+];
+
 // An object of two members, whose names are often one.
 fn some_object(alloc: Global, seed: u64) -> Result<Vec<u8>, AllocError> {
-    let names: [&[u8]; 5] = [
-        b"\"a\"",
-        b"\"\\u0061\"",
-        b" \"\"",
-        b"\"\\ud83d\\ude00\"",
-        b"\"\xf0\x9f\x98\x80\" ",
-    ];
-    let values: [&[u8]; 8] = [
-        b"1",
-        b"-0.0",
-        b"2.50",
-        b"1e3",
-        b"9007199254740992",
-        b"[null]",
-        b"{\"b\":0,\"a\":\"\\/\"}",
-        b"01",
-    ];
     let mut state = seed;
     let mut text = Vec::new(alloc);
     for before in [b"{".as_slice(), b","] {
         text.extend_from_slice(before)?;
         state = next(state);
-        text.extend_from_slice(pick(&names, state))?;
+        text.extend_from_slice(pick(&NAMES, state))?;
         text.extend_from_slice(b":")?;
         state = next(state);
-        text.extend_from_slice(pick(&values, state))?;
+        text.extend_from_slice(pick(&VALUES, state))?;
     }
     text.extend_from_slice(b"}")?;
     Ok(text)
 }
 
-// What is no JSON here is none to `serde_json`, and the other way round; what is read is written so that it
-// reads back.
+fn some_text(alloc: Global, seed: u64) -> Result<Vec<u8>, AllocError> {
+    if seed % 2 == 0 {
+        some_pieces(alloc, seed)
+    } else {
+        some_object(alloc, seed)
+    }
+}
+
+// What is read is written so that it reads back.
+fn assert_reads_back(rt: &impl Abort, alloc: Global, json: &Json) -> Result<(), Fail> {
+    let canon = write(alloc, json)?;
+    let back = read(alloc, canon.as_slice())?;
+    assert_eq!(rt; write(alloc, &back)?.as_slice(), canon.as_slice());
+    Ok(())
+}
+
+// 0 of a value, else a number of the cause.
+fn answer(rt: &impl Abort, alloc: Global, text: &[u8]) -> Result<usize, Fail>
+    ensures { IfOk result (λ number. number < 5) }
+{
+    match read(alloc, text) {
+        Ok(json) => {
+            assert_reads_back(rt, alloc, &json)?;
+            Ok(0)
+        }
+        Err(ReadError::NotJson) => Ok(1),
+        Err(ReadError::Repeated) => Ok(2),
+        Err(ReadError::Fraction) => Ok(3),
+        Err(_) => Ok(4),
+    }
+}
+
+// What is no JSON here is none to `serde_json`, and the other way round.
 #[test]
 fn the_grammar_is_that_of_serde_json(rt: HostRuntime) -> Result<(), Fail> {
     let alloc = rt.alloc();
     let mut counts = [0u64; 5];
     for seed in 0..10_000u64 {
-        let text = if seed % 2 == 0 {
-            some_pieces(alloc, seed)?
-        } else {
-            some_object(alloc, seed)?
-        };
+        let text = some_text(alloc, seed)?;
         let there = Value::from_slice(alloc, text.as_slice()).is_ok();
-        let answer = match read(alloc, text.as_slice()) {
-            Ok(json) => {
-                let canon = write(alloc, &json)?;
-                let back = read(alloc, canon.as_slice())?;
-                assert_eq!(rt; write(alloc, &back)?.as_slice(), canon.as_slice());
-                0
-            }
-            Err(ReadError::NotJson) => 1,
-            Err(ReadError::Repeated) => 2,
-            Err(ReadError::Fraction) => 3,
-            Err(_) => 4,
-        };
+        let answer = answer(&rt, alloc, text.as_slice())?;
         assert_eq!(rt; there, answer != 1, "{text:?}");
         counts[answer] = counts[answer].saturating_add(1);
     }

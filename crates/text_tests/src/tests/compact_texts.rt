@@ -1,72 +1,93 @@
 //! Which texts have parts. `signed_texts` shows the rest.
 use ebl_base::{Copied, Signature};
-use signed_envelope::{BadSigned, SplitFault, is_compact, split};
+use signed_envelope::{BadSigned, Parts, SplitFault, is_compact, split};
+use std::alloc::{AllocError, Global};
+use std::process::Abort;
 use std::test::Fail;
 
 // `{}`, `{}` and one zero byte.
 const GOOD: &str = "e30.e30.AA";
 
-#[test]
-fn parts(rt: HostRuntime) -> Result<(), Fail> {
-    let parts = split(rt.alloc(), GOOD.as_bytes(), 10)?;
+fn assert_good(rt: &impl Abort, parts: &Parts) {
     assert_eq!(rt; parts.header.as_slice(), b"{}".as_slice());
     assert_eq!(rt; parts.payload.as_slice(), b"{}".as_slice());
     assert_eq!(rt; parts.signature.as_bytes(), [0].as_slice());
     assert_eq!(rt; parts.input_len, 7);
-    // A header and a payload of no bytes are parts too.
-    let parts = split(rt.alloc(), b"..AA", 10)?;
-    assert!(rt; parts.header.is_empty() && parts.payload.is_empty());
+}
+
+#[test]
+fn parts(rt: HostRuntime) -> Result<(), Fail> {
+    let parts = split(rt.alloc(), GOOD.as_bytes(), 10)?;
+    assert_good(&rt, &parts);
     Ok(())
+}
+
+#[test]
+fn parts_of_no_bytes(rt: HostRuntime) -> Result<(), Fail> {
+    let parts = split(rt.alloc(), b"..AA", 10)?;
+    assert!(rt; parts.header.is_empty());
+    assert!(rt; parts.payload.is_empty());
+    Ok(())
+}
+
+// A text with a signature of so many characters.
+fn with_signature(alloc: Global, count: usize) -> Result<Vec<u8>, AllocError> {
+    let mut text = b"e30.e30.".to_vec(alloc)?;
+    for _ in 0..count {
+        text.push(b'A')?;
+    }
+    Ok(text)
 }
 
 #[test]
 fn longest_signature(rt: HostRuntime) -> Result<(), Fail> {
-    let mut text = b"e30.e30.".to_vec(rt.alloc())?;
-    for _ in 0..86 {
-        text.push(b'A')?;
-    }
-    let parts = split(rt.alloc(), &text, 1000)?;
+    let longest = with_signature(rt.alloc(), 86)?;
+    let parts = split(rt.alloc(), &longest, 1000)?;
     assert_eq!(rt; parts.signature.as_bytes().len(), 64);
-    text.push(b'A')?;
-    assert_eq!(rt;
-        split(rt.alloc(), &text, 1000).err(),
-        Some(SplitFault::NotCompact)
-    );
-    assert_eq!(rt; Signature::try_new(&[0; 65]), None);
-    assert_eq!(rt; Signature::try_new(&[]), None);
+    let longer = with_signature(rt.alloc(), 87)?;
+    let fault = split(rt.alloc(), &longer, 1000).err();
+    assert_eq!(rt; fault, Some(SplitFault::NotCompact));
     Ok(())
 }
 
 #[test]
+fn lengths_of_no_signature(rt: HostRuntime) {
+    assert_eq!(rt; Signature::try_new(&[0; 65]), None);
+    assert_eq!(rt; Signature::try_new(&[]), None);
+}
+
+const NOT_COMPACT: [&str; 22] = [
+    "",
+    ".",
+    "..",
+    "e30",
+    "e30.e30",
+    "e30.e30.",
+    "e30.e30.AA.",
+    "e30.e30.AA.AA",
+    // Padding.
+    "e30=.e30.AA",
+    "e30.e30=.AA",
+    "e30.e30.AA==",
+    // Bits at the end that are not zero.
+    "e31.e30.AA",
+    "e30.e31.AA",
+    "e30.e30.AB",
+    // A character alone.
+    "e.e30.AA",
+    "e30.e30.A",
+    // The other alphabet of base64, and no alphabet.
+    "ey+-.e30.AA",
+    "e30.ey/-.AA",
+    "e3 .e30.AA",
+    "e30.e30.AA\n",
+    " e30.e30.AA",
+    "e30.e30.\u{e9}A",
+];
+
+#[test]
 fn other_forms(rt: HostRuntime) {
-    for text in [
-        "",
-        ".",
-        "..",
-        "e30",
-        "e30.e30",
-        "e30.e30.",
-        "e30.e30.AA.",
-        "e30.e30.AA.AA",
-        // Padding.
-        "e30=.e30.AA",
-        "e30.e30=.AA",
-        "e30.e30.AA==",
-        // Bits at the end that are not zero.
-        "e31.e30.AA",
-        "e30.e31.AA",
-        "e30.e30.AB",
-        // A character alone.
-        "e.e30.AA",
-        "e30.e30.A",
-        // The other alphabet of base64, and no alphabet.
-        "ey+-.e30.AA",
-        "e30.ey/-.AA",
-        "e3 .e30.AA",
-        "e30.e30.AA\n",
-        " e30.e30.AA",
-        "e30.e30.\u{e9}A",
-    ] {
+    for text in NOT_COMPACT {
         let fault = split(rt.alloc(), text.as_bytes(), 100).err();
         assert_eq!(rt; fault, Some(SplitFault::NotCompact), "{text}");
     }
@@ -75,12 +96,8 @@ fn other_forms(rt: HostRuntime) {
 
 #[test]
 fn copied_parts(rt: HostRuntime) -> Result<(), Fail> {
-    let parts = split(rt.alloc(), GOOD.as_bytes(), 10)?;
-    let copy = parts.copy(rt.alloc())?;
-    assert_eq!(rt; copy.header.as_slice(), b"{}".as_slice());
-    assert_eq!(rt; copy.payload.as_slice(), b"{}".as_slice());
-    assert_eq!(rt; copy.signature, parts.signature);
-    assert_eq!(rt; copy.input_len, 7);
+    let copy = split(rt.alloc(), GOOD.as_bytes(), 10)?.copy(rt.alloc())?;
+    assert_good(&rt, &copy);
     Ok(())
 }
 

@@ -1,57 +1,76 @@
 //! Values in and out of each form. In these texts `'` stands for `"`.
 use crate::tests::making::json;
-use canonical_json::{Json, read, write};
-use ebl_base::{ByteList, Checksum, NoMemory, Party, PlatformCode};
+use canonical_json::{Json, Member, read, write};
+use ebl_base::{ByteList, Checksum, ChecksumList, NoMemory, Party, PlatformCode};
 use json_forms::{
     Malformed, checksums_in, checksums_json, number_json, number_member, object_json,
     optional_checksum, optional_party, optional_text, party_member, required_checksum,
     required_items, required_number, required_party, required_platform,
 };
 use std::alloc::Global;
+use std::process::Abort;
 use std::test::Fail;
+
+fn assert_members(rt: &impl Abort, object: &Json) {
+    assert!(rt; required_platform(object, "at") == PlatformCode::try_new(b"ALPH"));
+    assert!(rt; required_platform(object, "by").is_none());
+    assert!(rt; required_party(object, "by") == Party::from_text(b"ALPH/EXPORT"));
+    assert!(rt; required_party(object, "at").is_none());
+    assert!(rt; required_checksum(object, "at").is_none());
+}
+
+fn assert_optional_members(rt: &impl Abort, object: &Json) {
+    assert!(rt; optional_party(object, "by") == Ok(Party::from_text(b"ALPH/EXPORT")));
+    assert!(rt; optional_party(object, "to") == Ok(None));
+    assert!(rt; optional_party(object, "none") == Err(Malformed));
+    assert!(rt; optional_checksum(object, "none") == Err(Malformed));
+    assert!(rt; optional_text(object, "n").is_err());
+}
 
 #[test]
 fn members_under_their_names(rt: HostRuntime) -> Result<(), Fail> {
-    let object = json(
-        rt.alloc(),
-        "{'at':'ALPH','by':'ALPH/EXPORT','n':3,'none':null}",
-    )
-    .ok()
-    .ok_or("json")?;
-    assert!(rt; required_platform(&object, "at") == PlatformCode::try_new(b"ALPH"));
-    assert!(rt; required_platform(&object, "by").is_none());
-    assert!(rt; required_party(&object, "by") == Party::from_text(b"ALPH/EXPORT"));
-    assert!(rt; required_party(&object, "at").is_none());
-    assert!(rt; required_checksum(&object, "at").is_none());
-    assert!(rt; optional_party(&object, "by") == Ok(Party::from_text(b"ALPH/EXPORT")));
-    assert!(rt; optional_party(&object, "to") == Ok(None));
-    assert!(rt; optional_party(&object, "none") == Err(Malformed));
-    assert!(rt; optional_checksum(&object, "none") == Err(Malformed));
-    assert!(rt; optional_text(&object, "n").is_err());
+    let text = "{'at':'ALPH','by':'ALPH/EXPORT','n':3,'none':null}";
+    let object = json(rt.alloc(), text)?;
+    assert_members(&rt, &object);
+    assert_optional_members(&rt, &object);
     Ok(())
 }
+
+// A name, the range of its number, and the number.
+const NUMBERS: [(&str, u64, u64, Option<u64>); 6] = [
+    ("n", 3, 3, Some(3)),
+    ("n", 4, 9, None),
+    ("n", 0, 2, None),
+    ("below", 0, u64::MAX, None),
+    ("text", 0, 9, None),
+    ("other", 0, 9, None),
+];
 
 #[test]
 fn whole_numbers_in_their_range(rt: HostRuntime) -> Result<(), Fail> {
-    let object = json(rt.alloc(), "{'n':3,'below':-1,'text':'3'}")
-        .ok()
-        .ok_or("json")?;
-    assert_eq!(rt; required_number(&object, "n", 3, 3), Some(3));
-    assert_eq!(rt; required_number(&object, "n", 4, 9), None);
-    assert_eq!(rt; required_number(&object, "n", 0, 2), None);
-    assert_eq!(rt; required_number(&object, "below", 0, u64::MAX), None);
-    assert_eq!(rt; required_number(&object, "text", 0, 9), None);
-    assert_eq!(rt; required_number(&object, "other", 0, 9), None);
+    let object = json(rt.alloc(), "{'n':3,'below':-1,'text':'3'}")?;
+    for (name, least, most, want) in NUMBERS {
+        let found = required_number(&object, name, least, most);
+        assert_eq!(rt; found, want, "{name}");
+    }
     Ok(())
 }
 
+// A name, the range of its list's length, and whether it has one.
+const LENGTHS: [(&str, usize, usize, bool); 4] = [
+    ("l", 2, 2, true),
+    ("l", 0, 1, false),
+    ("l", 3, 4, false),
+    ("o", 0, 1, false),
+];
+
 #[test]
 fn lists_of_a_stated_length(rt: HostRuntime) -> Result<(), Fail> {
-    let object = json(rt.alloc(), "{'l':[1,2],'o':{}}").ok().ok_or("json")?;
-    assert!(rt; required_items(&object, "l", 2, 2).is_some());
-    assert!(rt; required_items(&object, "l", 0, 1).is_none());
-    assert!(rt; required_items(&object, "l", 3, 4).is_none());
-    assert!(rt; required_items(&object, "o", 0, 1).is_none());
+    let object = json(rt.alloc(), "{'l':[1,2],'o':{}}")?;
+    for (name, least, most, want) in LENGTHS {
+        let found = required_items(&object, name, least, most);
+        assert_eq!(rt; found.is_some(), want, "{name}");
+    }
     Ok(())
 }
 
@@ -60,65 +79,62 @@ fn written(alloc: Global, checksums: &[Checksum]) -> Result<ByteList, NoMemory> 
     write(alloc, &json)
 }
 
+// The checksums that a list is, if it is one of checksums.
+fn found(alloc: Global, list: &Json) -> Result<Option<ChecksumList>, Fail> {
+    match list {
+        Json::List(items) => Ok(checksums_in(alloc, items.as_slice())?),
+        _ => Err("a list".into()),
+    }
+}
+
 #[test]
 fn checksums_there_and_back(rt: HostRuntime) -> Result<(), Fail> {
     let two = [Checksum([0; 32]), Checksum([255; 32])];
-    let text = written(rt.alloc(), &two).ok().ok_or("memory")?;
+    let text = written(rt.alloc(), &two)?;
     assert_eq!(rt; text.len(), 2 * 66 + 3);
-    let list = read(rt.alloc(), text.as_slice()).ok().ok_or("json")?;
-    let Json::List(items) = list else {
-        return Err("a list".into());
-    };
-    let found = checksums_in(rt.alloc(), items.as_slice())
-        .ok()
-        .ok_or("memory")?
-        .ok_or("checksums")?;
+    let list = read(rt.alloc(), text.as_slice())?;
+    let found = found(rt.alloc(), &list)?.ok_or("checksums")?;
     assert!(rt; found.as_slice() == two.as_slice());
-    let Json::List(mixed) = json(rt.alloc(), "['44']").ok().ok_or("json")? else {
-        return Err("a list".into());
-    };
-    assert!(rt;
-        checksums_in(rt.alloc(), mixed.as_slice())
-            .ok()
-            .ok_or("memory")?
-            .is_none()
-    );
     Ok(())
+}
+
+#[test]
+fn a_list_of_another_text_has_no_checksums(rt: HostRuntime) -> Result<(), Fail> {
+    let mixed = json(rt.alloc(), "['44']")?;
+    assert!(rt; found(rt.alloc(), &mixed)?.is_none());
+    Ok(())
+}
+
+fn two_members(alloc: Global, party: Party) -> Result<Vec<Member>, NoMemory> {
+    let mut members = Vec::new(alloc);
+    members.push(party_member(alloc, "actor", party)?)?;
+    members.push(number_member(alloc, "time", 9_007_199_254_740_991)?)?;
+    Ok(members)
 }
 
 #[test]
 fn members_written(rt: HostRuntime) -> Result<(), Fail> {
     let party = Party::from_text(b"ALPH/EXPORT").ok_or("a party")?;
-    let members = vec![in rt.alloc();
-        party_member(rt.alloc(), "actor", party)
-            .ok()
-            .ok_or("memory")?,
-        number_member(rt.alloc(), "time", 9_007_199_254_740_991)
-            .ok()
-            .ok_or("memory")?,
-    ]
-    .ok()
-    .ok_or("memory")?;
-    let text = write(rt.alloc(), &object_json(members))
-        .ok()
-        .ok_or("memory")?;
+    let object = object_json(two_members(rt.alloc(), party)?);
+    let text = write(rt.alloc(), &object)?;
     assert!(rt;
         text.as_slice() == b"{\"actor\":\"ALPH/EXPORT\",\"time\":9007199254740991}".as_slice()
     );
     Ok(())
 }
 
+// A number, and what is written of it.
+const WRITTEN: [(u64, &str); 4] = [
+    (0, "0"),
+    (9_007_199_254_740_991, "9007199254740991"),
+    (9_007_199_254_740_992, "9007199254740991"),
+    (u64::MAX, "9007199254740991"),
+];
+
 #[test]
 fn numbers_past_the_greatest_are_the_greatest(rt: HostRuntime) -> Result<(), Fail> {
-    for (number, canonical) in [
-        (0, "0"),
-        (9_007_199_254_740_991, "9007199254740991"),
-        (9_007_199_254_740_992, "9007199254740991"),
-        (u64::MAX, "9007199254740991"),
-    ] {
-        let text = write(rt.alloc(), &number_json(number))
-            .ok()
-            .ok_or("memory")?;
+    for (number, canonical) in WRITTEN {
+        let text = write(rt.alloc(), &number_json(number))?;
         assert!(rt; text.as_slice() == canonical.as_bytes());
     }
     Ok(())
