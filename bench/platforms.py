@@ -1,18 +1,18 @@
 #!/usr/bin/env python3
 """How the cost of `drive` grows with the number of bills, on three platforms.
 
-Makes scripts of 10, 100 and 1,000 bills. Each bill has six events: it is signed, issued, endorsed and transferred to
+Makes scripts of 10 to 10,000 bills. Each bill has six events: it is signed, issued, endorsed and transferred to
 another platform, and the start and its answer are delivered. For each script it prints instructions an event
 (callgrind's) and how they have grown since the smallest script, nanoseconds an event (the best of five runs), and bytes
 of memory a bill (the greatest size). A script of one bill is taken off, so that the program's start doesn't count.
-Words: the most bills (1,000 otherwise); another program than the proved one.
+Words: the most bills (10,000 otherwise); another program than the proved one.
 """
 import json
 import sys
 
 from measure import best, difference, instructions, peak, product
 
-SIZES = (10, 100, 1_000)
+SIZES = (10, 100, 1_000, 10_000)
 EVENTS = 6
 CARRIER, EXPORT, IMPORT = "ALPH/CARRIER", "ALPH/EXPORT", "BETA/IMPORT"
 ROSTER = {"roster": {"platforms": ["ALPH", "BETA", "GAMM"], "parties": [CARRIER, EXPORT, IMPORT, "GAMM/AGENT"],
