@@ -27,8 +27,8 @@ def peak(words):
 
 def main():
     program = proved("register_bench", ["1", "1", "4", "14"])
-    # Words of one length in the runs that are compared: by their length the heap may lie otherwise, and then one run
-    # copies a list that the other one grows where it is.
+    # The runs that are compared have words of one length: these move the stack, and memcpy takes more instructions for
+    # some places of what it copies there, 333,000 of 209,000,000 with 10,000 bills.
     run = lambda bills, events, asked: instructions([program, str(bills), str(ROWS), str(events), "%02d" % asked])
     sizes = (10, 100, 1000, 10000)
     costs = {}
