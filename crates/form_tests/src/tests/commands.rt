@@ -1,7 +1,7 @@
 //! Commands, and values that are none. In these texts `'` stands for `"`.
 use crate::tests::making::{json, quoted};
 use canonical_json::write;
-use ebl_base::{Kind, Party};
+use ebl_base::{ByteList, Kind, Party};
 use holder_commands::{Command, CommandFault, CommandField};
 use std::alloc::{AllocError, Global};
 use std::test::Fail;
@@ -48,17 +48,23 @@ const WRITTEN: [(&str, &str); 6] = [
     ),
 ];
 
+fn command_of(alloc: Global, text: &str) -> Result<Command, Fail> {
+    let json = json(alloc, text)?;
+    Ok(Command::read(alloc, &json)?)
+}
+
+// The text of what a text is read as, by a copy.
+fn again(alloc: Global, text: &str) -> Result<ByteList, Fail> {
+    let command = command_of(alloc, text)?.copy(alloc)?;
+    let json = command.write(alloc)?;
+    Ok(write(alloc, &json)?)
+}
+
 #[test]
 fn commands_are_read_and_written(rt: HostRuntime) -> Result<(), Fail> {
-    let alloc = rt.alloc();
-    for (text, again) in &WRITTEN {
-        let Some(Ok(command)) = answer(alloc, text) else {
-            return Err("a command".into());
-        };
-        let copy = command.copy(alloc).ok().ok_or("memory")?;
-        let written = copy.write(alloc).ok().ok_or("memory")?;
-        let bytes = write(alloc, &written).ok().ok_or("memory")?;
-        let wanted = quoted(alloc, again)?;
+    for (text, wanted) in WRITTEN {
+        let bytes = again(rt.alloc(), text)?;
+        let wanted = quoted(rt.alloc(), wanted)?;
         assert_eq!(rt; bytes.as_slice(), wanted.as_slice(), "{text}");
     }
     Ok(())
@@ -66,22 +72,19 @@ fn commands_are_read_and_written(rt: HostRuntime) -> Result<(), Fail> {
 
 #[test]
 fn an_act_has_its_parts(rt: HostRuntime) -> Result<(), Fail> {
-    let Some(
-        Ok(
-            Command::Act {
-                bill,
-                kind,
-                recipient,
-            },
-        ),
-    ) = answer(rt.alloc(), WRITTEN[2].0)
-    else {
-        return Err("an act".into());
-    };
-    assert_eq!(rt; bill.0[0], 0x44);
-    assert!(rt; kind == Kind::Issue);
-    assert!(rt; recipient == Party::from_text(b"ALPH/EXPORT"));
-    Ok(())
+    match command_of(rt.alloc(), WRITTEN[2].0)? {
+        Command::Act {
+            bill,
+            kind,
+            recipient,
+        } => {
+            assert_eq!(rt; bill.0[0], 0x44);
+            assert!(rt; kind == Kind::Issue);
+            assert!(rt; recipient == Party::from_text(b"ALPH/EXPORT"));
+            Ok(())
+        }
+        _ => Err("an act".into()),
+    }
 }
 
 // Each member wrong in each way, with all later members wrong too: the first wrong one is named.
@@ -153,8 +156,8 @@ const WRONG: [(&str, CommandField); 24] = [
 
 #[test]
 fn the_first_wrong_member_is_named(rt: HostRuntime) -> Result<(), Fail> {
-    for (text, field) in &WRONG {
-        assert_eq!(rt; wrong_member(rt.alloc(), text), Some(*field), "{text}");
+    for (text, field) in WRONG {
+        assert_eq!(rt; wrong_member(rt.alloc(), text), Some(field), "{text}");
     }
     Ok(())
 }
@@ -186,34 +189,39 @@ fn push_times(text: &mut String, piece: &str, count: usize) -> Result<(), AllocE
     Ok(())
 }
 
+const LIMITS: [(usize, usize, Option<CommandField>); 6] = [
+    (0, 1, Some(CommandField::Name)),
+    (1, 1, None),
+    (128, 64, None),
+    (129, 64, Some(CommandField::Name)),
+    (128, 65, Some(CommandField::Media)),
+    (128, 0, Some(CommandField::Media)),
+];
+
 #[test]
 fn limits_of_an_attachment(rt: HostRuntime) -> Result<(), Fail> {
-    for (name, media, field) in [
-        (0, 1, Some(CommandField::Name)),
-        (1, 1, None),
-        (128, 64, None),
-        (129, 64, Some(CommandField::Name)),
-        (128, 65, Some(CommandField::Media)),
-        (128, 0, Some(CommandField::Media)),
-    ] {
+    for (name, media, field) in LIMITS {
         let text = attachment(rt.alloc(), name, media, 1)?;
-        assert_eq!(rt;
-            wrong_member(rt.alloc(), text.as_str()),
-            field,
-            "{name} {media}"
-        );
+        let found = wrong_member(rt.alloc(), text.as_str());
+        assert_eq!(rt; found, field, "{name} {media}");
     }
     Ok(())
+}
+
+// The bytes of an attachment of so many groups.
+fn attached(alloc: Global, groups: usize) -> Result<ByteList, Fail> {
+    let text = attachment(alloc, 1, 1, groups)?;
+    match command_of(alloc, text.as_str())? {
+        Command::Attach { bytes, .. } => Ok(bytes),
+        _ => Err("an attachment".into()),
+    }
 }
 
 // 2,097,153 bytes, one more than a bill's document may have: the form takes any length.
 #[test]
 fn attached_bytes_have_any_length(rt: HostRuntime) -> Result<(), Fail> {
     for groups in [0, 1, 699_051] {
-        let text = attachment(rt.alloc(), 1, 1, groups)?;
-        let Some(Ok(Command::Attach { bytes, .. })) = answer(rt.alloc(), text.as_str()) else {
-            return Err("an attachment".into());
-        };
+        let bytes = attached(rt.alloc(), groups)?;
         assert_eq!(rt; bytes.len(), 3 * groups);
         assert!(rt; bytes.as_slice().iter().all(|byte| *byte == 0));
     }

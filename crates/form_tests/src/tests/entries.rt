@@ -2,8 +2,9 @@
 use crate::tests::making::{json, quoted};
 use canonical_json::{Json, Member, MemberList, write};
 use chain_entry::{EntryFault, EntryField, decode, decode_transaction, encode, encode_transaction};
-use ebl_base::{CharList, Entry};
+use ebl_base::{CharList, Entry, Transaction};
 use std::alloc::{AllocError, Global};
+use std::process::Abort;
 use std::test::Fail;
 
 // The members of an entry, as they came, in the order in which they are tested.
@@ -29,39 +30,33 @@ const WRITTEN: &str =
     "{'attempt':1,'bill':'44136fa355b3678a1146ad16f7e8649e94fb4fc21fe77e8310c060f61caaff8a','platform':'ALPH','previous':'ba7816bf8f01cfea414140de5dae2223b00361a396177a9cb410ff61f20015ad','transactions':[{'actor':'ALPH/CARRIER','kind':'SIGN','time':1000},{'actor':'ALPH/CARRIER','kind':'ISSUE','recipient':'BETA/IMPORT','time':2000}]}";
 
 // A member that is left out, malformed, null, or out of its range.
-const WRONG: [(usize, &str); 18] = [
-    (0, ""),
-    (0, "'platform':'alph',"),
-    (0, "'platform':7,"),
-    (0, "'platform':null,"),
-    (1, ""),
+const WRONG: [(usize, EntryField, &str); 18] = [
+    (0, EntryField::Platform, ""),
+    (0, EntryField::Platform, "'platform':'alph',"),
+    (0, EntryField::Platform, "'platform':7,"),
+    (0, EntryField::Platform, "'platform':null,"),
+    (1, EntryField::Bill, ""),
     (
         1,
+        EntryField::Bill,
         "'bill':'44136FA355b3678a1146ad16f7e8649e94fb4fc21fe77e8310c060f61caaff8a',",
     ),
-    (1, "'bill':null,"),
-    (2, "'previous':'ba7816bf',"),
-    (2, "'previous':null,"),
-    (3, ""),
-    (3, "'attempt':0,"),
-    (3, "'attempt':4294967296,"),
-    (3, "'attempt':'1',"),
-    (3, "'attempt':null,"),
-    (4, ""),
-    (4, "'transactions':[],"),
-    (4, "'transactions':{},"),
+    (1, EntryField::Bill, "'bill':null,"),
+    (2, EntryField::Previous, "'previous':'ba7816bf',"),
+    (2, EntryField::Previous, "'previous':null,"),
+    (3, EntryField::Attempt, ""),
+    (3, EntryField::Attempt, "'attempt':0,"),
+    (3, EntryField::Attempt, "'attempt':4294967296,"),
+    (3, EntryField::Attempt, "'attempt':'1',"),
+    (3, EntryField::Attempt, "'attempt':null,"),
+    (4, EntryField::Transactions, ""),
+    (4, EntryField::Transactions, "'transactions':[],"),
+    (4, EntryField::Transactions, "'transactions':{},"),
     (
         4,
+        EntryField::Transactions,
         "'transactions':[{'time':1000,'kind':'SIGN','actor':'ALPH/CARRIER'},7],",
     ),
-];
-
-const FIELDS: [EntryField; 5] = [
-    EntryField::Platform,
-    EntryField::Bill,
-    EntryField::Previous,
-    EntryField::Attempt,
-    EntryField::Transactions,
 ];
 
 // An object of these members, and a further one.
@@ -84,46 +79,65 @@ fn fault(alloc: Global, text: &str) -> Option<EntryFault> {
     answer(alloc, text)?.err()
 }
 
-#[test]
-fn an_entry_is_read_and_written(rt: HostRuntime) -> Result<(), Fail> {
-    let alloc = rt.alloc();
-    let text = object(alloc, GOOD)?;
-    let Some(Ok(entry)) = answer(alloc, &text) else {
-        panic!(rt; "no entry");
-    };
-    assert_eq!(rt; entry.platform.as_str().as_bytes(), b"ALPH".as_slice());
+fn assert_sample(rt: &impl Abort, entry: &Entry) {
+    assert_eq!(rt; entry.platform.as_str(), "ALPH");
     assert_eq!(rt; entry.attempt, 1);
     assert_eq!(rt; entry.transactions.len(), 2);
-    let json = encode(alloc, &entry).ok().ok_or("memory")?;
-    let written = write(alloc, &json).ok().ok_or("memory")?;
-    assert_eq!(rt; written.as_slice(), quoted(alloc, WRITTEN)?.as_slice());
+}
+
+#[test]
+fn an_entry_is_read_and_written(rt: HostRuntime) -> Result<(), Fail> {
+    let text = object(rt.alloc(), GOOD)?;
+    let entry = answer(rt.alloc(), &text).ok_or("json")??;
+    assert_sample(&rt, &entry);
+    let json = encode(rt.alloc(), &entry)?;
+    let written = write(rt.alloc(), &json)?;
+    assert_eq!(rt; written.as_slice(), quoted(rt.alloc(), WRITTEN)?.as_slice());
     Ok(())
+}
+
+// The good members, with this one at the place, and nulls behind it.
+fn with_nulls_behind<'a>(place: usize, wrong: &'a str) -> [&'a str; 5] {
+    let mut members: [&'a str; 5] = GOOD;
+    for (i, member) in members.iter_mut().enumerate() {
+        if i == place {
+            *member = wrong;
+        } else if i > place {
+            *member = NULLS[i];
+        }
+    }
+    members
+}
+
+// The good members, with this one at the place.
+fn with<'a>(place: usize, wrong: &'a str) -> [&'a str; 5] {
+    let mut members: [&'a str; 5] = GOOD;
+    for (i, member) in members.iter_mut().enumerate() {
+        if i == place {
+            *member = wrong;
+        }
+    }
+    members
+}
+
+fn fault_with(alloc: Global, members: [&str; 5]) -> Result<Option<EntryFault>, AllocError> {
+    let text = object(alloc, members)?;
+    Ok(fault(alloc, &text))
 }
 
 // The first wrong member is named, with all behind it right, and with all behind it wrong.
 #[test]
 fn the_first_wrong_member_is_named(rt: HostRuntime) -> Result<(), Fail> {
     let alloc = rt.alloc();
-    for (place, wrong) in &WRONG {
-        let mut members = GOOD;
-        members[*place] = wrong;
-        let want = Some(EntryFault::EntryForm(FIELDS[*place]));
-        assert_eq!(rt; fault(alloc, &object(alloc, members)?), want, "{wrong}");
-        for (i, null) in NULLS.iter().enumerate() {
-            if i > *place {
-                members[i] = null;
-            }
-        }
-        assert_eq!(rt;
-            fault(alloc, &object(alloc, members)?),
-            want,
-            "{wrong}, and more"
-        );
+    for (place, field, wrong) in WRONG {
+        let want = Some(EntryFault::EntryForm(field));
+        let alone = fault_with(alloc, with(place, wrong))?;
+        assert_eq!(rt; alone, want, "{wrong}");
+        let first = fault_with(alloc, with_nulls_behind(place, wrong))?;
+        assert_eq!(rt; first, want, "{wrong}, and more");
     }
-    assert_eq!(rt;
-        fault(alloc, "[]"),
-        Some(EntryFault::EntryForm(EntryField::Platform))
-    );
+    let whole = Some(EntryFault::EntryForm(EntryField::Platform));
+    assert_eq!(rt; fault(alloc, "[]"), whole);
     Ok(())
 }
 
@@ -149,28 +163,41 @@ fn first_entry(alloc: Global, attempt: &str, transactions: &str) -> Result<Strin
     Ok(text)
 }
 
+// The attempt and the number of transactions of an entry without a previous one.
+fn numbers_of(alloc: Global, text: &str) -> Option<(u32, usize)> {
+    match answer(alloc, text)? {
+        Ok(entry) if entry.previous.is_none() => Some((entry.attempt, entry.transactions.len())),
+        _ => None,
+    }
+}
+
+const ATTEMPTS: [(&str, Option<(u32, usize)>); 4] = [
+    ("'attempt':0,", None),
+    ("'attempt':1,", Some((1, 2))),
+    ("'attempt':4294967295,", Some((4_294_967_295, 2))),
+    ("'attempt':4294967296,", None),
+];
+
+#[test]
+fn attempts_at_their_limits(rt: HostRuntime) -> Result<(), Fail> {
+    for (attempt, want) in ATTEMPTS {
+        let text = first_entry(rt.alloc(), attempt, GOOD[4])?;
+        assert_eq!(rt; numbers_of(rt.alloc(), &text), want, "{attempt}");
+    }
+    Ok(())
+}
+
+fn numbers_with(alloc: Global, count: usize) -> Result<Option<(u32, usize)>, AllocError> {
+    let list = transactions(alloc, count)?;
+    let text = first_entry(alloc, "'attempt':1,", &list)?;
+    Ok(numbers_of(alloc, &text))
+}
+
 #[test]
 fn entries_at_their_limits(rt: HostRuntime) -> Result<(), Fail> {
-    let alloc = rt.alloc();
-    for (attempt, want) in [
-        ("'attempt':0,", None),
-        ("'attempt':1,", Some(1)),
-        ("'attempt':4294967295,", Some(4_294_967_295)),
-        ("'attempt':4294967296,", None),
-    ] {
-        let found = match answer(alloc, &first_entry(alloc, attempt, GOOD[4])?) {
-            Some(Ok(entry)) => Some(entry.attempt),
-            _ => None,
-        };
-        assert_eq!(rt; found, want, "{attempt}");
-    }
     for (count, is_entry) in [(0, false), (1, true), (32, true), (33, false)] {
-        let list = transactions(alloc, count)?;
-        let found = match answer(alloc, &first_entry(alloc, "'attempt':1,", &list)?) {
-            Some(Ok(entry)) => entry.previous.is_none() && entry.transactions.len() == count,
-            _ => false,
-        };
-        assert_eq!(rt; found, is_entry, "{count}");
+        let want = if is_entry { Some((1, count)) } else { None };
+        assert_eq!(rt; numbers_with(rt.alloc(), count)?, want, "{count}");
     }
     Ok(())
 }
@@ -225,28 +252,36 @@ const TRANSACTIONS: [(&str, i64, bool); 11] = [
     ("{'kind':'SIGN'}", 0, false),
 ];
 
+// What is read of a transaction that is written again.
+fn read_again(alloc: Global, transaction: &Transaction) -> Result<Transaction, Fail> {
+    let written = encode_transaction(alloc, transaction)?;
+    Ok(decode_transaction(&written)?)
+}
+
+fn transaction_row(
+    rt: &impl Abort,
+    alloc: Global,
+    json: &Json,
+    is_transaction: bool,
+) -> Result<(), Fail> {
+    match decode_transaction(json) {
+        Ok(transaction) => {
+            assert!(rt; is_transaction);
+            assert_eq!(rt; read_again(alloc, &transaction)?, transaction);
+        }
+        Err(fault) => {
+            assert!(rt; !is_transaction);
+            assert_eq!(rt; fault, EntryFault::EntryForm(EntryField::Transactions));
+        }
+    }
+    Ok(())
+}
+
 #[test]
 fn transactions_are_read_and_written(rt: HostRuntime) -> Result<(), Fail> {
-    let alloc = rt.alloc();
-    for (text, time, is_transaction) in &TRANSACTIONS {
-        let json = at_time(alloc, text, *time).ok_or("a transaction")?;
-        match decode_transaction(&json) {
-            Ok(transaction) => {
-                assert!(rt; *is_transaction, "{text} at {time}");
-                let again = encode_transaction(alloc, &transaction)
-                    .ok()
-                    .ok_or("memory")?;
-                assert_eq!(rt;
-                    decode_transaction(&again),
-                    Ok(transaction),
-                    "{text} at {time}"
-                );
-            }
-            Err(fault) => {
-                assert!(rt; !*is_transaction, "{text} at {time}");
-                assert_eq!(rt; fault, EntryFault::EntryForm(EntryField::Transactions));
-            }
-        }
+    for (text, time, is_transaction) in TRANSACTIONS {
+        let json = at_time(rt.alloc(), text, time).ok_or("a transaction")?;
+        transaction_row(&rt, rt.alloc(), &json, is_transaction)?;
     }
     Ok(())
 }

@@ -1,6 +1,7 @@
 //! Lines that are events, and values that are none. In these texts `'` stands for `"`, `$` for a bill's name and
 //! `%` for a reference.
 use canonical_json::{Json, ReadError, read, write};
+use ebl_base::ByteList;
 use std::alloc::{AllocError, Global};
 use std::test::Fail;
 use world_script::{Event, EventFault};
@@ -35,11 +36,16 @@ fn answer(alloc: Global, text: &str) -> Option<Result<Event, EventFault>> {
     Some(Event::read(alloc, &json))
 }
 
-// The text of an event, written again from a copy; none where the text is no event.
-fn again(alloc: Global, text: &str) -> Option<Vec<u8>> {
-    let event = answer(alloc, text)?.ok()?;
-    let written = event.copy(alloc).ok()?.write(alloc).ok()?;
-    Some(write(alloc, &written).ok()?.into_vec())
+// The copy of the event that a text is.
+fn event_of(alloc: Global, text: &str) -> Result<Event, Fail> {
+    let json = json(alloc, text)?;
+    Ok(Event::read(alloc, &json)?.copy(alloc)?)
+}
+
+// The text of an event, written again from a copy.
+fn again(alloc: Global, text: &str) -> Result<ByteList, Fail> {
+    let json = event_of(alloc, text)?.write(alloc)?;
+    Ok(write(alloc, &json)?)
 }
 
 fn is_none(alloc: Global, text: &str) -> bool {
@@ -124,7 +130,7 @@ const WRITTEN: [(&str, &str); 21] = [
 fn events_are_read_and_written(rt: HostRuntime) -> Result<(), Fail> {
     let alloc = rt.alloc();
     for (text, wanted) in &WRITTEN {
-        let again = again(alloc, text).ok_or("an event")?;
+        let again = again(alloc, text)?;
         let wanted = spelled(alloc, wanted)?;
         assert_eq!(rt; again.as_slice(), wanted.as_slice(), "{text}");
     }

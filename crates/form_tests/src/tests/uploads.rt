@@ -4,6 +4,7 @@ use document_checksum::checksum;
 use ebl_base::{CharList, Checksum, ChecksumList, Copied, NoMemory, Reference};
 use envelope_manifest::{Manifest, Piece, PieceList};
 use std::alloc::Global;
+use std::process::Abort;
 use std::test::Fail;
 use upload_state::{
     Started, StartedFault, fits, missing, reference_from, reference_of, reference_text,
@@ -19,41 +20,49 @@ fn piece(alloc: Global, bytes: &[u8]) -> Result<Piece, NoMemory> {
     })
 }
 
-// What is missing of documents of these bytes where others are stored.
-fn missing_of(
-    alloc: Global,
-    listed: &[&[u8]],
-    stored: &[Checksum],
-) -> Result<ChecksumList, NoMemory> {
+// A manifest that lists documents of these bytes.
+fn listing(alloc: Global, listed: &[&[u8]]) -> Result<Manifest, NoMemory> {
     let mut documents = PieceList::new(alloc);
     for bytes in listed {
         documents.push(piece(alloc, bytes)?)?;
     }
-    let manifest = Manifest {
+    Ok(Manifest {
         bill: Checksum([1; 32]),
         last: Checksum([2; 32]),
         documents,
-    };
-    missing(alloc, &manifest, &ChecksumList::from_slice(alloc, stored)?)
+    })
 }
+
+// What is missing of such a manifest where these bytes are stored.
+fn missing_row(
+    rt: &impl Abort,
+    alloc: Global,
+    listed: &[&[u8]],
+    stored: &[Checksum],
+    want: &[Checksum],
+) -> Result<(), NoMemory> {
+    let manifest = listing(alloc, listed)?;
+    let stored = ChecksumList::from_slice(alloc, stored)?;
+    let found = missing(alloc, &manifest, &stored)?;
+    assert_eq!(rt; found.as_slice(), want);
+    Ok(())
+}
+
+const BOTH: [&[u8]; 2] = [b"abc", b"{}"];
+
+const THREE: [&[u8]; 3] = [b"{}", b"abc", b"{}"];
 
 #[test]
 fn what_is_missing(rt: HostRuntime) -> Result<(), Fail> {
     let alloc = rt.alloc();
     let abc = checksum(b"abc");
     let object = checksum(b"{}");
-    let both: [&[u8]; 2] = [b"abc", b"{}"];
-    let found = missing_of(alloc, &both, &[abc])?;
-    assert!(rt; found.as_slice() == [object].as_slice());
-    let found = missing_of(alloc, &both, &[])?;
-    assert!(rt; found.as_slice() == [abc, object].as_slice());
-    let found = missing_of(alloc, &both, &[checksum(b"x"), object, object])?;
-    assert!(rt; found.as_slice() == [abc].as_slice());
-    let found = missing_of(alloc, &both, &[object, abc])?;
-    assert!(rt; found.is_empty());
-    let thrice: [&[u8]; 3] = [b"{}", b"abc", b"{}"];
-    let found = missing_of(alloc, &thrice, &[])?;
-    assert!(rt; found.as_slice() == [object, abc].as_slice());
+    let other = checksum(b"x");
+    missing_row(&rt, alloc, &BOTH, &[abc], &[object])?;
+    missing_row(&rt, alloc, &BOTH, &[], &[abc, object])?;
+    missing_row(&rt, alloc, &BOTH, &[other, object, object], &[abc])?;
+    missing_row(&rt, alloc, &BOTH, &[object, abc], &[])?;
+    missing_row(&rt, alloc, &THREE, &[], &[object, abc])?;
     Ok(())
 }
 
@@ -79,64 +88,75 @@ fn reference_and_its_text(rt: HostRuntime) {
     assert_eq!(rt; reference_from(&text), Some(reference));
 }
 
+const FORMS: [&str; 7] = [
+    TEXT,
+    "447816BF-8F01-CFEA-4141-40DE5DAE2223",
+    "447816bf8f01cfea414140de5dae2223",
+    "447816bF8f01CfEa414140dE5dAe2223",
+    "{447816bf-8f01-cfea-4141-40de5dae2223}",
+    "urn:uuid:447816bf-8f01-cfea-4141-40de5dae2223",
+    "URN:UUID:447816bf-8f01-cfea-4141-40de5dae2223",
+];
+
+const NO_FORMS: [&str; 9] = [
+    "",
+    "447816bf-8f01-cfea-4141-40de5dae222",
+    "447816bf-8f01-cfea-4141-40de5dae22230",
+    "447816bf8-f01-cfea-4141-40de5dae2223",
+    "447816bg-8f01-cfea-4141-40de5dae2223",
+    "{447816bf-8f01-cfea-4141-40de5dae2223)",
+    "{447816bf8f01cfea414140de5dae2223}",
+    "uuid:447816bf-8f01-cfea-4141-40de5dae2223",
+    " 447816bf-8f01-cfea-4141-40de5dae2223",
+];
+
 #[test]
 fn forms_of_a_reference(rt: HostRuntime) {
     let reference = reference_of(checksum(b"{}"), checksum(b"abc"));
-    for text in [
-        TEXT,
-        "447816BF-8F01-CFEA-4141-40DE5DAE2223",
-        "447816bf8f01cfea414140de5dae2223",
-        "447816bF8f01CfEa414140dE5dAe2223",
-        "{447816bf-8f01-cfea-4141-40de5dae2223}",
-        "urn:uuid:447816bf-8f01-cfea-4141-40de5dae2223",
-        "URN:UUID:447816bf-8f01-cfea-4141-40de5dae2223",
-    ] {
+    for text in FORMS {
         assert_eq!(rt; reference_from(text.as_bytes()), Some(reference), "{text}");
     }
-    for text in [
-        "",
-        "447816bf-8f01-cfea-4141-40de5dae222",
-        "447816bf-8f01-cfea-4141-40de5dae22230",
-        "447816bf8-f01-cfea-4141-40de5dae2223",
-        "447816bg-8f01-cfea-4141-40de5dae2223",
-        "{447816bf-8f01-cfea-4141-40de5dae2223)",
-        "{447816bf8f01cfea414140de5dae2223}",
-        "uuid:447816bf-8f01-cfea-4141-40de5dae2223",
-        " 447816bf-8f01-cfea-4141-40de5dae2223",
-    ] {
+    for text in NO_FORMS {
         assert_eq!(rt; reference_from(text.as_bytes()), None, "{text}");
     }
 }
 
+const CAME: &str =
+    "{ 'reference':'{447816BF-8F01-CFEA-4141-40DE5DAE2223}', 'more':0, 'missing':['ba7816bf8f01cfea414140de5dae2223b00361a396177a9cb410ff61f20015ad'] }";
+
+const WRITTEN: &str =
+    "{'missing':['ba7816bf8f01cfea414140de5dae2223b00361a396177a9cb410ff61f20015ad'],'reference':'447816bf-8f01-cfea-4141-40de5dae2223'}";
+
+fn sample_answer(alloc: Global) -> Result<Started, Fail> {
+    let came = quoted(alloc, CAME)?;
+    Ok(started_read(alloc, &came)?)
+}
+
 #[test]
 fn an_answer_there_and_back(rt: HostRuntime) -> Result<(), Fail> {
-    let alloc = rt.alloc();
-    let came = quoted(
-        alloc,
-        "{ 'reference':'{447816BF-8F01-CFEA-4141-40DE5DAE2223}', 'more':0, 'missing':['ba7816bf8f01cfea414140de5dae2223b00361a396177a9cb410ff61f20015ad'] }",
-    )?;
-    let started = started_read(alloc, &came).ok().ok_or("an answer")?;
+    let started = sample_answer(rt.alloc())?;
     assert_eq!(rt; Some(started.reference), reference_from(TEXT.as_bytes()));
-    assert!(rt; started.missing.as_slice() == [checksum(b"abc")].as_slice());
-    let text = started_write(alloc, &started)?;
-    let want = quoted(
-        alloc,
-        "{'missing':['ba7816bf8f01cfea414140de5dae2223b00361a396177a9cb410ff61f20015ad'],'reference':'447816bf-8f01-cfea-4141-40de5dae2223'}",
-    )?;
-    assert_eq!(rt; text.as_slice(), want.as_slice());
+    assert_eq!(rt; started.missing.as_slice(), [checksum(b"abc")].as_slice());
+    let text = started_write(rt.alloc(), &started)?;
+    assert_eq!(rt; text.as_slice(), quoted(rt.alloc(), WRITTEN)?.as_slice());
     Ok(())
 }
 
-// Whether an answer of so many checksums is read once it is written.
-fn is_read(alloc: Global, count: usize) -> Result<bool, NoMemory> {
+// An answer of so many checksums.
+fn started_of(alloc: Global, count: usize) -> Result<Started, NoMemory> {
     let mut missing = ChecksumList::new(alloc);
     for _ in 0..count {
         missing.push(Checksum([0; 32]))?;
     }
-    let started = Started {
+    Ok(Started {
         reference: Reference([0; 16]),
         missing,
-    };
+    })
+}
+
+// Whether such an answer is read once it is written.
+fn is_read(alloc: Global, count: usize) -> Result<bool, NoMemory> {
+    let started = started_of(alloc, count)?;
     let text = started_write(alloc, &started)?;
     Ok(started_read(alloc, text.as_slice()).is_ok())
 }
@@ -155,33 +175,31 @@ fn refused(alloc: Global, text: &str) -> Option<StartedFault> {
     started_read(alloc, &bytes).err()
 }
 
+const NO_ANSWERS: [&str; 7] = [
+    "",
+    "[]",
+    "{'missing':['ba7816bf8f01cfea414140de5dae2223b00361a396177a9cb410ff61f20015ad']}",
+    "{'reference':'447816bf-8f01-cfea-4141-40de5dae2223'}",
+    "{'missing':['ba7816bf8f01cfea414140de5dae2223b00361a396177a9cb410ff61f20015aD'],'reference':'447816bf-8f01-cfea-4141-40de5dae2223'}",
+    "{'missing':['ba7816bf8f01cfea414140de5dae2223b00361a396177a9cb410ff61f20015ad',1.5],'reference':'447816bf-8f01-cfea-4141-40de5dae2223'}",
+    "{'missing':['ba7816bf8f01cfea414140de5dae2223b00361a396177a9cb410ff61f20015ad'],'reference':'447816bf'}",
+];
+
 #[test]
 fn texts_that_are_no_answers(rt: HostRuntime) {
-    for text in [
-        "",
-        "[]",
-        "{'missing':['ba7816bf8f01cfea414140de5dae2223b00361a396177a9cb410ff61f20015ad']}",
-        "{'reference':'447816bf-8f01-cfea-4141-40de5dae2223'}",
-        "{'missing':['ba7816bf8f01cfea414140de5dae2223b00361a396177a9cb410ff61f20015aD'],'reference':'447816bf-8f01-cfea-4141-40de5dae2223'}",
-        "{'missing':['ba7816bf8f01cfea414140de5dae2223b00361a396177a9cb410ff61f20015ad',1.5],'reference':'447816bf-8f01-cfea-4141-40de5dae2223'}",
-        "{'missing':['ba7816bf8f01cfea414140de5dae2223b00361a396177a9cb410ff61f20015ad'],'reference':'447816bf'}",
-    ] {
-        assert_eq!(rt;
-            refused(rt.alloc(), text),
-            Some(StartedFault::Form),
-            "{text}"
-        );
+    for text in NO_ANSWERS {
+        let fault = refused(rt.alloc(), text);
+        assert_eq!(rt; fault, Some(StartedFault::Form), "{text}");
     }
 }
 
 #[test]
 fn copied_answer(rt: HostRuntime) -> Result<(), Fail> {
-    let missing = ChecksumList::from_slice(rt.alloc(), &[checksum(b"abc"), checksum(b"{}")])?;
+    let two = [checksum(b"abc"), checksum(b"{}")];
     let reference = reference_of(checksum(b"{}"), checksum(b"abc"));
-    let started = Started { reference, missing };
-    let copy = started.copy(rt.alloc())?;
+    let missing = ChecksumList::from_slice(rt.alloc(), &two)?;
+    let copy = Started { reference, missing }.copy(rt.alloc())?;
     assert!(rt; copy.reference == reference);
-    assert!(rt; copy.missing.as_slice() == started.missing.as_slice());
-    assert_eq!(rt; copy.missing.len(), 2);
+    assert_eq!(rt; copy.missing.as_slice(), two.as_slice());
     Ok(())
 }

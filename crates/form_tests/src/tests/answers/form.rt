@@ -1,156 +1,176 @@
 //! Each member wrong in each way. In these texts `'` stands for `"`.
-use crate::tests::making::{json, platform};
+use crate::tests::making::{platform, quoted};
+use canonical_json::read;
+use ebl_base::SignedText;
 use pint_responses::{ResponseField, UnsealFault, unseal};
 use signed_envelope::compose;
+use std::alloc::{AllocError, Global};
 use std::process::Abort;
 use std::test::Fail;
 use test_signer::KeyedRing;
 
+// What every response has.
+const REQUIRED: [(&str, &str); 3] = [
+    ("'responseCode'", "'responseCode':'BENV',"),
+    ("'standing'", "'standing':false,"),
+    ("'missing'", "'missing':[],"),
+];
+
 // A response with these members, behind those that a response must have and that aren't among them.
-pub(crate) fn fault_with(
-    rt: &(impl Abort + AllocGlobal),
-    members: &str,
-) -> Result<Option<UnsealFault>, Fail> {
-    let mut text = String::from_str(rt.alloc(), "{")?;
-    for (name, member) in [
-        ("'responseCode'", "'responseCode':'BENV',"),
-        ("'standing'", "'standing':false,"),
-        ("'missing'", "'missing':[],"),
-    ] {
+fn payload_with(alloc: Global, members: &str) -> Result<String, AllocError> {
+    let mut text = String::from_str(alloc, "{")?;
+    for (name, member) in REQUIRED {
         if !members.contains(name) {
             text.push_str(member)?;
         }
     }
     text.push_str(members)?;
     text.push_str("}")?;
+    Ok(text)
+}
+
+pub(crate) fn fault_with(
+    rt: &(impl Abort + AllocGlobal),
+    members: &str,
+) -> Result<Option<UnsealFault>, Fail> {
+    let text = payload_with(rt.alloc(), members)?;
     fault_of(rt, text.as_str())
 }
 
-fn fault_of(rt: &(impl Abort + AllocGlobal), payload: &str) -> Result<Option<UnsealFault>, Fail> {
-    let json = json(rt.alloc(), payload).ok().ok_or("json")?;
-    let mut ring = KeyedRing::derived();
+// The text of a payload, signed by ALPH.
+fn signed(alloc: Global, payload: &str) -> Result<SignedText, Fail> {
     let alph = platform("ALPH")?;
-    let text = compose(rt.alloc(), &mut ring, alph, &json, 65_536)
-        .ok()
-        .ok_or("composed")?;
-    Ok(unseal(rt.alloc(), &ring, text.0.as_slice(), alph).err())
+    let bytes = quoted(alloc, payload)?;
+    let json = read(alloc, &bytes)?;
+    let mut ring = KeyedRing::derived();
+    Ok(compose(alloc, &mut ring, alph, &json, 65_536)?)
 }
+
+fn fault_of(rt: &(impl Abort + AllocGlobal), payload: &str) -> Result<Option<UnsealFault>, Fail> {
+    let alph = platform("ALPH")?;
+    let text = signed(rt.alloc(), payload)?;
+    Ok(unseal(rt.alloc(), &KeyedRing::derived(), text.0.as_slice(), alph).err())
+}
+
+// Members, and the one that is wrong.
+type Row = (&'static str, ResponseField);
+
+fn assert_faults(rt: &(impl Abort + AllocGlobal), rows: &[Row]) -> Result<(), Fail> {
+    for (members, field) in rows {
+        let fault = fault_with(rt, members)?;
+        assert_eq!(rt; fault, Some(UnsealFault::Form(*field)), "{members}");
+    }
+    Ok(())
+}
+
+const ABSENT: [Row; 4] = [
+    ("[]", ResponseField::ResponseCode),
+    ("{}", ResponseField::ResponseCode),
+    ("{'responseCode':'RECE'}", ResponseField::Standing),
+    (
+        "{'responseCode':'RECE','standing':true}",
+        ResponseField::Missing,
+    ),
+];
 
 #[test]
 fn absent_members(rt: HostRuntime) -> Result<(), Fail> {
-    for (payload, field) in [
-        ("[]", ResponseField::ResponseCode),
-        ("{}", ResponseField::ResponseCode),
-        ("{'responseCode':'RECE'}", ResponseField::Standing),
-        (
-            "{'responseCode':'RECE','standing':true}",
-            ResponseField::Missing,
-        ),
-    ] {
-        assert_eq!(rt;
-            fault_of(&rt, payload)?,
-            Some(UnsealFault::Form(field)),
-            "{payload}"
-        );
+    for (payload, field) in ABSENT {
+        let fault = fault_of(&rt, payload)?;
+        assert_eq!(rt; fault, Some(UnsealFault::Form(field)), "{payload}");
     }
     assert_eq!(rt; fault_with(&rt, "'further':null")?, None);
     Ok(())
 }
 
+const CODES: [Row; 5] = [
+    ("'responseCode':null", ResponseField::ResponseCode),
+    ("'responseCode':'rece'", ResponseField::ResponseCode),
+    ("'standing':null", ResponseField::Standing),
+    ("'standing':'true'", ResponseField::Standing),
+    ("'standing':0", ResponseField::Standing),
+];
+
 #[test]
 fn codes_and_truth_values(rt: HostRuntime) -> Result<(), Fail> {
-    for members in ["'responseCode':null", "'responseCode':'rece'"] {
-        let fault = UnsealFault::Form(ResponseField::ResponseCode);
-        assert_eq!(rt; fault_with(&rt, members)?, Some(fault), "{members}");
-    }
-    for members in ["'standing':null", "'standing':'true'", "'standing':0"] {
-        let fault = UnsealFault::Form(ResponseField::Standing);
-        assert_eq!(rt; fault_with(&rt, members)?, Some(fault), "{members}");
-    }
-    Ok(())
+    assert_faults(&rt, &CODES)
 }
+
+const NAMES: [Row; 6] = [
+    ("'bill':null", ResponseField::Bill),
+    ("'bill':'ba7816bf'", ResponseField::Bill),
+    ("'last':null", ResponseField::Last),
+    ("'last':1", ResponseField::Last),
+    ("'missing':{}", ResponseField::Missing),
+    ("'missing':[null]", ResponseField::Missing),
+];
 
 #[test]
 fn names(rt: HostRuntime) -> Result<(), Fail> {
-    for (members, field) in [
-        ("'bill':null", ResponseField::Bill),
-        ("'bill':'ba7816bf'", ResponseField::Bill),
-        ("'last':null", ResponseField::Last),
-        ("'last':1", ResponseField::Last),
-        ("'missing':{}", ResponseField::Missing),
-        ("'missing':[null]", ResponseField::Missing),
-    ] {
-        let fault = UnsealFault::Form(field);
-        assert_eq!(rt; fault_with(&rt, members)?, Some(fault), "{members}");
-    }
-    Ok(())
+    assert_faults(&rt, &NAMES)
 }
+
+const REASONS: [Row; 4] = [
+    ("'reason':null", ResponseField::Reason),
+    ("'reason':'body'", ResponseField::Reason),
+    ("'reason':'PARTS'", ResponseField::Reason),
+    ("'reason':'SIGNATURE','index':0", ResponseField::Reason),
+];
 
 #[test]
 fn reasons(rt: HostRuntime) -> Result<(), Fail> {
-    for members in [
-        "'reason':null",
-        "'reason':'body'",
-        "'reason':'PARTS'",
-        "'reason':'SIGNATURE','index':0",
-    ] {
-        let fault = UnsealFault::Form(ResponseField::Reason);
-        assert_eq!(rt; fault_with(&rt, members)?, Some(fault), "{members}");
-    }
-    Ok(())
+    assert_faults(&rt, &REASONS)
 }
+
+const INDEXES: [Row; 7] = [
+    ("'reason':'FOLD'", ResponseField::Index),
+    ("'reason':'FOLD','index':64", ResponseField::Index),
+    ("'reason':'FOLD','index':-1", ResponseField::Index),
+    ("'reason':'FOLD','index':'1'", ResponseField::Index),
+    ("'reason':'BODY','index':0", ResponseField::Index),
+    ("'reason':'BODY','index':null", ResponseField::Index),
+    ("'index':0", ResponseField::Index),
+];
 
 #[test]
 fn indexes(rt: HostRuntime) -> Result<(), Fail> {
-    for members in [
-        "'reason':'FOLD'",
-        "'reason':'FOLD','index':64",
-        "'reason':'FOLD','index':-1",
-        "'reason':'FOLD','index':'1'",
-        "'reason':'BODY','index':0",
-        "'reason':'BODY','index':null",
-        "'index':0",
-    ] {
-        let fault = UnsealFault::Form(ResponseField::Index);
-        assert_eq!(rt; fault_with(&rt, members)?, Some(fault), "{members}");
-    }
+    assert_faults(&rt, &INDEXES)?;
     assert_eq!(rt; fault_with(&rt, "'reason':'FOLD','index':63")?, None);
     Ok(())
 }
 
+const EVIDENCE: [Row; 4] = [
+    ("'own':null", ResponseField::Own),
+    ("'own':['e30.e30.AA']", ResponseField::Own),
+    ("'theirs':1", ResponseField::Theirs),
+    ("'own':'','theirs':{}", ResponseField::Theirs),
+];
+
 // Any text is taken: whether it is one that can be sealed is another question.
+const TAKEN: [&str; 3] = [
+    "'own':'e30.e30.AA','theirs':'..AA'",
+    "'own':'e30.e30.AA=','theirs':'e30.e31.AA'",
+    "'own':'','theirs':'\\u20ac'",
+];
+
 #[test]
 fn evidence(rt: HostRuntime) -> Result<(), Fail> {
-    for (members, field) in [
-        ("'own':null", ResponseField::Own),
-        ("'own':['e30.e30.AA']", ResponseField::Own),
-        ("'theirs':1", ResponseField::Theirs),
-        ("'own':'','theirs':{}", ResponseField::Theirs),
-    ] {
-        let fault = UnsealFault::Form(field);
-        assert_eq!(rt; fault_with(&rt, members)?, Some(fault), "{members}");
-    }
-    for members in [
-        "'own':'e30.e30.AA','theirs':'..AA'",
-        "'own':'e30.e30.AA=','theirs':'e30.e31.AA'",
-        "'own':'','theirs':'\\u20ac'",
-    ] {
+    assert_faults(&rt, &EVIDENCE)?;
+    for members in TAKEN {
         assert_eq!(rt; fault_with(&rt, members)?, None, "{members}");
     }
     Ok(())
 }
 
+const FIRST: [Row; 5] = [
+    ("'last':1,'bill':1", ResponseField::Bill),
+    ("'reason':1,'standing':1,'last':1", ResponseField::Last),
+    ("'index':1,'reason':1", ResponseField::Reason),
+    ("'theirs':1,'own':1,'missing':1", ResponseField::Missing),
+    ("'theirs':1,'own':1", ResponseField::Own),
+];
+
 #[test]
 fn first_wrong_member(rt: HostRuntime) -> Result<(), Fail> {
-    for (members, field) in [
-        ("'last':1,'bill':1", ResponseField::Bill),
-        ("'reason':1,'standing':1,'last':1", ResponseField::Last),
-        ("'index':1,'reason':1", ResponseField::Reason),
-        ("'theirs':1,'own':1,'missing':1", ResponseField::Missing),
-        ("'theirs':1,'own':1", ResponseField::Own),
-    ] {
-        let fault = UnsealFault::Form(field);
-        assert_eq!(rt; fault_with(&rt, members)?, Some(fault), "{members}");
-    }
-    Ok(())
+    assert_faults(&rt, &FIRST)
 }

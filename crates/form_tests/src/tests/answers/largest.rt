@@ -1,12 +1,12 @@
 //! The longest evidence, and the longest response that can be sealed.
 ghost use Rattle.std.specs.Prelude.{IfOk};
-ghost use Rattle.pint_responses.specs.Response.{IsEvidence};
+ghost use Rattle.pint_responses.specs.Response.{IsEvidence, IsSealable};
 
 use crate::tests::answers::form::fault_with;
 use crate::tests::answers::response;
 use crate::tests::making::platform;
 use document_checksum::checksum;
-use ebl_base::{ByteList, ChecksumList, Code, Evidence, Reason, SignedText};
+use ebl_base::{ByteList, Checksum, ChecksumList, Code, Evidence, NoMemory, Reason, SignedText};
 use pint_responses::{Response, is_sealable, seal, unseal};
 use signed_envelope::is_compact;
 use std::alloc::Global;
@@ -46,92 +46,96 @@ fn shown(own: Vec<u8>, missing: ChecksumList) -> Response {
     r
 }
 
+fn is_shown_sealable(alloc: Global, own: Vec<u8>) -> Result<bool, NoMemory> {
+    let r = shown(own, ChecksumList::new(alloc));
+    is_sealable(alloc, &r)
+}
+
+fn own_member(alloc: Global, own: &[u8]) -> Result<String, Fail> {
+    let text = std::str::from_utf8(own).ok().ok_or("text")?;
+    Ok(format!(in alloc; "'own':'{text}'")?)
+}
+
 #[test]
 fn evidence_that_can_be_sealed(rt: HostRuntime) -> Result<(), Fail> {
     for (len, sealable) in [(16_384, true), (16_385, false)] {
         let bytes = evidence_text(rt.alloc(), len)?;
         assert_eq!(rt; bytes.len(), len);
-        let text = std::str::from_utf8(bytes.as_slice()).ok().ok_or("text")?;
-        let member = format!(in rt.alloc(); "'own':'{text}'")?;
+        let member = own_member(rt.alloc(), &bytes)?;
         assert_eq!(rt; fault_with(&rt, member.as_str())?, None);
-        let r = shown(bytes, ChecksumList::new(rt.alloc()));
-        assert_eq!(rt; is_sealable(rt.alloc(), &r)?, sealable);
+        assert_eq!(rt; is_shown_sealable(rt.alloc(), bytes)?, sealable);
     }
     Ok(())
+}
+
+fn is_list_sealable(alloc: Global, names: &[Checksum]) -> Result<bool, NoMemory> {
+    let missing = ChecksumList::from_slice(alloc, names)?;
+    let r = response(Code::MissingDocuments, None, None, missing);
+    is_sealable(alloc, &r)
 }
 
 #[test]
 fn missing_documents_that_can_be_sealed(rt: HostRuntime) -> Result<(), Fail> {
     let name = checksum(b"abc");
-    for (missing, sealable) in [
-        (ChecksumList::from_slice(rt.alloc(), &[name; 16])?, true),
-        (ChecksumList::from_slice(rt.alloc(), &[name; 17])?, false),
-    ] {
-        let r = response(Code::MissingDocuments, None, None, missing);
-        assert_eq!(rt; is_sealable(rt.alloc(), &r)?, sealable);
-    }
-    let other = shown(
-        b"e30.e31.AA".to_vec(rt.alloc())?,
-        ChecksumList::new(rt.alloc()),
-    );
-    assert_eq!(rt; is_sealable(rt.alloc(), &other)?, false);
+    assert_eq!(rt; is_list_sealable(rt.alloc(), &[name; 16])?, true);
+    assert_eq!(rt; is_list_sealable(rt.alloc(), &[name; 17])?, false);
+    let other = b"e30.e31.AA".to_vec(rt.alloc())?;
+    assert_eq!(rt; is_shown_sealable(rt.alloc(), other)?, false);
     Ok(())
+}
+
+fn longest(alloc: Global) -> Result<Response, Fail>
+    ensures { IfOk result (λ r. IsSealable r) }
+{
+    let name = checksum(b"abc");
+    let missing = ChecksumList::from_slice(alloc, &[name; 16])?;
+    let mut r = response(
+        Code::BadSignature,
+        Some(Reason::Signature(usize::MAX)),
+        Some(name),
+        missing,
+    );
+    r.standing = false;
+    r.evidence.own = Some(longest_evidence(alloc)?);
+    r.evidence.theirs = Some(longest_evidence(alloc)?);
+    Ok(r)
 }
 
 #[test]
 fn longest_response(rt: HostRuntime) -> Result<(), Fail> {
-    let mut ring = KeyedRing::derived();
     let alph = platform("ALPH")?;
-    let name = checksum(b"abc");
-    let missing = ChecksumList::from_slice(rt.alloc(), &[name; 16])?;
-    let reason = Some(Reason::Signature(usize::MAX));
-    let own = longest_evidence(rt.alloc())?;
-    let theirs = longest_evidence(rt.alloc())?;
-    let r = Response {
-        code: Code::BadSignature,
-        bill: Some(name),
-        last: Some(name),
-        standing: false,
-        reason,
-        missing,
-        evidence: Evidence {
-            own: Some(own),
-            theirs: Some(theirs),
-        },
-    };
-    let text = seal(rt.alloc(), &mut ring, alph, &r).ok().ok_or("sealed")?;
+    let r = longest(rt.alloc())?;
+    let text = seal(rt.alloc(), &mut KeyedRing::derived(), alph, &r)?;
     // By Python's json, base64 and hmac.
     assert_eq!(rt; text.0.len(), 45_559);
     Ok(())
 }
 
+fn disputed(alloc: Global) -> Result<Response, Fail>
+    ensures { IfOk result (λ r. IsSealable r) }
+{
+    let missing = ChecksumList::new(alloc);
+    let mut r = response(Code::DisputedEnvelope, Some(Reason::Parts), None, missing);
+    r.standing = true;
+    r.evidence.theirs = Some(longest_evidence(alloc)?);
+    Ok(r)
+}
+
+fn assert_disputed(rt: &impl Abort, r: &Response, text: &[u8]) {
+    assert!(rt; r.standing && r.evidence.own.is_none());
+    match &r.evidence.theirs {
+        Some(theirs) => assert!(rt; theirs.0.as_slice() == text),
+        None => panic!(rt; "no evidence"),
+    }
+}
+
 #[test]
 fn evidence_there_and_back(rt: HostRuntime) -> Result<(), Fail> {
-    let mut ring = KeyedRing::derived();
     let alph = platform("ALPH")?;
-    let missing = ChecksumList::new(rt.alloc());
-    let theirs = longest_evidence(rt.alloc())?;
-    let r = Response {
-        code: Code::DisputedEnvelope,
-        bill: None,
-        last: None,
-        standing: true,
-        reason: Some(Reason::Parts),
-        missing,
-        evidence: Evidence {
-            own: None,
-            theirs: Some(theirs),
-        },
-    };
-    let text = seal(rt.alloc(), &mut ring, alph, &r).ok().ok_or("sealed")?;
-    let again = unseal(rt.alloc(), &ring, text.0.as_slice(), alph)
-        .ok()
-        .ok_or("unsealed")?;
-    assert!(rt; again.standing && again.evidence.own.is_none());
-    let text = evidence_text(rt.alloc(), 16_384)?;
-    match &again.evidence.theirs {
-        Some(theirs) => assert!(rt; theirs.0.as_slice() == text.as_slice()),
-        None => return Err(Fail::from("theirs")),
-    }
+    let r = disputed(rt.alloc())?;
+    let text = seal(rt.alloc(), &mut KeyedRing::derived(), alph, &r)?;
+    let again = unseal(rt.alloc(), &KeyedRing::derived(), text.0.as_slice(), alph)?;
+    let evidence = evidence_text(rt.alloc(), 16_384)?;
+    assert_disputed(&rt, &again, &evidence);
     Ok(())
 }
