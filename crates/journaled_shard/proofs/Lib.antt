@@ -1,0 +1,4 @@
+pub mod OpeningLemmas
+pub mod RegisterLemmas
+pub mod ShardLemmas
+pub mod WrittenLemmas

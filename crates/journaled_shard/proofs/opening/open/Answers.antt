@@ -1,0 +1,24 @@
+use Rattle.std.proofs.Common.{◌≡◌, ◌<◌, ◌∙◌, inr, sym, ap, length, Err}
+use Rattle.bill_journal.specs.Places.{ReadsAs}
+use Rattle.journaled_diary.specs.declared.reading.DiaryFault.TheVariants.{Refused}
+use Rattle.journaled_shard.proofs.OpeningLemmas.{is_not_blank, refused_there, spelled_are_named}
+use Rattle.journaled_shard.proofs.opening.open.Goals as goal
+
+pub returns-clause-damaged : goal.returns-clause-damaged
+returns-clause-damaged g c = λ place tells is.
+    let file = g.D.Disk.seen c.args.disk in
+    let frames = c.in-Ok.opened.1 in
+    let fault : c.in-Err-read_register.fault ≡ Refused place =
+    refused_there c.in-Err-read_register.fault place (sym c.fault_of.ensures ∙ is) in
+    let refused = c.in-Err-read_register.ensures.refused place (ap Err fault) in
+    let some : 0 < length file = is_not_blank c.args.roster.now (g.G.KeyRing.keys c.args.ring.now) c.args.me file frames
+    place (λ blank. c.in-Ok.ensures.blank tells blank) refused in
+    let reads : ReadsAs file frames c.in-Ok.opened.0.end = record {
+      read = c.in-Ok.ensures.places;
+      stands = c.in-Ok.ensures.stands tells some;
+    } in
+    inr (frames, c.in-Ok.opened.0.end, reads, refused)
+
+pub returns-in-Ok-read_register-clause-named : goal.returns-in-Ok-read_register-clause-named
+returns-in-Ok-read_register-clause-named g c =
+    (spelled_are_named c.in-Ok-read_register.register.diary c.in-Ok-read_register.ensures.ok.spelled, tt)

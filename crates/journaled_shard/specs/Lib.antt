@@ -1,0 +1,4 @@
+pub mod Opening
+pub mod Shard
+pub mod View
+pub mod Written

@@ -1,0 +1,59 @@
+//! How a bill is, as a holder is shown it once a request's frame is written.
+ghost use Rattle.std.specs.Prelude.{◌≡◌, ◌≤◌};
+ghost use Rattle.bill_diary.specs.History.{history};
+ghost use Rattle.bill_diary.specs.Place.{place_of, title_at};
+ghost use Rattle.platform_machine.specs.Step.{entries_at, title_in, view_of};
+ghost use Rattle.transfer_core.specs.Decision.{reply_by};
+ghost use Rattle.transfer_core.specs.Shard.{AreShort};
+
+use ebl_base::Checksum;
+use platform_requests::{Reply, View};
+use title_fold::Title;
+use title_register::Register;
+use transfer_core::DecidedReply;
+
+// What is replied, by the register as it is now. It takes no memory.
+pub(crate) fn reply_now(register: &Register, reply: DecidedReply) -> Reply
+    requires { AreShort register.now.diary }
+    ensures { result ≡ reply_by register.now.diary reply }
+{
+    match reply {
+        DecidedReply::Ready(reply) => reply,
+        DecidedReply::Done(bill) => Reply::Done(view(register, bill)),
+    }
+}
+
+// How a bill is.
+fn view(register: &Register, bill: Checksum) -> View
+    requires { entries_at (place_of (history bill register.now.diary)) ≤ 64 }
+    ensures { result ≡ view_of bill register.now.diary }
+{
+    View {
+        bill,
+        place: register.tag(bill),
+        entries: entries(register, bill),
+        title: title(register, bill),
+    }
+}
+
+// How many entries the known chain has.
+#[tactic(auto, using(crate::proofs::RegisterLemmas::places))]
+fn entries(register: &Register, bill: Checksum) -> u32
+    requires { entries_at (place_of (history bill register.now.diary)) ≤ 64 }
+    ensures { result ≡ entries_at (place_of (history bill register.now.diary)) }
+{
+    match register.known(bill) {
+        Some(known) => known.len() as u32,
+        None => 0,
+    }
+}
+
+// The title, where the fold gives one.
+fn title(register: &Register, bill: Checksum) -> Option<Title>
+    ensures { result ≡ title_in (title_at (place_of (history bill register.now.diary))) }
+{
+    match register.title(bill) {
+        Ok(title) => title,
+        Err(_) => None,
+    }
+}
