@@ -65,11 +65,11 @@ fn push_value(out: &mut Vec<u8>, json: &Json) -> Result<(), NoMemory>
         Json::Decimal { digits, scale } => push_decimal(out, *digits, *scale as usize),
         Json::Text(text) => push_text(out, text.as_str()),
         Json::List(list) => {
-            push_bytes(out, b"[")?;
+            push_byte(out, b'[')?;
             push_list(out, list)
         }
         Json::Object(members) => {
-            push_bytes(out, b"{")?;
+            push_byte(out, b'{')?;
             push_object(out, members)
         }
     }
@@ -87,7 +87,7 @@ fn push_list(out: &mut Vec<u8>, list: &JsonList) -> Result<(), NoMemory>
         push_value(out, item)?;
         later = true;
     }
-    push_bytes(out, b"]")
+    push_byte(out, b']')
 }
 
 #[cycle(write)]
@@ -103,13 +103,13 @@ fn push_object(out: &mut Vec<u8>, members: &MemberList) -> Result<(), NoMemory>
         push_value(out, &member.value)?;
         later = true;
     }
-    push_bytes(out, b"}")
+    push_byte(out, b'}')
 }
 
 fn push_comma_if(out: &mut Vec<u8>, later: bool) -> Result<(), NoMemory>
     ensures { OnOk result (out.new.items ≡ out.old.items ++ comma_if later) }
 {
-    if later { push_bytes(out, b",") } else { Ok(()) }
+    if later { push_byte(out, b',') } else { Ok(()) }
 }
 
 // A name with its colon.
@@ -118,7 +118,15 @@ fn push_name(out: &mut Vec<u8>, name: &str) -> Result<(), NoMemory>
     ensures utf8 { IsUtf8 name.now }
 {
     push_text(out, name)?;
-    push_bytes(out, b":")
+    push_byte(out, b':')
+}
+
+// A single byte costs a few instructions, a piece a call besides.
+fn push_byte(out: &mut Vec<u8>, byte: u8) -> Result<(), NoMemory>
+    ensures { OnOk result (out.new.items ≡ out.old.items ++ byte ∷ []) }
+{
+    out.push(byte)?;
+    Ok(())
 }
 
 fn push_bytes(out: &mut Vec<u8>, bytes: &[u8]) -> Result<(), NoMemory>
@@ -139,7 +147,7 @@ fn push_decimal(out: &mut Vec<u8>, digits: i64, scale: usize) -> Result<(), NoMe
     ensures { OnOk result (out.new.items ≡ out.old.items ++ decimal_text digits scale) }
 {
     if digits < 0 {
-        push_bytes(out, b"-")?;
+        push_byte(out, b'-')?;
     }
     let mut buffer = itoa::Buffer::new();
     push_with_stop(out, buffer.format(digits.unsigned_abs()).as_bytes(), scale)
@@ -152,7 +160,7 @@ fn push_with_stop(out: &mut Vec<u8>, digits: &[u8], scale: usize) -> Result<(), 
     if scale < digits.len() {
         let (whole, fraction) = digits.split_at(digits.len() - scale);
         push_bytes(out, whole)?;
-        push_bytes(out, b".")?;
+        push_byte(out, b'.')?;
         return push_bytes(out, fraction);
     }
     push_bytes(out, b"0.")?;
@@ -195,13 +203,13 @@ fn push_long_text(out: &mut Vec<u8>, text: &str) -> Result<(), NoMemory>
 fn push_quoted(out: &mut Vec<u8>, text: &[u8]) -> Result<(), NoMemory>
     ensures { OnOk result (out.new.items ≡ out.old.items ++ quoted text.now) }
 {
-    push_bytes(out, b"\"")?;
+    push_byte(out, b'"')?;
     let mut at = 0;
     loop {
         let stop = plain_end(text, at);
         push_bytes(out, &text[at..stop])?;
         if stop == text.len() {
-            return push_bytes(out, b"\"");
+            return push_byte(out, b'"');
         }
         let (escape, len) = escape_of(text[stop]);
         push_bytes(out, &escape[..len])?;
