@@ -2,6 +2,7 @@ mod DeskLemmas
 mod GiveLemmas
 mod LookUpLemmas
 mod PartLemmas
+mod PartingLemmas
 mod PutLemmas
 mod StartLemmas
 mod StepLemmas

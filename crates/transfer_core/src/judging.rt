@@ -1,24 +1,21 @@
 //! Judging a chain by a register: `transfer_judge::judge` without a walk over the diary.
-ghost use Rattle.std.specs.Prelude.{◌≡◌, ◌∷◌, [], ◌++◌, IfOk, Some, None, if◌then◌else◌, option_copied, option_map};
-ghost use Rattle.bill_chain.specs.Chain.{goes_beyond};
+ghost use Rattle.std.specs.Prelude.{◌≡◌, IfOk};
 ghost use Rattle.bill_diary.specs.History.{history, newest_first};
 ghost use Rattle.bill_diary.specs.Pieces.{is_there, missing_of};
-ghost use Rattle.title_register.specs.PlaceRef.{place_view};
-ghost use Rattle.transfer_judge.specs.Dispute.{dispute_of, evidence_of, text_at};
 ghost use Rattle.transfer_judge.specs.Judgement.{judgement_at_place, judgement_here, judgement_by};
 ghost use Rattle.transfer_judge.specs.declared.judgement.Judgement.TheVariants.{Declined};
 
+use crate::dispute::dispute;
 use crate::lookups::last_declined;
-use bill_chain::{common_front, goes_beyond, last_link, possessor_after};
+use bill_chain::{last_link, possessor_after};
 use bill_diary::Declination;
 use ebl_base::{
-    Chain, ChainLink, Checksum, ChecksumList, Copied, Evidence, Items, NoMemory, Party,
-    PlatformCode, SignedText,
+    Chain, ChainLink, Checksum, ChecksumList, Copied, Items, NoMemory, Party, PlatformCode,
 };
 use envelope_manifest::Manifest;
 use party_roster::Roster;
 use std::alloc::Global;
-use title_register::{PlaceRef, Register};
+use title_register::Register;
 use transfer_judge::Judgement;
 
 /// What a platform makes of a chain with its manifest, by its register: the first of the seven judgements that applies,
@@ -128,62 +125,4 @@ fn has_bytes(register: &Register, bill: Checksum, checksum: Checksum) -> bool
     ensures { result ≡ is_there (history bill register.now.diary) checksum }
 {
     register.kept(bill, checksum).is_some()
-}
-
-// ---- disputes
-
-// What disputes a chain that was shown: nothing where it continues the place. Where an entry is parting, the known
-// chain is copied.
-fn dispute(alloc: Global, place: PlaceRef<'_>, shown: &Chain) -> Result<Option<Evidence>, NoMemory>
-    ensures { IfOk result (λ evidence. evidence ≡ dispute_of (place_view place.entry) shown.now) }
-{
-    match place {
-        PlaceRef::Absent => Ok(None),
-        PlaceRef::Held { known, .. } => Ok(Some(evidence(alloc, known, shown)?)),
-        PlaceRef::Parting { known, entry } => {
-            let mut own = known.copy(alloc)?;
-            own.push(entry.copy(alloc)?)?;
-            unless_beyond(alloc, &own, shown)
-        }
-        PlaceRef::Gone { known } => unless_beyond(alloc, known, shown),
-    }
-}
-
-// The evidence, unless the chain that was shown goes on beyond the own one.
-fn unless_beyond(alloc: Global, own: &Chain, shown: &Chain) -> Result<Option<Evidence>, NoMemory>
-    ensures { IfOk result (λ evidence. evidence
-        ≡ (if goes_beyond own.now shown.now then None else Some (evidence_of own.now shown.now))) }
-{
-    if goes_beyond(own.as_slice(), shown.as_slice()) {
-        return Ok(None);
-    }
-    Ok(Some(evidence(alloc, own, shown)?))
-}
-
-fn evidence(alloc: Global, own: &Chain, shown: &Chain) -> Result<Evidence, NoMemory>
-    ensures { IfOk result (λ evidence. evidence ≡ evidence_of own.now shown.now) }
-{
-    let place = common_front(own.as_slice(), shown.as_slice());
-    let own = text_at(alloc, place, own.as_slice())?;
-    let theirs = text_at(alloc, place, shown.as_slice())?;
-    Ok(Evidence { own, theirs })
-}
-
-// The text of the entry at a place, or of the last one.
-fn text_at(alloc: Global, place: usize, chain: &[ChainLink]) -> Result<Option<SignedText>, NoMemory>
-    ensures { IfOk result (λ text. text ≡ text_at place chain.now) }
-{
-    match link_at(place, chain) {
-        Some(link) => Ok(Some(link.text.copy(alloc)?)),
-        None => Ok(None),
-    }
-}
-
-fn link_at(place: usize, chain: &[ChainLink]) -> Option<&ChainLink>
-    ensures { option_map (λ link. link.text) (option_copied result) ≡ text_at place chain.now }
-{
-    match chain.get(place) {
-        Some(link) => Some(link),
-        None => last_link(chain),
-    }
 }

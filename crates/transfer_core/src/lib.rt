@@ -5,6 +5,7 @@ mod answering;
 mod commanding;
 mod deciding;
 mod decision;
+mod dispute;
 mod hearing;
 mod judging;
 mod lookups;

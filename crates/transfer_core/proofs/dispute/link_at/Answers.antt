@@ -2,7 +2,7 @@ use Rattle.std.proofs.Common.{◌≤◌, ◌∙◌, ap, arith, length}
 use Rattle.std.specs.Prelude.{option_map}
 use Rattle.ebl_base.specs.declared.chain.ChainLink.{ChainLink}
 use Rattle.transfer_judge.proofs.DisputeLemmas.{text_past}
-use Rattle.transfer_core.proofs.judging.link_at.Goals as goal
+use Rattle.transfer_core.proofs.dispute.link_at.Goals as goal
 
 pub returns-in-None : goal.returns-in-None
 returns-in-None c =
