@@ -23,7 +23,7 @@ use Rattle.bill_locks.proofs.Marks.{look_nothing}
 use Rattle.bill_locks.proofs.Columns.{made_of, failed_of, unsigned_of}
 use Rattle.bill_locks.proofs.RuleLemmas.{column_at}
 
-module _ {T F : Type 0} (list : T → List F) (loose : T → Bool) (disk ring : T → ℕ) where
+module _ {T F X : Type 0} (fixed : T → X) (list : T → List F) (loose : T → Bool) (disk ring : T → ℕ) where
   -- the words of values that nobody has
   abbrev pub words_of : List T → List ℕ
   words_of xs = map (λ x. 2 * length (list x)) xs
@@ -31,12 +31,12 @@ module _ {T F : Type 0} (list : T → List F) (loose : T → Bool) (disk ring : 
   -- ---- the opening
 
   at_opening : (xs : List T) (k : ℕ) (x : T) → get_elem? xs k ≡ some x
-      → (get_or (openings list loose disk ring xs) k unopened ≡ opened_as list loose disk ring x)
+      → (get_or (openings fixed list loose disk ring xs) k unopened ≡ opened_as fixed list loose disk ring x)
       × (get_or (words_of xs ++ 1 ∷ []) k 0 ≡ 2 * length (list x))
       × (get_elem? (map some (map Some xs)) k ≡ some (some (Some x)))
   at_opening [] k x e = absurd (some-ne-none x (sym e))
   at_opening (y ∷ ys) zero x e = let s : y ≡ x = some-injective y x e in (
-    ap (opened_as list loose disk ring) s,
+    ap (opened_as fixed list loose disk ring) s,
     ap (λ (z : T). 2 * length (list z)) s,
     ap
         (λ (z : T). some (some (Some z))) s,
@@ -51,16 +51,17 @@ module _ {T F : Type 0} (list : T → List F) (loose : T → Bool) (disk ring : 
   homes_length xs = length-map (map Some xs) some ∙ length-map xs Some
 
   module _ (xs : List T) (firm : (k : ℕ) (x : T) → get_elem? xs k ≡ some x → loose x ≡ false) where
-    abbrev first : View F
-    first = first_view (openings list loose disk ring xs)
+    abbrev first : View F X
+    first = first_view (openings fixed list loose disk ring xs)
 
     free_at : (k : ℕ) (x : T) → get_elem? xs k ≡ some x
-        → Stands list loose disk ring (opened_as list loose disk ring x) (2 * length (list x)) (some (some (Some x)))
+        → Stands fixed list loose disk ring (opened_as fixed list loose disk ring x) (2 * length (list x)) (some (some (Some x)))
         (blank ∷ [])
     free_at k x at = record {
       turn = inl (
         x,
         record {
+          same = refl;
           word_is = refl;
           home = refl;
           nobody = λ j m g. of_blank (λ (n : Mark F). n.held ≡ false) refl j m g;
@@ -87,11 +88,11 @@ module _ {T F : Type 0} (list : T → List F) (loose : T → Bool) (disk ring : 
         of_blank P h zero m g = subst P (some-injective blank m g) h
         of_blank P h (suc j) m g = absurd (some-ne-none m (sym g))
 
-    of_first : (P : View F → Type 0) → P first → (j : ℕ) (v : View F) → get_elem? (first ∷ []) j ≡ some v → P v
+    of_first : (P : View F X → Type 0) → P first → (j : ℕ) (v : View F X) → get_elem? (first ∷ []) j ≡ some v → P v
     of_first P h zero v g = subst P (some-injective first v g) h
     of_first P h (suc j) v g = absurd (some-ne-none v (sym g))
 
-    pub opens : Turning list loose disk ring (openings list loose disk ring xs)
+    pub opens : Turning fixed list loose disk ring (openings fixed list loose disk ring xs)
         (opening (words_of xs ++ 1 ∷ []) (map Some xs) first)
     opens = record {
       sized = (let a = length-append (words_of xs) (1 ∷ []) in
@@ -100,38 +101,38 @@ module _ {T F : Type 0} (list : T → List F) (loose : T → Bool) (disk ring : 
           let there = at_length xs k (let c = homes_length xs in omega arith) in
           let x : T = there.0 in
           let is = at_opening xs k x there.1 in
-          subst (λ (m : Mark F). Stands list loose disk ring (get_or (openings list loose disk ring xs) k unopened)
+          subst (λ (m : Mark F). Stands fixed list loose disk ring (get_or (openings fixed list loose disk ring xs) k unopened)
           (get_or (words_of xs ++ 1 ∷ []) k 0) (get_elem? (map some (map Some xs)) k) (m ∷ []))
           (sym (look_nothing k))
-          (subst (λ (o : Opened). Stands list loose disk ring o (get_or (words_of xs ++ 1 ∷ []) k 0)
+          (subst (λ (o : Opened X). Stands fixed list loose disk ring o (get_or (words_of xs ++ 1 ∷ []) k 0)
           (get_elem? (map some (map Some xs)) k) (blank ∷ [])) (sym is.0)
-          (subst (λ (n : ℕ). Stands list loose disk ring (opened_as list loose disk ring x) n
+          (subst (λ (n : ℕ). Stands fixed list loose disk ring (opened_as fixed list loose disk ring x) n
           (get_elem? (map some (map Some xs)) k) (blank ∷ [])) (sym is.1)
-          (subst (λ (p : maybe.Option (maybe.Option (Option T))). Stands list loose disk ring
-          (opened_as list loose disk ring x) (2 * length (list x)) p (blank ∷ [])) (sym is.2)
+          (subst (λ (p : maybe.Option (maybe.Option (Option T))). Stands fixed list loose disk ring
+          (opened_as fixed list loose disk ring x) (2 * length (list x)) p (blank ∷ [])) (sym is.2)
           (free_at k x there.1))));
       passes = record {
         word_is = ap (λ (n : ℕ). get_or (words_of xs ++ 1 ∷ []) n 0) (homes_length xs) ∙ last_word xs;
-        known = of_first (λ (v : View F). v.known ≤ total (λ (u : View F). u.stands) (first ∷ [])) (omega arith);
-        empty = of_first (λ (v : View F). v.stands ≡ 0 → v.marks ≡ []) (λ _. refl);
-        alone = of_first (λ (v : View F). v.alone ≡ true → total (λ (u : View F). u.stands) (first ∷ []) ≡ v.stands)
+        known = of_first (λ (v : View F X). v.known ≤ total (λ (u : View F X). u.stands) (first ∷ [])) (omega arith);
+        empty = of_first (λ (v : View F X). v.stands ≡ 0 → v.marks ≡ []) (λ _. refl);
+        alone = of_first (λ (v : View F X). v.alone ≡ true → total (λ (u : View F X). u.stands) (first ∷ []) ≡ v.stands)
             (λ _. refl);
-        opened = of_first (λ (v : View F). 0 < v.stands → v.opened ≡ openings list loose disk ring xs) (λ _. refl);
+        opened = of_first (λ (v : View F X). 0 < v.stands → v.opened ≡ openings fixed list loose disk ring xs) (λ _. refl);
       };
     }
 
   -- ---- the closing
 
-  module _ (os : List Opened) (s : State (Option T) (View F)) (rule : Turning list loose disk ring os s) (id : ℕ)
-      (v : View F) (at : get_elem? s.views id ≡ some v)
+  module _ (os : List (Opened X)) (s : State (Option T) (View F X)) (rule : Turning fixed list loose disk ring os s) (id : ℕ)
+      (v : View F X) (at : get_elem? s.views id ≡ some v)
       (alone : v.alone ≡ true) (idle : (k : ℕ) → (mark_at k v).held ≡ false) where
     -- every other pass knows nothing
     others_blank : (k : ℕ) → Each (λ j m. j ≢ id → m ≡ blank) (column k s.views)
     others_blank k j m g ne =
         let back = at_map_back (mark_at k) s.views j m g in
-        let u : View F = back.0 in
+        let u : View F X = back.0 in
         let sum = rule.passes.alone id v at alone in
-        let two = total_two (λ (x : View F). x.stands) s.views j id u v back.1 at ne in
+        let two = total_two (λ (x : View F X). x.stands) s.views j id u v back.1 at ne in
         let none_left : u.stands ≡ 0 = omega arith in
         sym back.2 ∙ (ap (look k) (rule.passes.empty j u back.1 none_left) ∙ look_nothing k)
 
@@ -146,12 +147,13 @@ module _ {T F : Type 0} (list : T → List F) (loose : T → Bool) (disk ring : 
     only_mine k f nothing = total_only f (column k s.views) id (mark_at k v) (column_at k s.views id v at)
         (λ j m g ne. ap f (others_blank k j m g ne) ∙ nothing)
 
-    handed : (k : ℕ) (o : Opened) (n : ℕ) (x : T)
-        → IsFree list loose disk ring o n (get_elem? s.homes k) (column k s.views) x
-        → Numbered o (column k s.views) → HandedOut list loose disk ring o (mark_at k v) x
+    handed : (k : ℕ) (o : Opened X) (n : ℕ) (x : T)
+        → IsFree fixed list loose disk ring o n (get_elem? s.homes k) (column k s.views) x
+        → Numbered o (column k s.views) → HandedOut fixed list loose disk ring o (mark_at k v) x
     handed k o n x f numbers =
         let there = column_at k s.views id v at in
         let a = f.account in record {
+          same = f.same;
           begins = f.fronts id (mark_at k v) there;
           grown = a.grown;
           once = λ p. subst (λ (t : ℕ). t ≤ 1) (only_mine k (λ (m : Mark F). times p m.numbers) refl) (numbers.once p);
@@ -165,14 +167,14 @@ module _ {T F : Type 0} (list : T → List F) (loose : T → Bool) (disk ring : 
     -- each value is at home, as the last pass's mark and the opening say
     pub hands_out : 0 < v.stands → (k : ℕ) → k < length s.homes
         → (x : T) × (get_elem? s.homes k ≡ some (some (Some x)))
-        × HandedOut list loose disk ring (get_or v.opened k unopened) (mark_at k v) x
+        × HandedOut fixed list loose disk ring (get_or v.opened k unopened) (mark_at k v) x
     hands_out some_passes k lt =
         let st = rule.turns k lt in
         ⊎_elim
         (λ f. (
           f.0,
           f.1.home,
-          subst (λ (os' : List Opened). HandedOut list loose disk ring (get_or os' k unopened) (mark_at k v) f.0)
+          subst (λ (os' : List (Opened X)). HandedOut fixed list loose disk ring (get_or os' k unopened) (mark_at k v) f.0)
               (sym (rule.passes.opened id v at some_passes))
               (handed k (get_or os k unopened) (get_or s.words k 0) f.0 f.1 st.numbers),
         ))
@@ -180,11 +182,11 @@ module _ {T F : Type 0} (list : T → List F) (loose : T → Bool) (disk ring : 
         st.turn
 
   -- the same of the values as they lie in the slots
-  pub closes : (os : List Opened) (ws : List ℕ) (items : List (Option T)) (id : ℕ) (v : View F)
-      → Final (Seen (Turning list loose disk ring os) id v) ws items
+  pub closes : (os : List (Opened X)) (ws : List ℕ) (items : List (Option T)) (id : ℕ) (v : View F X)
+      → Final (Seen (Turning fixed list loose disk ring os) id v) ws items
       → v.alone ≡ true → IsIdle (record v { alone = false }) → (k : ℕ) → k < length items
       → (x : T) × (get_elem? items k ≡ some (Some x))
-      × HandedOut list loose disk ring (get_or v.opened k unopened) (mark_at k v) x
+      × HandedOut fixed list loose disk ring (get_or v.opened k unopened) (mark_at k v) x
   closes os ws items id v f alone idle k lt =
       let out = hands_out os f.0 f.1.0 id v f.1.1 alone idle.no_turn idle.is_out k (let e = f.3 in omega arith) in
       (out.0, f.4 k (Some out.0) out.1, out.2)

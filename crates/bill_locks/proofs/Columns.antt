@@ -34,7 +34,7 @@ module _ {F : Type 0} where
     pub failed : total failed_of ns ≡ total failed_of ms
     pub unsigned : total unsigned_of ns ≡ total unsigned_of ms
 
-  pub same_account : (o : Opened) (frames : ℕ) (loose : Bool) (disk ring : ℕ) (ms ns : List (Mark F))
+  pub same_account : {X : Type 0} (o : Opened X) (frames : ℕ) (loose : Bool) (disk ring : ℕ) (ms ns : List (Mark F))
       → total made_of ns ≡ total made_of ms → total failed_of ns ≡ total failed_of ms
       → total unsigned_of ns ≡ total unsigned_of ms
       → Accounted o frames loose disk ring ms → Accounted o frames loose disk ring ns
@@ -46,7 +46,7 @@ module _ {F : Type 0} where
   }
 
   -- one mark is changed, and has the same numbers, answers and last join, and no shorter front
-  pub set_numbered : (o : Opened) (ms : List (Mark F)) (i : ℕ) (m n : Mark F) → get_elem? ms i ≡ some m
+  pub set_numbered : {X : Type 0} (o : Opened X) (ms : List (Mark F)) (i : ℕ) (m n : Mark F) → get_elem? ms i ≡ some m
       → n.numbers ≡ m.numbers → n.absorbed ≡ m.absorbed → IsPrefix m.front n.front → Numbered o ms
       → Numbered o (set ms i n)
   set_numbered o ms i m n at same joined grows h = record {
@@ -106,7 +106,7 @@ module _ {F : Type 0} where
   fork_begins xs ms i m at b j x g = ⊎_elim (λ e. b j x e)
       (λ e. subst (λ (y : Mark F). IsPrefix y.front xs) e (b i m at)) (at_snoc ms (fresh m) x j g)
 
-  pub fork_numbered : (o : Opened) (ms : List (Mark F)) (m : Mark F) → Numbered o ms → Numbered o (ms ++ fresh m ∷ [])
+  pub fork_numbered : {X : Type 0} (o : Opened X) (ms : List (Mark F)) (m : Mark F) → Numbered o ms → Numbered o (ms ++ fresh m ∷ [])
   fork_numbered o ms m h = record {
     once = λ p. let r = total_snoc (λ (x : Mark F). times p x.numbers) ms (fresh m) in let old = h.once p in
         omega arith;
@@ -168,7 +168,7 @@ module _ {F : Type 0} where
         (longer_of (λ (l : List F). IsPrefix l xs) a.front b.front (h i a at) (h j b there))) (λ e. h k x e.2))
         (join_cases k x g)
 
-    pub join_numbered : (o : Opened) (xs : List F) → Begin xs ms → Numbered o ms → Numbered o joined
+    pub join_numbered : {X : Type 0} (o : Opened X) (xs : List F) → Begin xs ms → Numbered o ms → Numbered o joined
     join_numbered o xs h old = record {
       once = λ p. subst (λ (t : ℕ). t ≤ 1)
           (sym (join_total (λ (x : Mark F). times p x.numbers) refl (times-append p a.numbers b.numbers))) (old.once p);
@@ -206,13 +206,14 @@ module _ {F : Type 0} where
             × (p < length (longer a.front b.front))
         of_either p t = split p (times p a.numbers) refl t
 
-module _ {T F : Type 0} (list : T → List F) (loose : T → Bool) (disk ring : T → ℕ) where
+module _ {T F X : Type 0} (fixed : T → X) (list : T → List F) (loose : T → Bool) (disk ring : T → ℕ) where
   -- a step of others leaves a free turn free
-  pub free_moves : (o : Opened) (word : ℕ) (place : maybe.Option (maybe.Option (Option T))) (ms ns : List (Mark F))
+  pub free_moves : (o : Opened X) (word : ℕ) (place : maybe.Option (maybe.Option (Option T))) (ms ns : List (Mark F))
       (x : T)
-      → IsFree list loose disk ring o word place ms x → Moves ms ns → Begin (list x) ns
-      → IsFree list loose disk ring o word place ns x
+      → IsFree fixed list loose disk ring o word place ms x → Moves ms ns → Begin (list x) ns
+      → IsFree fixed list loose disk ring o word place ns x
   free_moves o word place ms ns x f moves begins = record {
+    same = f.same;
     word_is = f.word_is;
     home = f.home;
     nobody = λ j n g. ⊎_elim (λ e. e) (λ e. f.nobody j n e) (moves.idle j n g);
@@ -222,10 +223,10 @@ module _ {T F : Type 0} (list : T → List F) (loose : T → Bool) (disk ring : 
   }
 
   -- and one that is out with the same pass
-  pub out_moves : (o : Opened) (word : ℕ) (place : maybe.Option (maybe.Option (Option T))) (ms ns : List (Mark F))
+  pub out_moves : (o : Opened X) (word : ℕ) (place : maybe.Option (maybe.Option (Option T))) (ms ns : List (Mark F))
       (h : ℕ) (m : Mark F)
-      → IsOut list loose disk ring o word place ms h m → Moves ms ns → Begin m.front ns
-      → IsOut list loose disk ring o word place ns h m
+      → IsOut fixed list loose disk ring o word place ms h m → Moves ms ns → Begin m.front ns
+      → IsOut fixed list loose disk ring o word place ns h m
   out_moves o word place ms ns h m out moves begins = record {
     word_is = out.word_is;
     home = out.home;
@@ -239,13 +240,13 @@ module _ {T F : Type 0} (list : T → List F) (loose : T → Bool) (disk ring : 
 
   -- ---- a turn begins
 
-  pub turn_begins : (o : Opened) (word word' : ℕ) (place place' : maybe.Option (maybe.Option (Option T)))
+  pub turn_begins : (o : Opened X) (word word' : ℕ) (place place' : maybe.Option (maybe.Option (Option T)))
       (ms : List (Mark F)) (i : ℕ) (m : Mark F) (x : T)
-      → IsFree list loose disk ring o word place ms x → get_elem? ms i ≡ some m → word' ≡ word + 1 → place' ≡ some none
-      → IsOut list loose disk ring o word' place' (set ms i (held_mark list loose disk ring m x)) i
-      (held_mark list loose disk ring m x)
+      → IsFree fixed list loose disk ring o word place ms x → get_elem? ms i ≡ some m → word' ≡ word + 1 → place' ≡ some none
+      → IsOut fixed list loose disk ring o word' place' (set ms i (held_mark fixed list loose disk ring m x)) i
+      (held_mark fixed list loose disk ring m x)
   turn_begins o word word' place place' ms i m x f at up away =
-      let n : Mark F = held_mark list loose disk ring m x in record {
+      let n : Mark F = held_mark fixed list loose disk ring m x in record {
         word_is = let w = f.word_is in omega arith;
         home = away;
         seat = set_here ms i n (at_within ms i m at);

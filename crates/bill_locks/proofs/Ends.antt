@@ -46,11 +46,11 @@ module _ {F : Type 0} (m : Mark F) (xs : List F) (t : Told) where
   adds_none : t.after ≡ t.before → (after_turn m xs t).numbers ≡ m.numbers
   adds_none e = ap (λ b. cond b (t.before ∷ m.numbers) m.numbers) (ne_eqb t.after (t.before + 1) (λ c. omega arith))
 
-module _ {T F : Type 0} (list : T → List F) (loose : T → Bool) (disk ring : T → ℕ) where
+module _ {T F X : Type 0} (fixed : T → X) (list : T → List F) (loose : T → Bool) (disk ring : T → ℕ) where
   -- what is the same for both kinds of turn: one that adds a frame, and one that adds none
-  module _ (o : Opened) (word : ℕ) (place : maybe.Option (maybe.Option (Option T))) (ms : List (Mark F)) (i : ℕ)
+  module _ (o : Opened X) (word : ℕ) (place : maybe.Option (maybe.Option (Option T))) (ms : List (Mark F)) (i : ℕ)
       (m : Mark F) (t : Told) (y : T)
-      (out : IsOut list loose disk ring o word place ms i m) (g : Grown list loose disk ring m t y)
+      (out : IsOut fixed list loose disk ring o word place ms i m) (g : Grown list loose disk ring m t y)
       (old : Numbered o ms) where
     abbrev n : Mark F
     n = after_turn m (list y) t
@@ -150,9 +150,10 @@ module _ {T F : Type 0} (list : T → List F) (loose : T → Bool) (disk ring : 
         g.one
 
     pub turn_ends : (word' : ℕ) (place' : maybe.Option (maybe.Option (Option T))) → word' ≡ 2 * length (list y)
-        → place' ≡ some (some (Some y))
-        → IsFree list loose disk ring o word' place' ns y
-    turn_ends word' place' w p = record {
+        → place' ≡ some (some (Some y)) → o.fixed ≡ Some (fixed y)
+        → IsFree fixed list loose disk ring o word' place' ns y
+    turn_ends word' place' w p same = record {
+      same = same;
       word_is = w;
       home = p;
       nobody = λ j x at. ⊎_elim (λ e. ap (λ (z : Mark F). z.held) (sym e.1)) (λ e. out.only j x e.1 e.0)

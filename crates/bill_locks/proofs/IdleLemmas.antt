@@ -15,11 +15,11 @@ use Rattle.bill_locks.proofs.Prefixes.{prefix_trans, prefix_length, prefix_take,
 use Rattle.bill_locks.proofs.Totals.{times-append}
 use Rattle.bill_locks.proofs.Marks.{look_here, look_else, look_map, look_merged, look_nothing, put_put}
 
-module _ {F : Type 0} where
-  pub idle_of : (v w : View F) → w ≡ v → IsIdle v → IsIdle w
-  idle_of v w e h = subst (λ (u : View F). IsIdle u) (sym e) h
+module _ {F X : Type 0} where
+  pub idle_of : (v w : View F X) → w ≡ v → IsIdle v → IsIdle w
+  idle_of v w e h = subst (λ (u : View F X). IsIdle u) (sym e) h
 
-  pub idle_with : (k : ℕ) (m : Mark F) (v : View F) → m.held ≡ false → IsIdle v → IsIdle (with_mark k m v)
+  pub idle_with : (k : ℕ) (m : Mark F) (v : View F X) → m.held ≡ false → IsIdle v → IsIdle (with_mark k m v)
   idle_with k m v free h = record {
     no_turn = λ j. dite (ℕ_discrete j k)
         (λ e. ap (λ (i : ℕ). (mark_at i (with_mark k m v)).held) e
@@ -29,37 +29,37 @@ module _ {F : Type 0} where
     not_alone = h.not_alone;
   }
 
-  pub idle_right : (v : View F) → IsIdle (right_of v)
+  pub idle_right : (v : View F X) → IsIdle (right_of v)
   idle_right v = record {
     no_turn = λ k. ap (λ (m : Mark F). m.held) (look_map fresh refl k v.marks);
     is_out = omega arith;
     not_alone = refl;
   }
 
-  pub idle_both : (v w : View F) → IsIdle v → IsIdle (both_views v w)
+  pub idle_both : (v w : View F X) → IsIdle v → IsIdle (both_views v w)
   idle_both v w h = record {
     no_turn = λ k. ap (λ (m : Mark F). m.held) (look_merged k v.marks w.marks) ∙ h.no_turn k;
     is_out = (let a = h.is_out in omega arith);
     not_alone = refl;
   }
 
-module _ {T F : Type 0} (list : T → List F) (loose : T → Bool) (disk ring : T → ℕ) (k : ℕ) (v : View F) (x : T) where
+module _ {T F X : Type 0} (fixed : T → X) (list : T → List F) (loose : T → Bool) (disk ring : T → ℕ) (k : ℕ) (v : View F X) (x : T) where
   -- the view while the turn is with its pass
-  abbrev pub holding : View F
-  holding = with_mark k (held_mark list loose disk ring (mark_at k v) x) v
+  abbrev pub holding : View F X
+  holding = with_mark k (held_mark fixed list loose disk ring (mark_at k v) x) v
 
-  pub holding_mark : mark_at k holding ≡ held_mark list loose disk ring (mark_at k v) x
-  holding_mark = look_here k (held_mark list loose disk ring (mark_at k v) x) v.marks
+  pub holding_mark : mark_at k holding ≡ held_mark fixed list loose disk ring (mark_at k v) x
+  holding_mark = look_here k (held_mark fixed list loose disk ring (mark_at k v) x) v.marks
 
   module _ (t : Told) (y : T) where
     -- the view after it
-    abbrev pub given : View F
+    abbrev pub given : View F X
     given = with_mark k (after_turn (mark_at k holding) (list y) t) holding
 
     given_is : given ≡ with_mark k (after_turn (mark_at k v) (list y) t) v
     given_is = ap (λ (m : Mark F). with_mark k (after_turn m (list y) t) holding) holding_mark
         ∙ ap (λ (l : List (Mark F)). record v { marks = l })
-        (put_put k (after_turn (mark_at k v) (list y) t) (held_mark list loose disk ring (mark_at k v) x) v.marks)
+        (put_put k (after_turn (mark_at k v) (list y) t) (held_mark fixed list loose disk ring (mark_at k v) x) v.marks)
 
     pub given_front : (mark_at k given).front ≡ list y
     given_front = ap (λ (m : Mark F). m.front) (look_here k (after_turn (mark_at k holding) (list y) t) holding.marks)
@@ -69,7 +69,7 @@ module _ {T F : Type 0} (list : T → List F) (loose : T → Bool) (disk ring : 
         (idle_with k (after_turn (mark_at k v) (list y) t) v refl h)
 
     pub turned_by : IsPrefix (mark_at k v).front (list x)
-        → Grown list loose disk ring (held_mark list loose disk ring (mark_at k v) x) t y → Turned k t v given
+        → Grown list loose disk ring (held_mark fixed list loose disk ring (mark_at k v) x) t y → Turned k t v given
     turned_by seen g = record {
       changes = given_is ∙ ap (λ (xs : List F). with_mark k (after_turn (mark_at k v) xs t) v) (sym given_front);
       begins = subst (λ (xs : List F). IsPrefix (mark_at k v).front (take t.before xs)) (sym given_front)
@@ -82,15 +82,15 @@ module _ {T F : Type 0} (list : T → List F) (loose : T → Bool) (disk ring : 
     }
 
     pub seen_by : IsPrefix (mark_at k v).front (list x)
-        → Grown list loose disk ring (held_mark list loose disk ring (mark_at k v) x) t y
+        → Grown list loose disk ring (held_mark fixed list loose disk ring (mark_at k v) x) t y
         → IsPrefix (mark_at k v).front (mark_at k given).front
     seen_by seen g = subst (λ (xs : List F). IsPrefix (mark_at k v).front xs) (sym given_front)
         (prefix_trans (mark_at k v).front (list x) (list y) seen g.grows)
 
-module _ {F : Type 0} (k : ℕ) (v w : View F) (xs : List F) (e : w ≡ with_mark k (with_front xs (mark_at k v)) v) where
+module _ {F X : Type 0} (k : ℕ) (v w : View F X) (xs : List F) (e : w ≡ with_mark k (with_front xs (mark_at k v)) v) where
   -- a look leaves the front that it saw
   pub looked_front : (mark_at k w).front ≡ xs
-  looked_front = ap (λ (u : View F). (mark_at k u).front) e
+  looked_front = ap (λ (u : View F X). (mark_at k u).front) e
       ∙ ap (λ (m : Mark F). m.front) (look_here k (with_front xs (mark_at k v)) v.marks)
 
   pub looked_changes : w ≡ with_mark k (with_front (mark_at k w).front (mark_at k v)) v
@@ -103,36 +103,36 @@ module _ {F : Type 0} (k : ℕ) (v w : View F) (xs : List F) (e : w ≡ with_mar
   looked_idle h = idle_of (with_mark k (with_front xs (mark_at k v)) v) w e
       (idle_with k (with_front xs (mark_at k v)) v (h.no_turn k) h)
 
-module _ {T F : Type 0} (list : T → List F) (loose : T → Bool) (disk ring : T → ℕ) (k : ℕ) (v : View F) (x : T)
+module _ {T F X : Type 0} (fixed : T → X) (list : T → List F) (loose : T → Bool) (disk ring : T → ℕ) (k : ℕ) (v : View F X) (x : T)
     (t : Told) (y : T) where
   -- what a view is after a turn
-  pub record TurnResult (w : View F) : Type 0 where
+  pub record TurnResult (w : View F X) : Type 0 where
     pub turned : Turned k t v w
     pub seen : IsPrefix (mark_at k v).front (mark_at k w).front
     pub front : (mark_at k w).front ≡ list y
     pub idle : IsIdle v → IsIdle w
 
-  pub turn_result : (held w : View F) → held ≡ holding list loose disk ring k v x
+  pub turn_result : (held w : View F X) → held ≡ holding fixed list loose disk ring k v x
       → w ≡ with_mark k (after_turn (mark_at k held) (list y) t) held
       → IsPrefix (mark_at k v).front (list x)
-      → Grown list loose disk ring (held_mark list loose disk ring (mark_at k v) x) t y
+      → Grown list loose disk ring (held_mark fixed list loose disk ring (mark_at k v) x) t y
       → TurnResult w
   turn_result held w eh ew seen g =
-      let e : w ≡ given list loose disk ring k v x t y = ew
-      ∙ ap (λ (u : View F). with_mark k (after_turn (mark_at k u) (list y) t) u) eh in
-      subst (λ (u : View F). TurnResult u) (sym e) record {
-        turned = turned_by list loose disk ring k v x t y seen g;
-        seen = seen_by list loose disk ring k v x t y seen g;
-        front = given_front list loose disk ring k v x t y;
-        idle = given_idle list loose disk ring k v x t y;
+      let e : w ≡ given fixed list loose disk ring k v x t y = ew
+      ∙ ap (λ (u : View F X). with_mark k (after_turn (mark_at k u) (list y) t) u) eh in
+      subst (λ (u : View F X). TurnResult u) (sym e) record {
+        turned = turned_by fixed list loose disk ring k v x t y seen g;
+        seen = seen_by fixed list loose disk ring k v x t y seen g;
+        front = given_front fixed list loose disk ring k v x t y;
+        idle = given_idle fixed list loose disk ring k v x t y;
       }
 
-  pub held_grown : (held : View F) (told : Told) → held ≡ holding list loose disk ring k v x → told ≡ t
-      → Grown list loose disk ring (held_mark list loose disk ring (mark_at k v) x) t y
+  pub held_grown : (held : View F X) (told : Told) → held ≡ holding fixed list loose disk ring k v x → told ≡ t
+      → Grown list loose disk ring (held_mark fixed list loose disk ring (mark_at k v) x) t y
       → Grown list loose disk ring (mark_at k held) told y
   held_grown held told eh et g = subst (λ (s : Told). Grown list loose disk ring (mark_at k held) s y) (sym et)
       (subst (λ (m : Mark F). Grown list loose disk ring m t y)
-      (sym (ap (λ (u : View F). mark_at k u) eh ∙ holding_mark list loose disk ring k v x)) g)
+      (sym (ap (λ (u : View F X). mark_at k u) eh ∙ holding_mark fixed list loose disk ring k v x)) g)
 
 -- what a join leaves of two marks
 joins_both : {F : Type 0} (a b : Mark F) → IsJoined (both_marks a b) → JoinsMarks a b (both_marks a b)
@@ -146,19 +146,19 @@ joins_both a b j = record {
   unsigned = refl;
 }
 
-pub joins_marks : {F : Type 0} (k : ℕ) (v w u : View F) → u ≡ both_views v w → IsJoined (mark_at k u)
+pub joins_marks : {F X : Type 0} (k : ℕ) (v w u : View F X) → u ≡ both_views v w → IsJoined (mark_at k u)
     → JoinsMarks (mark_at k v) (mark_at k w) (mark_at k u)
-joins_marks {F} k v w u e j =
-    let same : mark_at k u ≡ both_marks (mark_at k v) (mark_at k w) = ap (λ (x : View F). mark_at k x) e
+joins_marks {F} {X} k v w u e j =
+    let same : mark_at k u ≡ both_marks (mark_at k v) (mark_at k w) = ap (λ (x : View F X). mark_at k x) e
     ∙ look_merged k v.marks w.marks in
     subst (λ (m : Mark F). JoinsMarks (mark_at k v) (mark_at k w) m) (sym same)
     (joins_both (mark_at k v) (mark_at k w) (subst (λ (m : Mark F). IsJoined m) same j))
 
-pub idle_first : {F : Type 0} (os : List Opened) → IsIdle (first_view {F = F} os)
+pub idle_first : {F X : Type 0} (os : List (Opened X)) → IsIdle (first_view {F = F} os)
 idle_first {F} os =
     record { no_turn = λ k. ap (λ (m : Mark F). m.held) (look_nothing k); is_out = omega arith; not_alone = refl }
 
-pub idle_closing : {F : Type 0} (u v : View F) → v ≡ record u { alone = true } → IsIdle u
+pub idle_closing : {F X : Type 0} (u v : View F X) → v ≡ record u { alone = true } → IsIdle u
     → IsIdle (record v { alone = false })
-idle_closing {F} u v e h = subst (λ (x : View F). IsIdle (record x { alone = false })) (sym e) record
+idle_closing {F} {X} u v e h = subst (λ (x : View F X). IsIdle (record x { alone = false })) (sym e) record
     { no_turn = h.no_turn; is_out = h.is_out; not_alone = refl }

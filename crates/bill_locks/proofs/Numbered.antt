@@ -60,8 +60,8 @@ places low (suc n) numbers h =
     let a = place_or_number (times low numbers) (h low) in
     let r = places (suc low) n numbers h in omega arith
 
-module _ {T F : Type 0} (list : T → List F) (loose : T → Bool) (disk ring : T → ℕ) where
-  pub unnumbered_cost_faults : (o : Opened) (m : Mark F) (x : T) → HandedOut list loose disk ring o m x
+module _ {T F X : Type 0} (fixed : T → X) (list : T → List F) (loose : T → Bool) (disk ring : T → ℕ) where
+  pub unnumbered_cost_faults : (o : Opened X) (m : Mark F) (x : T) → HandedOut fixed list loose disk ring o m x
       → unnumbered o.frames (length (list x) - o.frames) m.numbers + one_if (loose x) ≤ m.failed
   unnumbered_cost_faults o m x h =
       let n : ℕ = length (list x) - o.frames in

@@ -22,12 +22,12 @@ use Rattle.bill_locks.proofs.Columns.{fork_moves, fork_begins, fork_numbered, jo
 use Rattle.bill_locks.proofs.PassLemmas.{set_passes, counted_passes, split_passes, joined_passes}
 use Rattle.bill_locks.proofs.RuleLemmas.{column_at, column-set, last_step}
 
-module _ {T F : Type 0} (list : T → List F) (loose : T → Bool) (disk ring : T → ℕ) (os : List Opened) where
-  abbrev Holds : State (Option T) (View F) → Type 0
-  Holds = Turning list loose disk ring os
+module _ {T F X : Type 0} (fixed : T → X) (list : T → List F) (loose : T → Bool) (disk ring : T → ℕ) (os : List (Opened X)) where
+  abbrev Holds : State (Option T) (View F X) → Type 0
+  Holds = Turning fixed list loose disk ring os
 
-  module _ (slots id : ℕ) (me : Me (Option T) (View F)) where
-    module _ (s : State (Option T) (View F)) (rule : Holds s) (sized : length s.homes ≡ slots)
+  module _ (slots id : ℕ) (me : Me (Option T) (View F X)) where
+    module _ (s : State (Option T) (View F X)) (rule : Holds s) (sized : length s.homes ≡ slots)
         (at : get_elem? s.views id ≡ some me.0) where
       abbrev word : ℕ
       word = get_or s.words slots 0
@@ -39,18 +39,18 @@ module _ {T F : Type 0} (list : T → List F) (loose : T → Bool) (disk ring : 
       passes = subst (λ (n : ℕ). Passes os n s.views) same_word rule.passes
 
       -- the rule after a step on the last word that leaves all marks
-      after_last : (n' : ℕ) (w : View F) → ((j : ℕ) → mark_at j w ≡ mark_at j me.0) → Passes os n' (set s.views id w)
+      after_last : (n' : ℕ) (w : View F X) → ((j : ℕ) → mark_at j w ≡ mark_at j me.0) → Passes os n' (set s.views id w)
           → Holds record { words = set s.words slots n'; homes = s.homes; views = set s.views id w }
       after_last n' w same p =
           subst (λ (i : ℕ). Holds record { words = set s.words i n'; homes = s.homes; views = set s.views id w }) sized
-          (last_step list loose disk ring os s n' id me.0 w rule at same p)
+          (last_step fixed list loose disk ring os s n' id me.0 w rule at same p)
 
       known_or_more : 0 < me.0.stands → me.0.stands ≢ word
-          → max me.0.known (me.0.stands + 1) ≤ total (λ (u : View F). u.stands) s.views
+          → max me.0.known (me.0.stands + 1) ≤ total (λ (u : View F X). u.stands) s.views
       known_or_more some_passes ne =
           let known = passes.known id me.0 at in
           let sum = passes.word_is in
-          let mine = total_one (λ (u : View F). u.stands) s.views id me.0 at in omega arith
+          let mine = total_one (λ (u : View F X). u.stands) s.views id me.0 at in omega arith
 
     pub counts : (old : ℕ) → 0 < me.0.stands → me.0.alone ≡ false
         → Allows Holds slots id me slots (λ n. either (eqb n old) (old + 1) n)
@@ -79,7 +79,7 @@ module _ {T F : Type 0} (list : T → List F) (loose : T → Bool) (disk ring : 
           subst (λ (k : ℕ). Holds record { words = set s.words slots k; homes = s.homes; views = set s.views id me.0 })
               (sym miss)
               (after_last s rule sized at n me.0 (λ j. refl)
-              (subst (λ (l : List (View F)). Passes os n l) (sym (set_again s.views id me.0 at)) p)),
+              (subst (λ (l : List (View F X)). Passes os n l) (sym (set_again s.views id me.0 at)) p)),
           record { hit = λ e. absurd (ne e); miss = λ _. refl },
         ))
 
@@ -91,10 +91,10 @@ module _ {T F : Type 0} (list : T → List F) (loose : T → Bool) (disk ring : 
           keeps,
           tt,
           after_last s rule sized at n me.0 (λ j. refl)
-              (subst (λ (l : List (View F)). Passes os n l) (sym (set_again s.views id me.0 at)) p),
+              (subst (λ (l : List (View F X)). Passes os n l) (sym (set_again s.views id me.0 at)) p),
           record {
             same = refl;
-            fits = (let sum = p.word_is in let mine = total_one (λ (u : View F). u.stands) s.views id me.0 at in
+            fits = (let sum = p.word_is in let mine = total_one (λ (u : View F X). u.stands) s.views id me.0 at in
                 omega arith);
             marks = λ k lt.
                 let numbers = (rule.turns k (omega arith)).numbers in
@@ -113,7 +113,7 @@ module _ {T F : Type 0} (list : T → List F) (loose : T → Bool) (disk ring : 
         let p : Passes os n s.views = passes s rule sized at in
         dite (ℕ_discrete n me.0.stands)
         (λ e.
-        let w : View F = record me.0 { alone = true } in
+        let w : View F X = record me.0 { alone = true } in
         let known = p.known id me.0 at in
         let sum = p.word_is in (
           w,
@@ -124,9 +124,9 @@ module _ {T F : Type 0} (list : T → List F) (loose : T → Bool) (disk ring : 
           record { alone = λ _. (refl, omega arith); others = λ ne. absurd (ne e) },
         ))
         (λ ne.
-        let w : View F = knows_of_another me.0 in
+        let w : View F X = knows_of_another me.0 in
         let sum = p.word_is in
-        let mine = total_one (λ (u : View F). u.stands) s.views id me.0 at in (
+        let mine = total_one (λ (u : View F X). u.stands) s.views id me.0 at in (
           w,
           keeps,
           tt,
@@ -139,38 +139,38 @@ module _ {T F : Type 0} (list : T → List F) (loose : T → Bool) (disk ring : 
 
   -- ---- splitting and joining
 
-  column-split : (k id : ℕ) (v : View F) (views : List (View F)) → get_elem? views id ≡ some v
+  column-split : (k id : ℕ) (v : View F X) (views : List (View F X)) → get_elem? views id ≡ some v
       → column k (set views id (left_of v) ++ right_of v ∷ []) ≡ column k views ++ fresh (mark_at k v) ∷ []
   column-split k id v views at = map-append (mark_at k) (set views id (left_of v)) (right_of v ∷ [])
       ∙ (ap (λ (l : List (Mark F)). l ++ mark_at k (right_of v) ∷ [])
       (column-set k views id (left_of v) ∙ set_again (column k views) id (mark_at k v) (column_at k views id v at))
       ∙ ap (λ (m : Mark F). column k views ++ m ∷ []) (look_map fresh refl k v.marks))
 
-  stands_split : (o : Opened) (n : ℕ) (place : maybe.Option (maybe.Option (Option T))) (ms : List (Mark F)) (id : ℕ)
+  stands_split : (o : Opened X) (n : ℕ) (place : maybe.Option (maybe.Option (Option T))) (ms : List (Mark F)) (id : ℕ)
       (m : Mark F) → get_elem? ms id ≡ some m
-      → Stands list loose disk ring o n place ms → Stands list loose disk ring o n place (ms ++ fresh m ∷ [])
+      → Stands fixed list loose disk ring o n place ms → Stands fixed list loose disk ring o n place (ms ++ fresh m ∷ [])
   stands_split o n place ms id m at st = record {
     turn = ⊎_elim
         (λ f. inl (
           f.0,
-          free_moves list loose disk ring o n place ms (ms ++ fresh m ∷ []) f.0 f.1 (fork_moves ms m)
+          free_moves fixed list loose disk ring o n place ms (ms ++ fresh m ∷ []) f.0 f.1 (fork_moves ms m)
               (fork_begins (list f.0) ms id m at f.1.fronts),
         ))
         (λ t. inr (
           t.0,
           t.1,
-          out_moves list loose disk ring o n place ms (ms ++ fresh m ∷ []) t.0 t.1 t.2
+          out_moves fixed list loose disk ring o n place ms (ms ++ fresh m ∷ []) t.0 t.1 t.2
               (fork_moves ms m) (fork_begins t.1.front ms id m at t.2.fronts),
         ))
         st.turn;
     numbers = fork_numbered o ms m st.numbers;
   }
 
-  pub halves : (id : ℕ) (v : View F) → 1 < v.stands → v.alone ≡ false → Splits Holds id v (left_of v) (right_of v)
+  pub halves : (id : ℕ) (v : View F X) → 1 < v.stands → v.alone ≡ false → Splits Holds id v (left_of v) (right_of v)
   halves id v two not_alone s rule at = record {
     sized = rule.sized;
     turns = λ k lt. subst
-        (λ (c : List (Mark F)). Stands list loose disk ring (get_or os k unopened) (get_or s.words k 0)
+        (λ (c : List (Mark F)). Stands fixed list loose disk ring (get_or os k unopened) (get_or s.words k 0)
         (get_elem? s.homes k) c)
         (sym (column-split k id v s.views at))
         (stands_split (get_or os k unopened) (get_or s.words k 0) (get_elem? s.homes k) (column k s.views) id
@@ -178,7 +178,7 @@ module _ {T F : Type 0} (list : T → List F) (loose : T → Bool) (disk ring : 
     passes = split_passes os (get_or s.words (length s.homes) 0) s.views id v rule.passes at two not_alone;
   }
 
-  column-join : (k id other : ℕ) (v w : View F) (views : List (View F))
+  column-join : (k id other : ℕ) (v w : View F X) (views : List (View F X))
       → column k (set (set views id (both_views v w)) other spent) ≡ set
       (set (column k views) id (both_marks (mark_at k v) (mark_at k w))) other blank
   column-join k id other v w views = column-set k (set views id (both_views v w)) other spent
@@ -187,16 +187,16 @@ module _ {T F : Type 0} (list : T → List F) (loose : T → Bool) (disk ring : 
       (column-set k views id (both_views v w)
       ∙ ap (λ (m : Mark F). set (column k views) id m) (look_merged k v.marks w.marks)))
 
-  stands_join : (o : Opened) (n : ℕ) (place : maybe.Option (maybe.Option (Option T))) (ms : List (Mark F)) (i j : ℕ)
+  stands_join : (o : Opened X) (n : ℕ) (place : maybe.Option (maybe.Option (Option T))) (ms : List (Mark F)) (i j : ℕ)
       (a b : Mark F) → get_elem? ms i ≡ some a → j ≢ i
       → get_elem? ms j ≡ some b → a.held ≡ false → b.held ≡ false
-      → Stands list loose disk ring o n place ms
-      → Stands list loose disk ring o n place (set (set ms i (both_marks a b)) j blank)
+      → Stands fixed list loose disk ring o n place ms
+      → Stands fixed list loose disk ring o n place (set (set ms i (both_marks a b)) j blank)
   stands_join o n place ms i j a b at apart there ha hb st = ⊎_elim
       (λ f. record {
         turn = inl (
           f.0,
-          free_moves list loose disk ring o n place ms (set (set ms i (both_marks a b)) j blank) f.0 f.1
+          free_moves fixed list loose disk ring o n place ms (set (set ms i (both_marks a b)) j blank) f.0 f.1
               (join_moves ms i j a b at apart there ha hb)
               (join_begins ms i j a b at apart there (list f.0) f.1.fronts),
         );
@@ -206,7 +206,7 @@ module _ {T F : Type 0} (list : T → List F) (loose : T → Bool) (disk ring : 
         turn = inr (
           t.0,
           t.1,
-          out_moves list loose disk ring o n place ms (set (set ms i (both_marks a b)) j blank) t.0 t.1 t.2
+          out_moves fixed list loose disk ring o n place ms (set (set ms i (both_marks a b)) j blank) t.0 t.1 t.2
               (join_moves ms i j a b at apart there ha hb)
               (join_begins ms i j a b at apart there t.1.front t.2.fronts),
         );
@@ -214,7 +214,7 @@ module _ {T F : Type 0} (list : T → List F) (loose : T → Bool) (disk ring : 
       })
       st.turn
 
-  pub both : (id other : ℕ) (v w : View F) → ((k : ℕ) → (mark_at k v).held ≡ false)
+  pub both : (id other : ℕ) (v w : View F X) → ((k : ℕ) → (mark_at k v).held ≡ false)
       → ((k : ℕ) → (mark_at k w).held ≡ false) → 0 < v.stands
       → Joins Holds id v other w (both_views v w) spent
   both id other v w idle idle' some_passes s rule at apart there' =
@@ -222,7 +222,7 @@ module _ {T F : Type 0} (list : T → List F) (loose : T → Bool) (disk ring : 
       record {
         sized = rule.sized;
         turns = λ k lt. subst
-            (λ (c : List (Mark F)). Stands list loose disk ring (get_or os k unopened) (get_or s.words k 0)
+            (λ (c : List (Mark F)). Stands fixed list loose disk ring (get_or os k unopened) (get_or s.words k 0)
             (get_elem? s.homes k) c)
             (sym (column-join k id other v w s.views))
             (stands_join (get_or os k unopened) (get_or s.words k 0) (get_elem? s.homes k) (column k s.views) id other
@@ -235,7 +235,7 @@ module _ {T F : Type 0} (list : T → List F) (loose : T → Bool) (disk ring : 
 
   -- ---- the last word, by an index that is equal to its place
 
-  pub counts_at : (slots last id : ℕ) (me : Me (Option T) (View F)) (old : ℕ) → last ≡ slots → 0 < me.0.stands
+  pub counts_at : (slots last id : ℕ) (me : Me (Option T) (View F X)) (old : ℕ) → last ≡ slots → 0 < me.0.stands
       → me.0.alone ≡ false
       → Allows Holds slots id me last (λ n. either (eqb n old) (old + 1) n)
       (Counted (step slots last old (old + 1) none) me)
@@ -243,12 +243,12 @@ module _ {T F : Type 0} (list : T → List F) (loose : T → Bool) (disk ring : 
       subst (λ (i : ℕ). Allows Holds slots id me i (λ n. either (eqb n old) (old + 1) n)
       (Counted (step slots i old (old + 1) none) me)) (sym e) (counts slots id me old some_passes not_alone)
 
-  pub fits_at : (slots last id : ℕ) (me : Me (Option T) (View F)) → last ≡ slots
+  pub fits_at : (slots last id : ℕ) (me : Me (Option T) (View F X)) → last ≡ slots
       → Allows Holds slots id me last (λ n. n) (Fitted (step slots last 0 0 none) me)
   fits_at slots last id me e = subst
       (λ (i : ℕ). Allows Holds slots id me i (λ n. n) (Fitted (step slots i 0 0 none) me)) (sym e) (fits slots id me)
 
-  pub settles_at : (slots last id : ℕ) (me : Me (Option T) (View F)) → last ≡ slots → 0 < me.0.stands
+  pub settles_at : (slots last id : ℕ) (me : Me (Option T) (View F X)) → last ≡ slots → 0 < me.0.stands
       → me.0.alone ≡ false
       → Allows Holds slots id me last (λ n. n) (Settled (step slots last 0 0 none) me)
   settles_at slots last id me e some_passes not_alone =

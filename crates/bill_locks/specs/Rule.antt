@@ -22,7 +22,7 @@ abbrev pub Each : {A : Type 0} → (ℕ → A → Type 0) → List A → Type 0
 Each {A} P xs = (i : ℕ) (x : A) → get_elem? xs i ≡ some x → P i x
 
 -- what all passes know of the value at k
-abbrev pub column : {F : Type 0} → ℕ → List (View F) → List (Mark F)
+abbrev pub column : {F X : Type 0} → ℕ → List (View F X) → List (Mark F)
 column k views = map (mark_at k) views
 
 module _ {F : Type 0} where
@@ -33,30 +33,32 @@ module _ {F : Type 0} where
   -- a value with so many frames, this mark of being loose and these counts of faults. The frames since the opening
   -- that are nobody's, and one more if the value is loose, are at most the disk answers of all passes. These are at
   -- most what the disk's count rose, and the ring answers likewise.
-  pub record Accounted (o : Opened) (frames : ℕ) (loose : Bool) (disk ring : ℕ) (marks : List (Mark F)) : Type 0 where
+  pub record Accounted {X : Type 0} (o : Opened X) (frames : ℕ) (loose : Bool) (disk ring : ℕ)
+      (marks : List (Mark F)) : Type 0 where
     pub grown : o.frames ≤ frames
     pub made : frames + one_if loose ≤ o.frames + total (λ m. length m.numbers) marks + total (λ m. m.failed) marks
     pub disks : RoseBy o.disk (total (λ m. m.failed) marks) disk
     pub rings : RoseBy o.ring (total (λ m. m.unsigned) marks) ring
 
   -- a number was given once, for a frame since the opening that its pass has seen; what was joined last is a beginning
-  pub record Numbered (o : Opened) (marks : List (Mark F)) : Type 0 where
+  pub record Numbered {X : Type 0} (o : Opened X) (marks : List (Mark F)) : Type 0 where
     pub once : (p : ℕ) → total (λ m. times p m.numbers) marks ≤ 1
     pub within : Each (λ i m. (p : ℕ) → 0 < times p m.numbers → (o.frames ≤ p) × (p < length m.front)) marks
     pub joined : Each (λ i m. IsPrefix m.absorbed m.front) marks
 
-module _ {T F : Type 0} (list : T → List F) (loose : T → Bool) (disk ring : T → ℕ) where
+module _ {T F X : Type 0} (fixed : T → X) (list : T → List F) (loose : T → Bool) (disk ring : T → ℕ) where
   -- a value at the opening
-  abbrev pub opened_as : T → Opened
-  opened_as x = record { frames = length (list x); disk = disk x; ring = ring x }
+  abbrev pub opened_as : T → Opened X
+  opened_as x = record { fixed = Some (fixed x); frames = length (list x); disk = disk x; ring = ring x }
 
   -- all values at the opening
-  abbrev pub openings : List T → List Opened
+  abbrev pub openings : List T → List (Opened X)
   openings xs = map opened_as xs
 
   -- The turn is free: the word is twice the number of frames, the value is at home, and no pass holds it
-  pub record IsFree (o : Opened) (word : ℕ) (place : maybe.Option (maybe.Option (Option T)))
+  pub record IsFree (o : Opened X) (word : ℕ) (place : maybe.Option (maybe.Option (Option T)))
       (marks : List (Mark F)) (x : T) : Type 0 where
+    pub same : o.fixed ≡ Some (fixed x)
     pub word_is : word ≡ 2 * length (list x)
     pub home : place ≡ some (some (Some x))
     pub nobody : Each (λ i m. m.held ≡ false) marks
@@ -64,7 +66,7 @@ module _ {T F : Type 0} (list : T → List F) (loose : T → Bool) (disk ring : 
     pub account : Accounted o (length (list x)) (loose x) (disk x) (ring x) marks
 
   -- The turn is out with the seat h alone, and so is the value: the word is twice the length of its front and one more
-  pub record IsOut (o : Opened) (word : ℕ) (place : maybe.Option (maybe.Option (Option T)))
+  pub record IsOut (o : Opened X) (word : ℕ) (place : maybe.Option (maybe.Option (Option T)))
       (marks : List (Mark F)) (h : ℕ) (m : Mark F) : Type 0 where
     pub word_is : word ≡ 2 * length m.front + 1
     pub home : place ≡ some none
@@ -75,14 +77,14 @@ module _ {T F : Type 0} (list : T → List F) (loose : T → Bool) (disk ring : 
     pub account : Accounted o (length m.front) m.loose m.disk m.ring marks
 
   -- the turn of one value, and the numbers that were given at it
-  pub record Stands (o : Opened) (word : ℕ) (place : maybe.Option (maybe.Option (Option T)))
+  pub record Stands (o : Opened X) (word : ℕ) (place : maybe.Option (maybe.Option (Option T)))
       (marks : List (Mark F)) : Type 0 where
     pub turn : ((x : T) × IsFree o word place marks x) ⊎ ((h : ℕ) × (m : Mark F) × IsOut o word place marks h m)
     pub numbers : Numbered o marks
 
 -- The last word counts the passes for which all seats stand. No pass knows of more, one that stands for none knows
 -- nothing, one that is alone stands for all, and each knows the values as they were opened
-pub record Passes {F : Type 0} (os : List Opened) (word : ℕ) (views : List (View F)) : Type 0 where
+pub record Passes {F X : Type 0} (os : List (Opened X)) (word : ℕ) (views : List (View F X)) : Type 0 where
   pub word_is : word ≡ total (λ v. v.stands) views
   pub known : Each (λ i v. v.known ≤ total (λ u. u.stands) views) views
   pub empty : Each (λ i v. v.stands ≡ 0 → v.marks ≡ []) views
@@ -90,10 +92,10 @@ pub record Passes {F : Type 0} (os : List Opened) (word : ℕ) (views : List (Vi
   pub opened : Each (λ i v. 0 < v.stands → v.opened ≡ os) views
 
 -- the rule
-pub record Turning {T F : Type 0} (list : T → List F) (loose : T → Bool) (disk ring : T → ℕ)
-    (os : List Opened) (s : State (Option T) (View F)) : Type 0 where
+pub record Turning {T F X : Type 0} (fixed : T → X) (list : T → List F) (loose : T → Bool) (disk ring : T → ℕ)
+    (os : List (Opened X)) (s : State (Option T) (View F X)) : Type 0 where
   pub sized : length s.words ≡ suc (length s.homes)
   pub turns : (k : ℕ) → k < length s.homes
-      → Stands list loose disk ring (slice_index_or os k unopened) (slice_index s.words k) (get_elem? s.homes k)
+      → Stands fixed list loose disk ring (slice_index_or os k unopened) (slice_index s.words k) (get_elem? s.homes k)
       (column k s.views)
   pub passes : Passes os (slice_index s.words (length s.homes)) s.views

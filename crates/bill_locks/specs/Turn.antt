@@ -1,5 +1,5 @@
 -- What a turn, a join and a closing leave.
-use Rattle.std.specs.Prelude.{◌≡◌, ◌⊎◌, ℕ, zero, suc, ◌+◌, ◌<◌, ◌≤◌, ◌==◌, Bool, List, ◌++◌, length, take}
+use Rattle.std.specs.Prelude.{◌≡◌, ◌⊎◌, ℕ, zero, suc, ◌+◌, ◌<◌, ◌≤◌, ◌==◌, Bool, List, ◌++◌, length, take, Some}
 use mathlib.Core.List.{IsPrefix}
 use Rattle.ebl_base.specs.Faults.{RoseBy}
 use Rattle.bill_locks.specs.declared.view.Mark.{Mark}
@@ -11,7 +11,7 @@ use Rattle.bill_locks.specs.Steps.{after_turn}
 
 -- a turn at k that told t: the pass has seen the list as the turn left it, of which what it had seen before is a
 -- beginning, also of the frames that were there before the turn's own. It knows nothing else that is new
-pub record Turned {F : Type 0} (k : ℕ) (t : Told) (v w : View F) : Type 0 where
+pub record Turned {F X : Type 0} (k : ℕ) (t : Told) (v w : View F X) : Type 0 where
   pub changes : w ≡ with_mark k (after_turn (mark_at k v) (mark_at k w).front t) v
   pub begins : IsPrefix (mark_at k v).front (take t.before (mark_at k w).front)
   pub one : (t.after ≡ t.before) ⊎ (t.after ≡ t.before + 1)
@@ -28,8 +28,9 @@ pub record JoinsMarks {F : Type 0} (m n both : Mark F) : Type 0 where
   pub unsigned : both.unsigned ≡ m.unsigned + n.unsigned
 
 -- a value handed out at the closing, by what it was at the opening and the last pass's mark
-pub record HandedOut {T F : Type 0} (list : T → List F) (loose : T → Bool) (disk ring : T → ℕ)
-    (o : Opened) (m : Mark F) (x : T) : Type 0 where
+pub record HandedOut {T F X : Type 0} (fixed : T → X) (list : T → List F) (loose : T → Bool) (disk ring : T → ℕ)
+    (o : Opened X) (m : Mark F) (x : T) : Type 0 where
+  pub same : o.fixed ≡ Some (fixed x)
   pub begins : IsPrefix m.front (list x)
   pub grown : o.frames ≤ length (list x)
   pub once : (p : ℕ) → times p m.numbers ≤ 1

@@ -1,5 +1,5 @@
 -- What a pass knows, as plain data: a mark for each value, read and written by the value's place.
-use Rattle.std.specs.Prelude.{ℕ, zero, suc, ◌+◌, ◌-◌, Bool, true, false, List, [], ◌∷◌, ◌++◌, length, map, max, if◌then◌else◌, nat_lt, ◌==◌}
+use Rattle.std.specs.Prelude.{ℕ, zero, suc, ◌+◌, ◌-◌, Bool, true, false, List, [], ◌∷◌, ◌++◌, length, map, slice_index_or, max, None, if◌then◌else◌, nat_lt, ◌==◌}
 use Rattle.bill_locks.specs.declared.view.Mark.{Mark}
 use Rattle.bill_locks.specs.declared.view.Opened.{Opened}
 use Rattle.bill_locks.specs.declared.view.View.{View}
@@ -15,8 +15,8 @@ times p [] = 0
 times p (q ∷ qs) = one_if (q == p) + times p qs
 
 -- a value at whose place nothing was opened
-abbrev pub unopened : Opened
-unopened = record { frames = 0; disk = 0; ring = 0 }
+abbrev pub unopened : {X : Type 0} → Opened X
+unopened = record { fixed = None; frames = 0; disk = 0; ring = 0 }
 
 module _ {F : Type 0} where
   -- the mark of a value of which nothing is known
@@ -46,14 +46,20 @@ module _ {F : Type 0} where
   put zero m (x ∷ xs) = m ∷ xs
   put (suc k) m (x ∷ xs) = x ∷ put k m xs
 
+module _ {F X : Type 0} where
+  -- the value at k at the opening
+  abbrev pub opened_at : ℕ → View F X → Opened X
+  opened_at k v = slice_index_or v.opened k unopened
+
   -- a view's mark of the value at k
-  abbrev pub mark_at : ℕ → View F → Mark F
+  abbrev pub mark_at : ℕ → View F X → Mark F
   mark_at k v = look k v.marks
 
   -- the view with this mark of the value at k
-  abbrev pub with_mark : ℕ → Mark F → View F → View F
+  abbrev pub with_mark : ℕ → Mark F → View F X → View F X
   with_mark k m v = record v { marks = put k m v.marks }
 
+module _ {F : Type 0} where
   -- the longer of two lists, the first where they are as long
   abbrev pub longer : List F → List F → List F
   longer xs ys = if nat_lt (length xs) (length ys) then ys else xs
@@ -86,32 +92,33 @@ module _ {F : Type 0} where
   merged (m ∷ ms) [] = map (λ a. both_marks a blank) (m ∷ ms)
   merged (m ∷ ms) (n ∷ ns) = both_marks m n ∷ merged ms ns
 
+module _ {F X : Type 0} where
   -- the first pass at the opening
-  abbrev pub first_view : List Opened → View F
+  abbrev pub first_view : List (Opened X) → View F X
   first_view os = record { marks = []; opened = os; stands = 1; known = 1; alone = false }
 
   -- a pass that was joined to another
-  abbrev pub spent : View F
+  abbrev pub spent : View F X
   spent = record { marks = []; opened = []; stands = 0; known = 0; alone = false }
 
   -- it knows of a pass more than it stands for
-  abbrev pub knows_of_another : View F → View F
+  abbrev pub knows_of_another : View F X → View F X
   knows_of_another v = record v { known = max v.known (v.stands + 1) }
 
   -- it stands for one pass more
-  abbrev pub counted : View F → View F
+  abbrev pub counted : View F X → View F X
   counted v = record v { stands = v.stands + 1 }
 
   -- what is left of a view of which a pass was cut off
-  abbrev pub left_of : View F → View F
+  abbrev pub left_of : View F X → View F X
   left_of v = record v { stands = v.stands - 1 }
 
   -- the pass that was cut off
-  abbrev pub right_of : View F → View F
+  abbrev pub right_of : View F X → View F X
   right_of v = record { marks = map fresh v.marks; opened = v.opened; stands = 1; known = v.known; alone = false }
 
   -- two passes in one
-  abbrev pub both_views : View F → View F → View F
+  abbrev pub both_views : View F X → View F X → View F X
   both_views v w = record {
     marks = merged v.marks w.marks;
     opened = v.opened;

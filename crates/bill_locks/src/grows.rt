@@ -9,6 +9,12 @@ pub trait Grows {
     /// What the list is of.
     type Frame;
 
+    /// What never changes of a value.
+    type Fixed;
+
+    // What no turn changes of the value.
+    ghost fixed: { Self → Self.Fixed };
+
     // The frames that the value stands for.
     ghost list: { Self → List Self.Frame };
 

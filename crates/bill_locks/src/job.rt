@@ -27,11 +27,13 @@ pub trait Job<T: Grows> {
     // What an answer reports of its turn.
     ghost tells: { Self.Answer → Told };
 
-    // The job, the frames before its own, the list as it leaves it, and its answer.
-    ghost does: { Self → List T.Frame → List T.Frame → Self.Answer → Type 0 };
+    // The job, what never changes of the value, the frames before the job's own, the list as it leaves it, and its
+    // answer.
+    ghost does: { Self → T.Fixed → List T.Frame → List T.Frame → Self.Answer → Type 0 };
 
     /// Does the work.
     fn run(self, value: &mut T) -> Self::Answer
+        ensures fixed { T.fixed value.new ≡ T.fixed value.old }
         ensures grows { IsPrefix (T.list value.old) (T.list value.new) }
 
         // A loose frame may turn out to be there.
@@ -48,7 +50,8 @@ pub trait Job<T: Grows> {
         ensures ring { T.ring value.old ≤ T.ring value.new }
         ensures failed { (tells result).failed ≡ true → Rose (T.disk value.old) (T.disk value.new) }
         ensures unsigned { (tells result).unsigned ≡ true → Rose (T.ring value.old) (T.ring value.new) }
-        ensures does { does self (take (tells result).before (T.list value.new)) (T.list value.new) result };
+        ensures does { does self (T.fixed value.old) (take (tells result).before (T.list value.new)) (T.list value.new)
+            result };
 
     /// What an answer reports of its turn.
     fn told(answer: &Self::Answer) -> Told

@@ -10,6 +10,6 @@ use crate::grows::Grows;
 /// Each frame of a value that was handed out, since the opening, has a number of the last pass, except at most as many
 /// as its disk faults, one of which goes to a loose frame.
 pub fn frames_without_a_number_cost_disk_faults<T: Grows>()
-    ensures { (o : Opened) (m : Mark T.Frame) (x : T) → HandedOut T.list T.loose T.disk T.ring o m x
+    ensures { (o : Opened T.Fixed) (m : Mark T.Frame) (x : T) → HandedOut T.fixed T.list T.loose T.disk T.ring o m x
         → unnumbered o.frames (length (T.list x) - o.frames) m.numbers + one_if (T.loose x) ≤ m.failed }
 {}

@@ -17,7 +17,7 @@ impl<T: Grows> Model for Pass<T> {
     ghost use Rattle.std.specs.Prelude.{◌≡◌, []};
     ghost use Rattle.bill_locks.specs.Pass.{PassRecord, IsIdle};
 
-    ghost Value = { PassRecord T.Frame };
+    ghost Value = { PassRecord T.Frame T.Fixed };
 
     ghost view = { λ p. record { table = p.seat.table_id; knows = p.seat.me.0 } };
 

@@ -9,23 +9,23 @@ use std::snapshot::Snapshot;
 /// The rule.
 pub struct Order;
 
-impl<T: Grows> TableRule<Option<T>, View<T::Frame>, Snapshot<Vec<T>>> for Order {
+impl<T: Grows> TableRule<Option<T>, View<T::Frame, T::Fixed>, Snapshot<Vec<T>>> for Order {
     ghost use Rattle.bill_locks.specs.View.{first_view};
     ghost use Rattle.bill_locks.specs.Rule.{Turning, openings};
 
-    ghost holds = { λ key. Turning T.list T.loose T.disk T.ring
-        (openings T.list T.loose T.disk T.ring key.value.items) };
+    ghost holds = { λ key. Turning T.fixed T.list T.loose T.disk T.ring
+        (openings T.fixed T.list T.loose T.disk T.ring key.value.items) };
 
-    ghost first = { λ key. first_view (openings T.list T.loose T.disk T.ring key.value.items) };
+    ghost first = { λ key. first_view (openings T.fixed T.list T.loose T.disk T.ring key.value.items) };
 }
 
 /// The fetch_or of a value's word, which tries its turn.
 pub struct Try;
 
-impl<T: Grows> Play<Option<T>, View<T::Frame>> for Try {
+impl<T: Grows> Play<Option<T>, View<T::Frame, T::Fixed>> for Try {
     ghost use Rattle.bill_locks.specs.Steps.{Tried};
 
-    ghost then = { Tried T.list T.loose T.disk T.ring };
+    ghost then = { Tried T.fixed T.list T.loose T.disk T.ring };
 }
 
 /// What the answer of a turn reported. Each call picks it.
@@ -46,16 +46,16 @@ pub struct Give<D: Deed> {
     deed: PhantomData<D>,
 }
 
-impl<T: Grows, D: Deed> Play<Option<T>, View<T::Frame>> for Give<D> {
+impl<T: Grows, D: Deed> Play<Option<T>, View<T::Frame, T::Fixed>> for Give<D> {
     ghost use Rattle.bill_locks.specs.Steps.{Gave};
 
-    ghost then = { Gave T.list T.loose T.disk T.ring D.told };
+    ghost then = { Gave T.fixed T.list T.loose T.disk T.ring D.told };
 }
 
 /// The load of a value's word.
 pub struct Look;
 
-impl<S, F> Play<S, View<F>> for Look {
+impl<S, F, X> Play<S, View<F, X>> for Look {
     ghost use Rattle.bill_locks.specs.Steps.{Looked};
 
     ghost then = { Looked };
@@ -64,7 +64,7 @@ impl<S, F> Play<S, View<F>> for Look {
 /// The exchange of the last word, which counts a pass.
 pub struct Count;
 
-impl<S, F> Play<S, View<F>> for Count {
+impl<S, F, X> Play<S, View<F, X>> for Count {
     ghost use Rattle.bill_locks.specs.Steps.{Counted};
 
     ghost then = { Counted };
@@ -73,7 +73,7 @@ impl<S, F> Play<S, View<F>> for Count {
 /// The load of the last word after a join.
 pub struct Fit;
 
-impl<S, F> Play<S, View<F>> for Fit {
+impl<S, F, X> Play<S, View<F, X>> for Fit {
     ghost use Rattle.bill_locks.specs.Steps.{Fitted};
 
     ghost then = { Fitted };
@@ -82,7 +82,7 @@ impl<S, F> Play<S, View<F>> for Fit {
 /// The load of the last word at the closing.
 pub struct Settle;
 
-impl<S, F> Play<S, View<F>> for Settle {
+impl<S, F, X> Play<S, View<F, X>> for Settle {
     ghost use Rattle.bill_locks.specs.Steps.{Settled};
 
     ghost then = { Settled };
@@ -91,7 +91,7 @@ impl<S, F> Play<S, View<F>> for Settle {
 /// A pass is cut off.
 pub struct Halves;
 
-impl<F> Split<View<F>> for Halves {
+impl<F, X> Split<View<F, X>> for Halves {
     ghost use Rattle.bill_locks.specs.View.{left_of, right_of};
 
     ghost left = { left_of };
@@ -102,7 +102,7 @@ impl<F> Split<View<F>> for Halves {
 /// A pass is joined to another.
 pub struct Both;
 
-impl<F> Join<View<F>> for Both {
+impl<F, X> Join<View<F, X>> for Both {
     ghost use Rattle.bill_locks.specs.View.{both_views, spent};
 
     ghost both = { both_views };

@@ -1,7 +1,7 @@
 //! The steps of a seat at the table: each changes one word, or nothing, and what the seat knows.
 ghost use Rattle.std.specs.Prelude.{◌≡◌, ◌≢◌, ◌+◌, ◌*◌, ◌<◌, ◌≤◌, ◌^◌, [], ◌∷◌, true, false, ℕ, length, take, Some, None, MatchOption, IfOk, IfErr, OnOk, OnErr};
 ghost use mathlib.Core.List.{IsPrefix};
-ghost use Rattle.bill_locks.specs.View.{mark_at, with_mark, knows_of_another, counted, left_of, right_of, both_views};
+ghost use Rattle.bill_locks.specs.View.{mark_at, opened_at, with_mark, knows_of_another, counted, left_of, right_of, both_views};
 ghost use Rattle.bill_locks.specs.Pass.{Rests};
 ghost use Rattle.bill_locks.specs.Steps.{held_mark, after_turn, with_front, Grown, IsJoined};
 ghost use Rattle.bill_locks.specs.Turn.{Turned};
@@ -15,12 +15,12 @@ use std::marker::Brand;
 use std::snapshot::Snapshot;
 
 /// A seat at a table of values.
-pub type Seat<T> = atomic_table::Seat<Option<T>, View<<T as Grows>::Frame>>;
+pub type Seat<T> = atomic_table::Seat<Option<T>, View<<T as Grows>::Frame, <T as Grows>::Fixed>>;
 
 /// A table of values, as all threads share it.
 pub type Shared<T> = atomic_table::Shared<
     Option<T>,
-    View<<T as Grows>::Frame>,
+    View<<T as Grows>::Frame, <T as Grows>::Fixed>,
     Snapshot<Vec<T>>,
     Order,
 >;
@@ -41,8 +41,9 @@ pub fn turn<T: Grows, J: Job<T>>(
     ensures turned { IfOk result (λ a. Turned at (J.tells a) seat.old.me.0 seat.new.me.0) }
     ensures seen { IfOk result (λ _.
         IsPrefix (mark_at at seat.old.me.0).front (mark_at at seat.new.me.0).front) }
-    ensures does { IfOk result (λ a.
-        J.does job (take (J.tells a).before (mark_at at seat.new.me.0).front) (mark_at at seat.new.me.0).front a) }
+    ensures does { IfOk result (λ a. (fixed : T.Fixed) × ((opened_at at seat.old.me.0).fixed ≡ Some fixed)
+        × J.does job fixed (take (J.tells a).before (mark_at at seat.new.me.0).front) (mark_at at seat.new.me.0).front
+        a) }
     ensures busy { IfErr result (λ j. (j ≡ job) × (seat.new.me.0 ≡ knows_of_another seat.old.me.0)) }
 {
     let Some(mut value) = begin(table, seat, at) else {
@@ -63,11 +64,12 @@ fn begin<T: Grows>(table: &Shared<T>, seat: &mut Seat<T>, at: usize) -> Option<T
     ensures of { seat.new.table_id ≡ seat.old.table_id }
     ensures turn { MatchOption result (seat.new.me ≡ (knows_of_another seat.old.me.0, []))
         (λ x. (seat.new.me ≡ (
-          with_mark at (held_mark T.list T.loose T.disk T.ring (mark_at at seat.old.me.0) x)
+          with_mark at (held_mark T.fixed T.list T.loose T.disk T.ring (mark_at at seat.old.me.0) x)
               seat.old.me.0,
           (at, None) ∷ [],
         ))
-        × IsPrefix (mark_at at seat.old.me.0).front (T.list x)) }
+        × IsPrefix (mark_at at seat.old.me.0).front (T.list x)
+        × ((opened_at at seat.old.me.0).fixed ≡ Some (T.fixed x))) }
 {
     let found = table.fetch_or::<Try>(seat, at, 1);
     if found % 2 != 0 {
@@ -88,6 +90,7 @@ fn give<T: Grows, D: Deed>(table: &Shared<T>, seat: &mut Seat<T>, at: usize, val
     requires held { (mark_at at seat.old.me.0).held ≡ true }
     requires not_alone { seat.old.me.0.alone ≡ false }
     requires told { D.told ≡ told }
+    requires fixed { (opened_at at seat.old.me.0).fixed ≡ Some (T.fixed value) }
     requires grown { Grown T.list T.loose T.disk T.ring (mark_at at seat.old.me.0) told value }
     ensures of { seat.new.table_id ≡ seat.old.table_id }
     ensures given { seat.new.me ≡ (

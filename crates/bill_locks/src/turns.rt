@@ -1,7 +1,7 @@
 //! The table of values under turns, and its calls.
-ghost use Rattle.std.specs.Prelude.{◌≡◌, ◌<◌, ◌≤◌, ◌^◌, ◌+◌, [], ℕ, true, false, All, List, length, map, take, max, Ok, Err, IfOk, IfErr, OnOk, IsErrOf, vec_len, slice_get, slice_index_or, Some};
+ghost use Rattle.std.specs.Prelude.{◌≡◌, ◌<◌, ◌≤◌, ◌^◌, ◌+◌, [], ℕ, true, false, All, List, length, map, take, max, Ok, Err, IfOk, IfErr, OnOk, IsErrOf, vec_len, slice_get, Some};
 ghost use mathlib.Core.List.{IsPrefix};
-ghost use Rattle.bill_locks.specs.View.{mark_at, with_mark, first_view, knows_of_another, right_of, unopened};
+ghost use Rattle.bill_locks.specs.View.{mark_at, opened_at, with_mark, first_view, knows_of_another, right_of};
 ghost use Rattle.bill_locks.specs.Rule.{openings};
 ghost use Rattle.bill_locks.specs.Steps.{with_front};
 ghost use Rattle.bill_locks.specs.Turn.{Turned, JoinsMarks, HandedOut};
@@ -26,7 +26,7 @@ use std::snapshot::Snapshot;
 /// Contracts see which table it is, with `slots`, the number of values.
 #[derive(Drop)]
 pub struct Turns<T: Grows> {
-    table: Table<Option<T>, View<T::Frame>, Snapshot<Vec<T>>, Order, Global>,
+    table: Table<Option<T>, View<T::Frame, T::Fixed>, Snapshot<Vec<T>>, Order, Global>,
     alloc: Global,
 }
 
@@ -50,7 +50,7 @@ impl<T: Grows + Drop> Turns<T> {
         ensures count { IfOk result (λ r. r.0.slots ≡ vec_len values) }
         ensures of { IfOk result (λ r. r.1.table ≡ r.0) }
         ensures first { IfOk result (λ r.
-            r.1.knows ≡ first_view (openings T.list T.loose T.disk T.ring values.items)) }
+            r.1.knows ≡ first_view (openings T.fixed T.list T.loose T.disk T.ring values.items)) }
     {
         let words = words_of(alloc, &values)?;
         let opened = Snapshot::of(&values);
@@ -77,8 +77,9 @@ impl<T: Grows + Drop> Turns<T> {
         ensures turned { IfOk result (λ a. Turned at (J.tells a) pass.old.knows pass.new.knows) }
         ensures seen { IfOk result (λ _.
             IsPrefix (mark_at at pass.old.knows).front (mark_at at pass.new.knows).front) }
-        ensures does { IfOk result (λ a. J.does job
-            (take (J.tells a).before (mark_at at pass.new.knows).front) (mark_at at pass.new.knows).front a) }
+        ensures does { IfOk result (λ a. (fixed : T.Fixed) × ((opened_at at pass.old.knows).fixed ≡ Some fixed)
+            × J.does job fixed (take (J.tells a).before (mark_at at pass.new.knows).front)
+            (mark_at at pass.new.knows).front a) }
 
         // The pass learned from the word that another pass is out, and nothing else changed.
         ensures busy { IfErr result (λ b. (b.job ≡ job) × (pass.new.knows ≡ knows_of_another pass.old.knows)) }
@@ -144,8 +145,8 @@ impl<T: Grows + Drop> Turns<T> {
         requires of { last.table ≡ self }
         ensures count { IfOk result (λ xs. vec_len xs ≡ self.slots) }
         ensures values { IfOk result (λ xs. (k : ℕ) → k < self.slots → (x : T) × (slice_get xs.items k ≡ Some x)
-            × HandedOut T.list T.loose T.disk T.ring
-            (slice_index_or last.knows.opened k unopened) (mark_at k last.knows) x) }
+            × HandedOut T.fixed T.list T.loose T.disk T.ring
+            (opened_at k last.knows) (mark_at k last.knows) x) }
         ensures alone { IfOk result (λ _. last.knows.known ≤ last.knows.stands) }
         ensures turns { IfErr result (λ r. r.0 ≡ self) }
         ensures of { IfErr result (λ r. r.1.table ≡ last.table) }

@@ -24,7 +24,9 @@ pub struct Mark<F> {
 }
 
 /// A value as it was when the table was made.
-pub struct Opened {
+pub struct Opened<X> {
+    /// What never changes of it, if there is such a value.
+    pub fixed: Option<X>,
     /// The number of its frames.
     pub frames: u64,
     /// The disk's count of faults.
@@ -34,11 +36,11 @@ pub struct Opened {
 }
 
 /// What a pass knows.
-pub struct View<F> {
+pub struct View<F, X> {
     /// Its mark of each value, in the order of the values; a mark that isn't there is blank.
     pub marks: LinkedList<Mark<F>>,
     /// The values as they were at the opening.
-    pub opened: LinkedList<Opened>,
+    pub opened: LinkedList<Opened<X>>,
     /// For how many passes it stands: itself and those that were joined to it.
     pub stands: u64,
     /// How many passes it knows to have been made.

@@ -17,6 +17,10 @@ impl Grows for Tally {
 
     type Frame = ();
 
+    type Fixed = ();
+
+    ghost fixed = { λ _. tt };
+
     ghost list = { λ t. replicate t.count tt };
 
     ghost loose = { λ _. false };
@@ -65,7 +69,7 @@ impl Job<Tally> for Add {
 
     ghost tells = { λ t. t };
 
-    ghost does = { λ add before after t. Unit {0} };
+    ghost does = { λ add fixed before after t. Unit {0} };
 
     fn run(self, value: &mut Tally) -> Told {
         let before = value.frames();

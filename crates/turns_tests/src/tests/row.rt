@@ -12,6 +12,8 @@ const MOST: usize = 1 << 20;
 /// A row of frames, with one that may be there.
 #[derive(Drop)]
 pub struct Row {
+    // Its place among the rows, which stays.
+    place: usize,
     pub frames: Vec<u64>,
     pub loose: Option<u64>,
     pub disk: u64,
@@ -23,6 +25,10 @@ impl Grows for Row {
     ghost use Rattle.std.specs.Prelude.{is_some};
 
     type Frame = u64;
+
+    type Fixed = usize;
+
+    ghost fixed = { λ r. r.place };
 
     ghost list = { λ r. r.frames.items };
 
@@ -38,11 +44,12 @@ impl Grows for Row {
 }
 
 impl Row {
-    /// An empty row.
-    pub fn new(alloc: Global) -> Row
+    /// An empty row for this place.
+    pub fn new(alloc: Global, place: usize) -> Row
         ensures { result.loose ≡ None }
     {
         Row {
+            place,
             frames: Vec::new(alloc),
             loose: None,
             disk: 0,
@@ -56,8 +63,8 @@ impl Row {
         ensures firm { IfOk result (λ rows. All (λ r. is_some r.loose ≡ false) rows.items) }
     {
         let mut rows = Vec::new(alloc);
-        for _ in 0..count {
-            rows.push(Row::new(alloc))?;
+        for place in 0..count {
+            rows.push(Row::new(alloc, place))?;
         }
         Ok(rows)
     }
@@ -67,6 +74,7 @@ impl Row {
         ensures added { result ≡ true → self.new.frames.items ≡ self.old.frames.items ++ frame ∷ [] }
         ensures full { result ≡ false → self.new.frames.items ≡ self.old.frames.items }
         ensures grows { IsPrefix self.old.frames.items self.new.frames.items }
+        ensures place { self.new.place ≡ self.old.place }
         ensures loose { self.new.loose ≡ self.old.loose }
         ensures faults { (self.new.disk ≡ self.old.disk) × (self.new.ring ≡ self.old.ring) }
     {
@@ -82,6 +90,7 @@ impl Row {
         ensures before { (result ≡ vec_len self.old.frames)
             ⊎ ((result ≡ vec_len self.old.frames + 1) × (is_some self.old.loose ≡ true)) }
         ensures count { result ≡ length self.new.frames.items }
+        ensures place { self.new.place ≡ self.old.place }
         ensures firm { self.new.loose ≡ None }
         ensures faults { (self.new.disk ≡ self.old.disk) × (self.new.ring ≡ self.old.ring) }
     {
@@ -133,7 +142,7 @@ impl Job<Row> for Append {
     ghost tells = { λ t. t };
 
     // A frame that was added stands behind those before.
-    ghost does = { λ a before after t. t.after ≡ t.before + 1 → after ≡ before ++ a.frame ∷ [] };
+    ghost does = { λ a place before after t. t.after ≡ t.before + 1 → after ≡ before ++ a.frame ∷ [] };
 
     fn run(self, value: &mut Row) -> Told {
         let before = value.resolve(self.finds);

@@ -41,7 +41,7 @@ impl Job<Row> for Within {
 
     ghost tells = { λ f. f.told };
 
-    ghost does = { λ w before after f. f.pass.table ≡ w.pass.table };
+    ghost does = { λ w place before after f. f.pass.table ≡ w.pass.table };
 
     fn run(self, value: &mut Row) -> Found {
         let Within { turns, mut pass } = self;

@@ -11,7 +11,7 @@ fetch_or-found-requires g c =
     let idle = c.requires.rests.idle in (
       c.requires.of,
       omega arith,
-      tries g.T.Grows.list g.T.Grows.loose g.T.Grows.disk g.T.Grows.ring _ _ _ _ _ c.requires.place idle.is_out
+      tries g.T.Grows.fixed g.T.Grows.list g.T.Grows.loose g.T.Grows.disk g.T.Grows.ring _ _ _ _ _ c.requires.place idle.is_out
           (idle.no_turn c.args.at) idle.not_alone,
     )
 

@@ -13,7 +13,7 @@ compare_exchange-found-requires g c =
     let idle = c.requires.rests.idle in (
       i.1 ∙ c.requires.of,
       omega arith,
-      counts_at g.T.Grows.list g.T.Grows.loose g.T.Grows.disk g.T.Grows.ring _ _ _ _ _ _ c.requires.place
-          (subst (λ (m : Me (Option g.row.T.Denot) (View g.row.T-Frame.Denot)). 0 < m.0.stands) (sym i.0) idle.is_out)
-          (ap (λ (m : Me (Option g.row.T.Denot) (View g.row.T-Frame.Denot)). m.0.alone) i.0 ∙ idle.not_alone),
+      counts_at g.T.Grows.fixed g.T.Grows.list g.T.Grows.loose g.T.Grows.disk g.T.Grows.ring _ _ _ _ _ _ c.requires.place
+          (subst (λ (m : Me (Option g.row.T.Denot) (View g.row.T-Frame.Denot g.row.T-Fixed.Denot)). 0 < m.0.stands) (sym i.0) idle.is_out)
+          (ap (λ (m : Me (Option g.row.T.Denot) (View g.row.T-Frame.Denot g.row.T-Fixed.Denot)). m.0.alone) i.0 ∙ idle.not_alone),
     )

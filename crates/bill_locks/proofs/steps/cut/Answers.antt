@@ -7,6 +7,6 @@ split_seat-requires g c =
     let n = c.requires.sized in (
       c.requires.of,
       omega arith,
-      halves g.T.Grows.list g.T.Grows.loose g.T.Grows.disk g.T.Grows.ring _ _ _ c.requires.two
+      halves g.T.Grows.fixed g.T.Grows.list g.T.Grows.loose g.T.Grows.disk g.T.Grows.ring _ _ _ c.requires.two
           c.requires.rests.idle.not_alone,
     )

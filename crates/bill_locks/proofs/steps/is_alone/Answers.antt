@@ -9,6 +9,6 @@ load-requires g c =
     let idle = c.requires.rests.idle in (
       c.requires.of,
       omega arith,
-      settles_at g.T.Grows.list g.T.Grows.loose g.T.Grows.disk g.T.Grows.ring _ _ _ _ _ c.requires.place idle.is_out
+      settles_at g.T.Grows.fixed g.T.Grows.list g.T.Grows.loose g.T.Grows.disk g.T.Grows.ring _ _ _ _ _ c.requires.place idle.is_out
           idle.not_alone,
     )

@@ -16,7 +16,7 @@ join_seat-requires g c =
       c.requires.of.1,
       c.requires.other.hand,
       omega arith,
-      both g.T.Grows.list g.T.Grows.loose g.T.Grows.disk g.T.Grows.ring _ _ _ _ _ mine.no_turn theirs.no_turn
+      both g.T.Grows.fixed g.T.Grows.list g.T.Grows.loose g.T.Grows.disk g.T.Grows.ring _ _ _ _ _ mine.no_turn theirs.no_turn
           mine.is_out,
     )
 
@@ -26,10 +26,10 @@ load-requires g c =
     let n = c.requires.sized in (
       c.join_seat.ensures.0 ∙ c.requires.of.0,
       omega arith,
-      fits_at g.T.Grows.list g.T.Grows.loose g.T.Grows.disk g.T.Grows.ring _ _ _ _ _ c.requires.place,
+      fits_at g.T.Grows.fixed g.T.Grows.list g.T.Grows.loose g.T.Grows.disk g.T.Grows.ring _ _ _ _ _ c.requires.place,
     )
 
 pub returns-clause-marks : goal.returns-clause-marks
 returns-clause-marks g c k lt = let f = c.load.ensures.2 in
-    subst (λ (m : Me (Option g.row.T.Denot) (View g.row.T-Frame.Denot)). IsJoined (mark_at k m.0)) (sym f.same)
+    subst (λ (m : Me (Option g.row.T.Denot) (View g.row.T-Frame.Denot g.row.T-Fixed.Denot)). IsJoined (mark_at k m.0)) (sym f.same)
     (f.marks k lt)

@@ -8,8 +8,8 @@ use Rattle.bill_locks.proofs.turns.Turns.split.Goals as goal
 
 pub invariant_of-result : goal.invariant_of-result
 invariant_of-result g c = let e = c.cut-seat.ensures.right in (
-  ap (λ (m : Me (Option g.row.T.Denot) (View g.row.T-Frame.Denot)). m.1) e,
-  ap (λ (m : Me (Option g.row.T.Denot) (View g.row.T-Frame.Denot)). m.0.stands) e,
+  ap (λ (m : Me (Option g.row.T.Denot) (View g.row.T-Frame.Denot g.row.T-Fixed.Denot)). m.1) e,
+  ap (λ (m : Me (Option g.row.T.Denot) (View g.row.T-Frame.Denot g.row.T-Fixed.Denot)). m.0.stands) e,
   idle_of (right_of c.count.new.seat.me.0) c.cut-seat.result.me.0
-      (ap (λ (m : Me (Option g.row.T.Denot) (View g.row.T-Frame.Denot)). m.0) e) (idle_right c.count.new.seat.me.0),
+      (ap (λ (m : Me (Option g.row.T.Denot) (View g.row.T-Frame.Denot g.row.T-Fixed.Denot)). m.0) e) (idle_right c.count.new.seat.me.0),
 )
