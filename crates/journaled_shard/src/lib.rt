@@ -2,9 +2,11 @@
 #![tactic(auto)]
 
 mod opening;
+mod rack;
 mod replying;
 mod shard;
 mod unwritten;
 mod written;
 
+pub use rack::Rack;
 pub use shard::JournaledShard;
