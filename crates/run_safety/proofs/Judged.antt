@@ -30,8 +30,10 @@ use Rattle.bill_diary.specs.Sound.{IsCause}
 use Rattle.transfer_judge.specs.declared.judgement.Judgement.{Judgement}
 use Rattle.transfer_judge.specs.declared.judgement.Judgement.TheVariants.{Elsewhere, Duplicate, Declined, Parts, Unknown, Missing, Accept}
 use Rattle.transfer_judge.specs.Judgement.{judgement_by, judgement_of}
-use Rattle.platform_machine.specs.Answer.{no_evidence, subject_of}
+use Rattle.platform_machine.specs.Answer.{no_evidence, reference_for, subject_of}
 use Rattle.platform_machine.specs.Judged.{frame_for}
+use Rattle.platform_machine.specs.Preface.{ShownRecord}
+use Rattle.platform_machine.specs.Receiving.{begun_of, body_text, is_again, news_of}
 use Rattle.platform_machine.proofs.JudgedLemmas.{judged_by_bill}
 use Rattle.closed_family.specs.declared.family.Member.{Member}
 use Rattle.closed_family.specs.Chains.{IsAmong}
@@ -110,6 +112,13 @@ pub record IsSure (n : Network) (chain : List ChainLink) (manifest : Manifest) :
 abbrev pub IsBegunOf : List ChainLink → Manifest → Option Record → Type 0
 IsBegunOf chain manifest None = Unit {0}
 IsBegunOf chain manifest (Some r) = (body : List ℕ) × (r ≡ records.Begun manifest.bill chain manifest body)
+
+pub is_news : (d : List Frame) (s : ShownRecord) → IsBegunOf s.chain s.manifest (news_of d s)
+is_news d s = on_test (is_again (reference_for (subject_of s.manifest)) (body_text s.parts) d)
+  where
+    on_test : (again : Bool) → IsBegunOf s.chain s.manifest (cond again None (Some (begun_of s)))
+    on_test true = tt
+    on_test false = (body_text s.parts, refl)
 
 module _ (roster : RosterRecord) (rings : Rings) (n : Network) (p : PlatformCode) (i : ℕ) (d : List Frame)
     (at : IsAtShard roster rings n p i d) where

@@ -27,11 +27,11 @@ use Rattle.bill_diary.specs.Sound.{MayBegin, has_reference}
 use Rattle.transfer_judge.specs.declared.judgement.Judgement.{Judgement}
 use Rattle.transfer_judge.specs.declared.judgement.Judgement.TheVariants.{Elsewhere, Duplicate, Declined, Parts, Unknown, Missing, Accept}
 use Rattle.platform_machine.specs.declared.step.Step.{Step}
-use Rattle.platform_machine.specs.Answer.{document_response, reference_for, refusal_response, subject_of}
+use Rattle.platform_machine.specs.Answer.{document_response, refusal_response, subject_of}
 use Rattle.platform_machine.specs.Hearing.{begins_object}
 use Rattle.platform_machine.specs.Judged.{frame_for}
 use Rattle.platform_machine.specs.Preface.{ShownRecord, Shows}
-use Rattle.platform_machine.specs.Receiving.{BegunRecord, IsLastBegun, SaysAtStart, StepsAtFinish, StepsAtPut, StepsAtStart, begun_of, body_text, frame_at_put, is_again, judgement_at_finish, judgement_at_start, news_of}
+use Rattle.platform_machine.specs.Receiving.{BegunRecord, IsLastBegun, SaysAtStart, StepsAtFinish, StepsAtPut, StepsAtStart, frame_at_put, judgement_at_finish, judgement_at_start, news_of}
 use Rattle.platform_machine.specs.Step.{Answers, OnlyReplies}
 use Rattle.closed_family.specs.declared.family.Member.{Member}
 use Rattle.closed_family.specs.Chains.{IsAmong}
@@ -44,7 +44,7 @@ use Rattle.run_safety.specs.Honest.{IsHonestBody, WasSentAsStart, WasSentInChain
 use Rattle.run_safety.specs.Sending.{IsReplyText}
 use Rattle.run_safety.proofs.Allowed.{not_listed_allowed, other_bytes_allowed, refusal_allowed}
 use Rattle.run_safety.proofs.Bodies.{all_parted, honest_parted}
-use Rattle.run_safety.proofs.Judged.{Becomes, IsAtShard, IsBegunOf, IsSure, here_stands, judged_is_met, one_is_met}
+use Rattle.run_safety.proofs.Judged.{Becomes, IsAtShard, IsBegunOf, IsSure, here_stands, is_news, judged_is_met, one_is_met}
 use Rattle.run_safety.proofs.Links.{follows_among}
 use Rattle.run_safety.proofs.Needs.{met_among}
 use Rattle.run_safety.proofs.Readings.{signed_is_no_object}
@@ -160,13 +160,6 @@ module _ (roster : RosterRecord) (rings : Rings) (n : Network) (p : PlatformCode
 
   -- ---- a start
 
-  pub is_news : (s : ShownRecord) → IsBegunOf s.chain s.manifest (news_of d s)
-  is_news s = on_test (is_again (reference_for (subject_of s.manifest)) (body_text s.parts) d)
-    where
-      on_test : (again : Bool) → IsBegunOf s.chain s.manifest (cond again None (Some (begun_of s)))
-      on_test true = tt
-      on_test false = (body_text s.parts, refl)
-
   start_caused : (s : ShownRecord) (sure : IsSure n s.chain s.manifest) (step : Step) → (J : Judgement)
       → judgement_at_start roster p d s ≡ J → step.frame ≡ frame_for (news_of d s) (subject_of s.manifest) J
       → SaysAtStart (rings p i) p (subject_of s.manifest) J step.reply
@@ -175,22 +168,22 @@ module _ (roster : RosterRecord) (rings : Rings) (n : Network) (p : PlatformCode
   start_caused s sure step (Missing checksums) is written says after becomes bytes text =
       object_caused after p bytes (subst (λ (r : Reply). IsReplyText r bytes) says text)
   start_caused s sure step Elsewhere is written says after becomes bytes text =
-      judged_caused roster rings n p i d at s.chain s.manifest sure step.frame after becomes (news_of d s) (is_news s)
+      judged_caused roster rings n p i d at s.chain s.manifest sure step.frame after becomes (news_of d s) (is_news d s)
       Elsewhere is written step.reply says bytes text
   start_caused s sure step Duplicate is written says after becomes bytes text =
-      judged_caused roster rings n p i d at s.chain s.manifest sure step.frame after becomes (news_of d s) (is_news s)
+      judged_caused roster rings n p i d at s.chain s.manifest sure step.frame after becomes (news_of d s) (is_news d s)
       Duplicate is written step.reply says bytes text
   start_caused s sure step (Declined code reason evidence) is written says after becomes bytes text =
-      judged_caused roster rings n p i d at s.chain s.manifest sure step.frame after becomes (news_of d s) (is_news s)
+      judged_caused roster rings n p i d at s.chain s.manifest sure step.frame after becomes (news_of d s) (is_news d s)
       (Declined code reason evidence) is written step.reply says bytes text
   start_caused s sure step (Parts evidence) is written says after becomes bytes text =
-      judged_caused roster rings n p i d at s.chain s.manifest sure step.frame after becomes (news_of d s) (is_news s)
+      judged_caused roster rings n p i d at s.chain s.manifest sure step.frame after becomes (news_of d s) (is_news d s)
       (Parts evidence) is written step.reply says bytes text
   start_caused s sure step Unknown is written says after becomes bytes text =
-      judged_caused roster rings n p i d at s.chain s.manifest sure step.frame after becomes (news_of d s) (is_news s)
+      judged_caused roster rings n p i d at s.chain s.manifest sure step.frame after becomes (news_of d s) (is_news d s)
       Unknown is written step.reply says bytes text
   start_caused s sure step Accept is written says after becomes bytes text =
-      judged_caused roster rings n p i d at s.chain s.manifest sure step.frame after becomes (news_of d s) (is_news s)
+      judged_caused roster rings n p i d at s.chain s.manifest sure step.frame after becomes (news_of d s) (is_news d s)
       Accept is written step.reply says bytes text
 
   -- an answer that says nothing of an entry, and writes nothing
@@ -241,7 +234,7 @@ module _ (roster : RosterRecord) (rings : Rings) (n : Network) (p : PlatformCode
       let J = judgement_at_start roster p d s in
       record {
         met = met_by n p step.frame (frame_for (news_of d s) (subject_of s.manifest) J) judged.frame_is
-            (judged_is_met roster rings n p i d at s.chain s.manifest sure (news_of d s) (is_news s) J refl);
+            (judged_is_met roster rings n p i d at s.chain s.manifest sure (news_of d s) (is_news d s) J refl);
         starts = λ after becomes to bill b among.
             absurd (starts_none step.messages judged.nothing_sent to bill b among);
         replies = λ after becomes bytes text.

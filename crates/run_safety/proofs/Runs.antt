@@ -101,7 +101,8 @@ module _ (roster : RosterRecord) (rings : Rings) (n : Network) (G : Grounds rost
     may_be_written frame is = record {
       legal = subst (λ (o : Option Frame). IsLegal roster (rings a.p a.i) a.p (with_frame a.diary o)) is legal_after;
       in_shard = subst (λ (o : Option Frame). IfSome o (IsInShard a.i)) is
-          (step_shard roster rings n a.p a.i a.diary at_shard a.now a.request a.step a.steps a.goes_here);
+          (step_shard roster (rings a.p a.i) a.p a.i a.diary (S.legal a.p a.i a.diary a.has_diary) a.now a.request a.step
+          a.steps a.goes_here);
       met = subst (λ (o : Option Frame). IfSome o (FrameIsMet n.family a.p)) is owes.met;
     }
 

@@ -12,6 +12,8 @@ use Rattle.ebl_base.specs.declared.party.Party.{Party}
 use Rattle.ebl_base.specs.declared.platform_code.PlatformCode.{PlatformCode}
 use Rattle.ebl_base.specs.declared.reference.Reference.{Reference}
 use Rattle.party_roster.specs.RosterRecord.{RosterRecord}
+use Rattle.signed_envelope.specs.KeyRing.{Keys}
+use Rattle.envelope_manifest.specs.Manifest.{IsManifest}
 use Rattle.transport_document.specs.DocumentRecord.{bill_of}
 use Rattle.envelope_manifest.specs.Body.{body_in, body_of_reading}
 use Rattle.envelope_manifest.specs.declared.manifest.Manifest.{Manifest}
@@ -26,7 +28,8 @@ use Rattle.bill_diary.specs.declared.frame.Frame.TheVariants.{One, BegunTaken}
 use Rattle.bill_diary.specs.History as histories
 use Rattle.bill_diary.specs.History.{history, newest_first, records_of}
 use Rattle.bill_diary.specs.Pieces.{are_there}
-use Rattle.bill_diary.specs.Sound.{IsSound}
+use Rattle.bill_diary.specs.Sound.{AreSound, IsSound, MayFollow, has_reference}
+use Rattle.transfer_judge.specs.Legal.{IsLegal}
 use Rattle.transfer_judge.specs.Plan.{Plan, plan_of}
 use Rattle.transfer_judge.specs.declared.judgement.Judgement.{Judgement}
 use Rattle.transfer_judge.specs.declared.judgement.Judgement.TheVariants.{Elsewhere, Duplicate, Declined, Parts, Unknown, Missing, Accept}
@@ -44,11 +47,10 @@ use Rattle.platform_machine.specs.Receiving.{BegunRecord, IsLastBegun, StepsAtFi
 use Rattle.platform_machine.proofs.FoundLemmas.{found_reference, found_whole}
 use Rattle.closed_family.specs.Chains.{IsAmong}
 use Rattle.closed_family.specs.Family.{shard_of}
-use Rattle.run_safety.specs.Network.{Network}
-use Rattle.run_safety.specs.Steady.{IsInShard, Rings}
+use Rattle.run_safety.specs.Steady.{IsInShard}
 use Rattle.run_safety.proofs.Commanded.{IsOwnRecord, own_record}
-use Rattle.run_safety.proofs.Judged.{IsAtShard, IsBegunOf}
-use Rattle.run_safety.proofs.Owed.{found_sure, is_news}
+use Rattle.run_safety.proofs.Judged.{IsBegunOf, is_news}
+use Rattle.run_safety.proofs.Owed.{find_among}
 use Rattle.transfer_judge.proofs.LegalLemmas.{legal_is_sound}
 
 -- ---- frames
@@ -103,25 +105,47 @@ reference_shard bill entry form = on_bytes bill.0 form.size refl
     on_bytes [] size is = absurd (omega (arith, size))
     on_bytes (b ∷ bs) size is = rw is refl
 
-module _ (roster : RosterRecord) (rings : Rings) (n : Network) (p : PlatformCode) (i : ℕ) (d : List Frame)
-    (at : IsAtShard roster rings n p i d) where
+-- the manifest of a Begun that may follow has the form of one
+abbrev IsFormed : Record → Type 0
+IsFormed (records.Begun bill chain manifest body) = IsManifest manifest
+IsFormed r = Unit {0}
+
+formed : (p : PlatformCode) (before h : List Record) (r : Record) → MayFollow p before h r → IsFormed r
+formed p before h (records.Begun bill chain manifest body) may = may.manifest_form
+formed p before h (records.Signed bill document t) may = tt
+formed p before h (records.Acted bill t) may = tt
+formed p before h (records.Attached bill piece bytes) may = tt
+formed p before h (records.Parted bill link manifest text) may = tt
+formed p before h (records.Settled bill entry) may = tt
+formed p before h (records.Regained bill entry) may = tt
+formed p before h (records.Stored bill entry checksum bytes) may = tt
+formed p before h (records.Taken bill entry) may = tt
+formed p before h (records.Declined bill entry code reason evidence) may = tt
+
+formed_among : (p : PlatformCode) (rs : List Record) (r : Record) → AreSound p rs → IsAmong r rs → IsFormed r
+formed_among p [] r sound among = absurd among
+formed_among p (x ∷ rs) r sound (inl same) =
+    subst IsFormed same (formed p rs (histories.of_bill (histories.bill_of x) rs) x sound.0)
+formed_among p (x ∷ rs) r sound (inr later) = formed_among p rs r sound.2 later
+
+module _ (roster : RosterRecord) (keys : Keys) (p : PlatformCode) (i : ℕ) (d : List Frame)
+    (legal : IsLegal roster keys p d) where
   sound : IsSound p d
-  sound = legal_is_sound roster (rings p i) p d (at.steady.legal p i d at.has_diary)
+  sound = legal_is_sound roster keys p d legal
 
   found_shard : (reference : Reference) (b : BegunRecord) → IsLastBegun reference d b
       → requests.shard_of_reference reference ≡ i → shard_of b.bill ≡ i
   found_shard reference b found goes =
-      let sure = found_sure roster rings n p i d at reference b found in
-      let bills = found_bill reference b found in
-      reference_shard b.bill sure.end.name (subst IsChecksum bills sure.form.bill)
-      ∙ ap requests.shard_of_reference (found_reference p d reference b sound found sure.end sure.end_is) ∙ goes
-    where
-      found_bill : (r : Reference) (c : BegunRecord) → IsLastBegun r d c → c.manifest.bill ≡ c.bill
-      found_bill r c found_c = (found_whole p d r c sound found_c).names_bill
+      let whole = found_whole p d reference b sound found in
+      let form : IsManifest b.manifest = formed_among p (newest_first d)
+      (records.Begun b.bill b.chain b.manifest b.body) sound.records
+      (find_among (has_reference reference) (newest_first d) (records.Begun b.bill b.chain b.manifest b.body) found) in
+      reference_shard b.bill whole.last.name (subst IsChecksum whole.names_bill form.bill)
+      ∙ ap requests.shard_of_reference (found_reference p d reference b sound found whole.last whole.last_is) ∙ goes
 
   -- ---- each request
 
-  start_shard : (body : List ℕ) (step : Step) → StepsAtStart roster (rings p i) p d body step
+  start_shard : (body : List ℕ) (step : Step) → StepsAtStart roster keys p d body step
       → requests.shard_of_body (body_in body) ≡ i → IfSome step.frame (IsInShard i)
   start_shard body step (inl (refusal, refused, answers)) goes = frame_in i step.frame None answers.frame_is tt
   start_shard body step (inr (s, shows, judged)) goes =
@@ -131,10 +155,10 @@ module _ (roster : RosterRecord) (rings : Rings) (n : Network) (p : PlatformCode
       = sym (ap requests.shard_of_document shows.shows.document_is) ∙ sym (ap requests.shard_of_body read) ∙ goes in
       frame_in i step.frame (frame_for (news_of d s) (subject_of s.manifest) (judgement_at_start roster p d s))
       judged.frame_is
-      (judged_in_shard i s.chain s.manifest (news_of d s) (is_news roster rings n p i d at s)
+      (judged_in_shard i s.chain s.manifest (news_of d s) (is_news d s)
       (ap shard_of shows.shows.envelops.manifests.names.0 ∙ bill) (judgement_at_start roster p d s))
 
-  finish_shard : (reference : Reference) (step : Step) → StepsAtFinish roster (rings p i) p d reference step
+  finish_shard : (reference : Reference) (step : Step) → StepsAtFinish roster keys p d reference step
       → requests.shard_of_reference reference ≡ i → IfSome step.frame (IsInShard i)
   finish_shard reference step (inl (unknown, only)) goes = frame_in i step.frame None only.nothing_written tt
   finish_shard reference step (inr (b, found, answers)) goes =
@@ -144,7 +168,7 @@ module _ (roster : RosterRecord) (rings : Rings) (n : Network) (p : PlatformCode
       (judgement_at_finish roster p d b))
 
   put_shard : (reference : Reference) (checksum : Checksum) (bytes : List ℕ) (step : Step)
-      → StepsAtPut (rings p i) p d reference checksum bytes step
+      → StepsAtPut keys p d reference checksum bytes step
       → requests.shard_of_reference reference ≡ i → IfSome step.frame (IsInShard i)
   put_shard reference checksum bytes step (inl (unknown, only)) goes = frame_in i step.frame None only.nothing_written tt
   put_shard reference checksum bytes step (inr (b, found, inl (not_listed, answers))) goes =
@@ -161,7 +185,7 @@ module _ (roster : RosterRecord) (rings : Rings) (n : Network) (p : PlatformCode
       on_test false =
           one_in_shard i (records.Stored b.bill b.manifest.last checksum bytes) (found_shard reference b found goes)
 
-  answer_shard : (bill : Checksum) (bytes : List ℕ) (step : Step) → StepsAtAnswer (rings p i) d bill bytes step
+  answer_shard : (bill : Checksum) (bytes : List ℕ) (step : Step) → StepsAtAnswer keys d bill bytes step
       → shard_of bill ≡ i → IfSome step.frame (IsInShard i)
   answer_shard bill bytes step (inl (reason, ignored, only)) goes = frame_in i step.frame None only.nothing_written tt
   answer_shard bill bytes step (inr (written, (t, ending, under, ends, is), done)) goes =
@@ -172,7 +196,7 @@ module _ (roster : RosterRecord) (rings : Rings) (n : Network) (p : PlatformCode
       by_ending endings.Received = one_in_shard i (records.Settled bill t.entry.name) goes
       by_ending endings.Declined = one_in_shard i (records.Regained bill t.entry.name) goes
 
-  start_reply_shard : (bill : Checksum) (bytes : List ℕ) (step : Step) → StepsAtStartReply (rings p i) d bill bytes step
+  start_reply_shard : (bill : Checksum) (bytes : List ℕ) (step : Step) → StepsAtStartReply keys d bill bytes step
       → shard_of bill ≡ i → IfSome step.frame (IsInShard i)
   start_reply_shard bill bytes step (inr (answer, steps)) goes = answer_shard bill bytes step steps goes
   start_reply_shard bill bytes step (inl (object, inl (reason, ignored, only))) goes =
@@ -201,13 +225,13 @@ module _ (roster : RosterRecord) (rings : Rings) (n : Network) (p : PlatformCode
   there_shard (attaches bill name media bytes) step there = frame_in i step.frame None there.frame_is tt
 
   command_shard : (now : Moment) (party : Party) (command : CommandRecord) (step : Step)
-      → StepsAtCommand roster (rings p i) p d now party command step
+      → StepsAtCommand roster keys p d now party command step
       → requests.shard_of_command command ≡ i → IfSome step.frame (IsInShard i)
   command_shard now party command step steps goes =
       on_plan (plan_of roster p (newest_first d) party command now) refl steps
     where
       on_plan : (plan : Plan) → plan_of roster p (newest_first d) party command now ≡ plan
-          → FollowsPlan (rings p i) p d command plan step → IfSome step.frame (IsInShard i)
+          → FollowsPlan keys p d command plan step → IfSome step.frame (IsInShard i)
       on_plan (Err refusal) is only = frame_in i step.frame None only.nothing_written tt
       on_plan (Ok Nothing) is there = there_shard command step there
       on_plan (Ok (Add r)) is done =
@@ -223,7 +247,7 @@ module _ (roster : RosterRecord) (rings : Rings) (n : Network) (p : PlatformCode
 
   -- what is written of a request is of its shard
   pub step_shard : (now : Moment) (request : RequestRecord) (step : Step)
-      → Steps roster (rings p i) p d now request step → requests.shard_of request ≡ i → IfSome step.frame (IsInShard i)
+      → Steps roster keys p d now request step → requests.shard_of request ≡ i → IfSome step.frame (IsInShard i)
   step_shard now (commands party command) step steps goes = command_shard now party command step steps goes
   step_shard now (starts body) step steps goes = start_shard body step steps goes
   step_shard now (puts reference checksum bytes) step steps goes = put_shard reference checksum bytes step steps goes

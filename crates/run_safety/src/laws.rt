@@ -1,24 +1,30 @@
 //! Laws of runs. Each function does nothing: its contract is the law.
-ghost use Rattle.std.specs.Prelude.{◌≡◌, ◌≢◌, ℕ, false, List, Some};
+ghost use Rattle.std.specs.Prelude.{◌≡◌, ◌≢◌, ℕ, false, IfSome, List, Some};
 ghost use Rattle.ebl_base.specs.declared.code.Code.TheVariants.{DisputedEnvelope};
 ghost use Rattle.ebl_base.specs.declared.reason.Reason.TheVariants as reasons;
+ghost use Rattle.signed_envelope.specs.KeyRing.{Keys};
 ghost use Rattle.party_roster.specs.RosterForm.{IsRoster};
 ghost use Rattle.party_roster.specs.RosterRecord.{RosterRecord};
+ghost use Rattle.platform_requests.specs.Request.{RequestRecord};
+ghost use Rattle.platform_requests.specs.Shard.{shard_of};
 ghost use Rattle.platform_requests.specs.declared.reply.Reply.TheVariants.{Answer};
 ghost use Rattle.bill_diary.specs.History.{IsRecordOf};
 ghost use Rattle.bill_diary.specs.declared.record.Record.TheVariants.{Declined};
 ghost use Rattle.bill_diary.specs.Place.{may_act_by, place_of};
+ghost use Rattle.transfer_judge.specs.Legal.{IsLegal};
+ghost use Rattle.platform_machine.specs.Machine.{Steps};
+ghost use Rattle.platform_machine.specs.declared.step.Step.{Step};
 ghost use Rattle.closed_family.specs.Family.{HasDistinctNames, IsClosedFamily, IsSafeFamily, IsSignedIn, IsSoundFamily, histories_of};
 ghost use Rattle.closed_family.specs.Later.{IsEndedAt};
 ghost use Rattle.run_safety.specs.Network.{Network, diary_of};
 ghost use Rattle.run_safety.specs.Run.{Asked, LeadsTo, Reaches};
-ghost use Rattle.run_safety.specs.Steady.{IsSteady, Rings};
+ghost use Rattle.run_safety.specs.Steady.{IsInShard, IsSteady, Rings};
 
 use bill_diary::Frame;
 use closed_family::{
     closed_family_is_safe, ended_bill_stays_in_later_families, nobody_acts_on_an_ended_bill,
 };
-use ebl_base::{Checksum, Code, Evidence, Party, PlatformCode, Reason, SignedText};
+use ebl_base::{Checksum, Code, Evidence, Moment, Party, PlatformCode, Reason, SignedText};
 use party_roster::{carriers_are_on_listed_platforms, platforms_are_apart};
 use pint_responses::{Response, sealed_response_is_unsealed};
 use platform_machine::steps_keep_a_diary_legal;
@@ -95,3 +101,10 @@ pub fn ended_bill_stays_ended_in_a_run()
     ended_bill_stays_in_later_families();
     nobody_acts_on_an_ended_bill();
 }
+
+/// What a step of a legal diary writes is of bills of the shard to which its request goes.
+pub fn steps_write_in_the_shard_of_their_request()
+    ensures { (roster : RosterRecord) (keys : Keys) (me : PlatformCode) (i : ℕ) (diary : List Frame) (now : Moment)
+        (request : RequestRecord) (step : Step) → IsLegal roster keys me diary
+        → Steps roster keys me diary now request step → shard_of request ≡ i → IfSome step.frame (IsInShard i) }
+{}
