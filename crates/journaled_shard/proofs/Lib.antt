@@ -1,4 +1,5 @@
 pub mod OpeningLemmas
 pub mod RegisterLemmas
+pub mod SettlingLemmas
 pub mod ShardLemmas
 pub mod WrittenLemmas

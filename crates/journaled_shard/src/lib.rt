@@ -9,4 +9,4 @@ mod unwritten;
 mod written;
 
 pub use rack::Rack;
-pub use shard::JournaledShard;
+pub use shard::{JournaledShard, reply_for};

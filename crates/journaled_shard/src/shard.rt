@@ -187,6 +187,40 @@ impl<D: Disk, G: KeyRing> JournaledShard<D, G> {
         )
     }
 
+    /// Reads the journal again where an earlier call failed, and keeps or drops the frame that it left loose; else it
+    /// does nothing. [`JournaledShard::take`] begins so. After a fault the diary is as it was, and the journal is read
+    /// before the next request is decided.
+    ///
+    /// `Disk` comes only where the disk's count of faults rose. `Damaged` names a frame that isn't the diary's, and
+    /// never comes over a disk that tells.
+    pub fn settle(&mut self, alloc: Global) -> Result<(), OpenFault>
+        ensures found { OnOk result
+            (IsKeptOrDropped self.old.written.diary self.old.written.loose self.new.written.diary) }
+        ensures read { OnOk result (IsRead self.new.written) }
+        ensures was { OnErr result (self.old.written.unread ≡ true) }
+        ensures still { OnErr result (IsStill self.old.written self.new.written) }
+        ensures undamaged { (place : ℕ) → D.tells self.old.written.journal.disk ≡ true
+            → IsErrOf result (OpenFault.Damaged place) → ⊥ }
+        ensures legal { IsLegalWith self.new.roster (G.keys self.new.ring) self.new.me self.new.written.diary
+            self.new.written.loose }
+
+        // A crash at any moment of the call leaves the journal of the diary before it, with its loose frame or without.
+        ensures any_moment { D.tells self.old.written.journal.disk ≡ true
+            → LeavesOnly D.moment D.left_since self.old.written.journal.disk self.new.written.journal.disk
+            (HasDiary self.old.written.diary self.old.written.loose) }
+        ensures on_disk { D.tells self.old.written.journal.disk ≡ true
+            → IsOnDisk D.seen D.may_leave self.new.written }
+        ensures me { self.new.me ≡ self.old.me }
+        ensures roster { self.new.roster ≡ self.old.roster }
+        ensures ring { self.new.ring ≡ self.old.ring }
+        ensures told { D.tells self.new.written.journal.disk ≡ D.tells self.old.written.journal.disk }
+        ensures later { D.faults self.old.written.journal.disk ≤ D.faults self.new.written.journal.disk }
+        ensures failed { IsErrOf result OpenFault.Disk
+            → Rose (D.faults self.old.written.journal.disk) (D.faults self.new.written.journal.disk) }
+    {
+        self.written.settle(alloc)
+    }
+
     /// Forgets the diary, and reads the journal again. After a fault the diary is as it was, and the journal is read
     /// before the next request is decided.
     ///
@@ -426,7 +460,8 @@ fn reply_to(why: Unwritten) -> Reply
     }
 }
 
-fn reply_for(fault: OpenFault) -> Reply
+/// How it is replied that the journal could not be read again.
+pub fn reply_for(fault: OpenFault) -> Reply
     ensures { result ≡ reply_for fault }
 {
     match fault {
