@@ -6,9 +6,10 @@
     tools/gate_part.py --take                          takes every library that is kept into this checkout
 
 A library is proved, --tests proves and runs tests, --edits tries must-fail edits, and programs are proved, built and
-run: by the calls of `rt ci`, lowest first, side by side. `rt ci` itself proves everything from nothing, knows no single
-crate, and alone is the gate. What passed is kept in $EBL_KEPT (~/.cache/ebl-gate otherwise), under a sum of the kit,
-of the crate and of all crates below it. Comments on lines of their own and `src/tests` don't count for a library.
+run: by the calls of `rt ci`, lowest first, side by side. `rt ci` alone is the gate; it keeps what passed too, by the
+sums of all files that it read. What passed here is kept in $EBL_KEPT (~/.cache/ebl-gate otherwise), under a sum of
+the kit, of the crate and of all crates below it. Comments on lines of their own and `src/tests` don't count for a
+library.
 A library that is taken has its stamp beside it, so that `rt check` in the crates above it loads its statements alone.
 
 Sources are taken not to change while it runs. Ends with 0, or with 1 where something failed. It reaches into the kit's
