@@ -37,7 +37,8 @@ use Rattle.journal_room.proofs.SettlementLemmas.{settled_fewer}
 
 -- ---- how long a journal is
 
-contents_more : (diary : List Frame) (frame : Frame)
+-- the contents with one frame more
+pub contents_more : (diary : List Frame) (frame : Frame)
     → contents_in (diary ++ frame ∷ []) ≡ contents_in diary ++ frame_bytes frame ∷ []
 contents_more [] frame = refl
 contents_more (f ∷ diary) frame = ap (λ (xs : List (List ℕ)). frame_bytes f ∷ xs) (contents_more diary frame)
