@@ -1,5 +1,5 @@
 -- The diary of a journal's frames.
-use Rattle.std.proofs.Common.{◌≡◌, ℕ, ◌+◌, ◌<◌, List, [], ◌∷◌, ◌++◌, length, take, drop, get_or, refl, ap, sym, subst, ◌∙◌}
+use Rattle.std.proofs.Common.{◌≡◌, ℕ, ◌+◌, ◌<◌, ◌≤◌, Bool, true, false, List, [], ◌∷◌, ◌++◌, length, take, drop, get_or, refl, ap, sym, subst, ◌∙◌, arith}
 use Rattle.std.proofs.lemmas.List.{drop_more, take-append-drop, take_more}
 use Rattle.ebl_base.specs.declared.platform_code.PlatformCode.{PlatformCode}
 use Rattle.signed_envelope.specs.KeyRing.{Keys}
@@ -12,9 +12,11 @@ use Rattle.record_bytes.specs.Forms.{HasSpelling}
 use Rattle.record_bytes.specs.Grammar.{Spells, frame_bytes, kept}
 use Rattle.transfer_judge.specs.Legal.{FollowsDiaryLegally, IsLegal}
 use Rattle.transfer_judge.proofs.FrameLemmas.{each_follows, front_is_legal, one_more_is_legal}
+use Rattle.bill_journal.specs.Journal.{room_for}
+use Rattle.journal_room.specs.Room.{Fits, HasRoom, is_settling, journal_length}
+use Rattle.journal_room.proofs.RoomLemmas.{contents_more, length_more, nothing_has_room, one_more_has_room, front_has_room}
 use Rattle.journaled_diary.specs.Contents.{AreSpelled, contents_in}
-use Rattle.journaled_diary.specs.Reading.{IsDiaryOf, IsRefusedAt}
-use Rattle.journaled_diary.proofs.ContentsLemmas.{contents_more}
+use Rattle.journaled_diary.specs.Reading.{IsDiaryOf, IsRefusedAt, MayStandBehind}
 
 -- bytes spell one frame at most
 abbrev pub OneSpelling : Type 0
@@ -28,6 +30,11 @@ first_of x y xs ys same = cc same
 
 rest_of : (x y : List ℕ) (xs ys : List (List ℕ)) → x ∷ xs ≡ y ∷ ys → xs ≡ ys
 rest_of x y xs ys same = cc same
+
+-- no frame may make a journal longer than the larger room
+pub room_most : (settling : Bool) → room_for settling ≤ 16777216
+room_most true = omega arith
+room_most false = omega arith
 
 -- ---- one diary
 
@@ -59,17 +66,24 @@ spelled_more : (diary : List Frame) (frame : Frame) → AreSpelled diary → Has
 spelled_more [] frame are is = (is, tt)
 spelled_more (f ∷ diary) frame are is = (are.0, spelled_more diary frame are.1 is)
 
--- a content that spells a frame that may follow makes a diary with that frame
+-- a frame fits where its content has room
+fits_by : (diary : List Frame) (frame : Frame) (content : List ℕ) → content ≡ frame_bytes frame
+    → journal_length diary + 5 + length content ≤ room_for (is_settling frame) → Fits diary frame
+fits_by diary frame content is fits =
+    omega (arith, length_more diary frame, ap (λ (t : List ℕ). length t) is, fits)
+
+-- a content that spells a frame that may stand there makes a diary with that frame
 pub one_more : (roster : RosterRecord) (keys : Keys) (me : PlatformCode) (contents : List (List ℕ)) (diary : List Frame)
     (content : List ℕ) (frame : Frame) → IsDiaryOf roster keys me contents diary → Spells content frame
-    → FollowsDiaryLegally roster keys me diary frame
+    → MayStandBehind roster keys me diary frame
     → IsDiaryOf roster keys me (contents ++ content ∷ []) (diary ++ frame ∷ [])
-one_more roster keys me contents diary content frame is spells follows =
+one_more roster keys me contents diary content frame is spells may =
     let bytes = spells.bytes_are in
     record {
       contents_are = (λ i. is.contents_are i ++ bytes i ∷ []) ∙ sym (contents_more diary frame);
       spelled = spelled_more diary frame is.spelled spells.form;
-      legal = one_more_is_legal roster keys me diary frame is.legal follows;
+      legal = one_more_is_legal roster keys me diary frame is.legal may.follows;
+      room = one_more_has_room diary frame is.room may.fits;
     }
 
 -- ---- a journal, frame by frame
@@ -92,24 +106,27 @@ nothing_read roster keys me = record {
   contents_are = refl;
   spelled = tt;
   legal = record { frames = tt; records = tt };
+  room = nothing_has_room;
 }
 
--- the next frame may follow
+-- the next frame may stand there
 pub read_more : (roster : RosterRecord) (keys : Keys) (me : PlatformCode) (frames : List FrameAt) (i : ℕ) (at : FrameAt)
     (diary : List Frame) (frame : Frame) → i < length frames → at ≡ get_or frames i at
     → IsDiaryOf roster keys me (contents_of (take i frames)) diary → Spells at.content frame
     → FollowsDiaryLegally roster keys me diary frame
+    → journal_length diary + 5 + length at.content ≤ room_for (is_settling frame)
     → IsDiaryOf roster keys me (contents_of (take (i + 1) frames)) (diary ++ frame ∷ [])
-read_more roster keys me frames i at diary frame less item is spells follows =
+read_more roster keys me frames i at diary frame less item is spells follows fits =
     subst (λ (h : List (List ℕ)). IsDiaryOf roster keys me h (diary ++ frame ∷ []))
     (sym (contents_next frames i at less item))
-    (one_more roster keys me (contents_of (take i frames)) diary at.content frame is spells follows)
+    (one_more roster keys me (contents_of (take i frames)) diary at.content frame is spells
+    (record { follows = follows; fits = fits_by diary frame at.content spells.bytes_are fits }))
 
 -- it may not
 pub refused_here : (roster : RosterRecord) (keys : Keys) (me : PlatformCode) (frames : List FrameAt) (i : ℕ)
     (at : FrameAt) (diary : List Frame) → i < length frames → at ≡ get_or frames i at
     → IsDiaryOf roster keys me (contents_of (take i frames)) diary
-    → ((frame : Frame) → Spells at.content frame → ¬ FollowsDiaryLegally roster keys me diary frame)
+    → ((frame : Frame) → Spells at.content frame → ¬ MayStandBehind roster keys me diary frame)
     → IsRefusedAt roster keys me frames at.place
 refused_here roster keys me frames i at diary less item is refused = record {
   front = take i frames;
@@ -123,6 +140,21 @@ refused_here roster keys me frames i at diary less item is refused = record {
   reads = is;
   refused = refused;
 }
+
+-- it has no room
+pub no_room_here : OneSpelling → (roster : RosterRecord) (keys : Keys) (me : PlatformCode) (frames : List FrameAt) (i : ℕ)
+    (at : FrameAt) (diary : List Frame) (frame : Frame) → i < length frames → at ≡ get_or frames i at
+    → IsDiaryOf roster keys me (contents_of (take i frames)) diary → Spells at.content frame
+    → room_for (is_settling frame) < journal_length diary + 5 + length at.content
+    → IsRefusedAt roster keys me frames at.place
+no_room_here one roster keys me frames i at diary frame less item is spells long =
+    refused_here roster keys me frames i at diary less item is
+    (λ other others may.
+    let same : other ≡ frame = one at.content other frame others spells in
+    let fits : Fits diary frame = subst (Fits diary) same may.fits in
+    let bytes = ap (λ (t : List ℕ). length t) spells.bytes_are in
+    let more = length_more diary frame in
+    omega arith)
 
 -- ---- refused nowhere
 
@@ -186,6 +218,7 @@ refused_nowhere one roster keys me frames diary place is x =
       contents_are = sym a.before_is;
       spelled = spelled.0;
       legal = front_is_legal roster keys me a.before (a.frame ∷ a.behind) legal;
+      room = front_has_room a.before (a.frame ∷ a.behind) (subst HasRoom a.parts is.room);
     } in
     let same : a.before ≡ x.diary = one_diary one roster keys me (contents_of x.front) a.before x.diary front x.reads in
     let is_spelled : Spells x.at.content a.frame = record {
@@ -193,6 +226,8 @@ refused_nowhere one roster keys me frames diary place is x =
       form = spelled.1;
       bytes_are = sym a.frame_is;
     } in
-    x.refused a.frame is_spelled
-    (subst (λ (d : List Frame). FollowsDiaryLegally roster keys me d a.frame) same
-    (each_follows roster keys me a.before a.behind a.frame legal))
+    let may : MayStandBehind roster keys me a.before a.frame = record {
+      follows = each_follows roster keys me a.before a.behind a.frame legal;
+      fits = is.room.each a.before a.behind a.frame a.parts;
+    } in
+    x.refused a.frame is_spelled (subst (λ (d : List Frame). MayStandBehind roster keys me d a.frame) same may)

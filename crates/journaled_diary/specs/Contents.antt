@@ -1,13 +1,10 @@
 -- A diary's frames as the contents of a journal.
-use Rattle.std.specs.Prelude.{ℕ, List, [], ◌∷◌, map}
+use Rattle.std.specs.Prelude.{ℕ, List, [], ◌∷◌}
 use Rattle.bill_journal.specs.Frames.{StandsFor}
 use Rattle.bill_diary.specs.declared.frame.Frame.{Frame}
 use Rattle.record_bytes.specs.Forms.{HasSpelling}
-use Rattle.record_bytes.specs.Grammar.{frame_bytes, kept}
-
--- the contents of a diary's frames
-abbrev pub contents_in : List Frame → List (List ℕ)
-contents_in diary = map frame_bytes diary
+use Rattle.record_bytes.specs.Grammar.{kept}
+pub use Rattle.journal_room.specs.Contents.{contents_in}
 
 -- each frame has a spelling
 abbrev pub AreSpelled : List Frame → Type 0

@@ -1,17 +1,20 @@
 //! The diary that the frames of a journal are.
-ghost use Rattle.std.specs.Prelude.{IfOk, IsErrOf, MatchOption, ℕ};
+ghost use Rattle.std.specs.Prelude.{◌+◌, ◌≤◌, ◌↔◌, IfOk, IsErrOf, IsTrue, MatchOption, length, ℕ};
 ghost use Rattle.bill_diary.specs.declared.frame.Frame.{Frame};
 ghost use Rattle.bill_journal.specs.Places.{contents_of};
+ghost use Rattle.bill_journal.specs.Journal.{room_for};
 ghost use Rattle.record_bytes.specs.Grammar.{Spells};
 ghost use Rattle.transfer_judge.specs.Legal.{FollowsDiaryLegally, IsLegal};
+ghost use Rattle.journal_room.specs.Room.{is_settling};
 ghost use Rattle.journaled_diary.specs.Reading.{IsDiaryOf, IsRefusedAt};
 
 use bill_diary::{Diary, Frame};
 use bill_journal::FrameBytes;
-use ebl_base::{NoMemory, PlatformCode};
+use ebl_base::{MAX_JOURNAL, NoMemory, PlatformCode};
+use journal_room::room_of;
 use legal_frames::may_follow;
 use party_roster::Roster;
-use record_bytes::{FrameFault, frame_read};
+use record_bytes::{FrameFault, frame_has_one_spelling, frame_read};
 use signed_envelope::KeyRing;
 use std::alloc::Global;
 use transfer_judge::legal_diary_is_sound;
@@ -19,7 +22,8 @@ use transfer_judge::legal_diary_is_sound;
 /// Why the frames of a journal are no legal diary.
 #[derive(Clone, Copy, Debug, PartialEq, Eq)]
 pub enum DiaryFault {
-    /// The frame whose gate is at this place spells no record, or one that may not follow those before it.
+    /// The frame whose gate is at this place spells no record, or one that may not follow those before it, or has no
+    /// room behind them.
     Refused(u64),
     /// Memory ran out.
     NoMemory,
@@ -38,7 +42,8 @@ impl From<NoMemory> for DiaryFault {
 
 /// The legal diary of a platform, under this roster and these keys, that the frames of a journal are.
 ///
-/// `Refused` names the first frame that spells no record or may not follow those before it. Each frame is read once.
+/// `Refused` names the first frame that spells no record, may not follow those before it, or has no room behind them.
+/// Each frame is read once.
 pub fn read_diary<G: KeyRing>(
     alloc: Global,
     roster: &Roster,
@@ -50,7 +55,10 @@ pub fn read_diary<G: KeyRing>(
     ensures refused { (place : ℕ) → IsErrOf result (DiaryFault.Refused place)
         → IsRefusedAt roster.now (G.keys ring.now) me frames.now place }
 {
+    frame_has_one_spelling();
     let mut diary = Diary::new(alloc);
+    // How many bytes the journal of the diary so far has: at first a version and a gate.
+    let mut used: u64 = 2;
     let frames = frames.as_slice();
     for at in frames {
         let content = at.content.as_slice();
@@ -58,6 +66,10 @@ pub fn read_diary<G: KeyRing>(
         let Some(frame) = found else {
             return Err(DiaryFault::Refused(at.place));
         };
+        if !has_room(used, &frame, content) {
+            return Err(DiaryFault::Refused(at.place));
+        }
+        used += 5 + content.len() as u64;
         diary.push(frame)?;
     }
     Ok(diary)
@@ -89,4 +101,13 @@ fn next_frame<G: KeyRing>(
     } else {
         Ok(None)
     }
+}
+
+// Whether a frame of this content has room behind so many bytes: its gate, its length and its content.
+fn has_room(used: u64, frame: &Frame, content: &[u8]) -> bool
+    requires { used ≤ MAX_JOURNAL }
+    ensures { IsTrue result ↔ (used + 5 + length content.now ≤ room_for (is_settling frame.now)) }
+{
+    let room = room_of(frame);
+    used + 5 <= room && content.len() as u64 <= room - used - 5
 }
