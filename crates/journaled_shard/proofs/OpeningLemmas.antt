@@ -1,5 +1,5 @@
 -- What a disk stands for, where its diary is read from nothing.
-use Rattle.std.proofs.Common.{◌≡◌, ℕ, ◌<◌, List, [], ◌∷◌, ◌++◌, Option, length, refl, sym, ◌∙◌, append_assoc, arith}
+use Rattle.std.proofs.Common.{◌≡◌, ℕ, ◌<◌, List, [], ◌∷◌, ◌++◌, Option, length, refl, sym, subst, ◌∙◌, append_assoc, arith}
 use Rattle.ebl_base.specs.declared.platform_code.PlatformCode.{PlatformCode}
 use Rattle.signed_envelope.specs.KeyRing.{Keys}
 use Rattle.party_roster.specs.RosterRecord.{RosterRecord}
@@ -9,6 +9,7 @@ use Rattle.bill_diary.specs.declared.record.Record.TheVariants.{Signed, Acted, A
 use Rattle.bill_diary.specs.Sound.{IsSound}
 use Rattle.bill_journal.specs.declared.fault.OpenFault.TheVariants as opening
 use Rattle.bill_journal.specs.declared.frame_at.FrameAt.{FrameAt}
+use Rattle.bill_journal.specs.Journal.{HasContents}
 use Rattle.record_bytes.specs.Forms.{HasNames, HasSpelling}
 use Rattle.record_bytes.specs.Grammar.{Spells, frame_bytes, kept}
 use Rattle.transfer_judge.specs.Legal.{IsLegal}
@@ -17,10 +18,10 @@ use Rattle.journaled_diary.specs.declared.reading.DiaryFault.TheVariants.{NoMemo
 use Rattle.journaled_diary.specs.Contents.{AreSpelled, contents_in}
 use Rattle.journaled_diary.specs.Reading.{IsDiaryOf, IsRefusedAt}
 use Rattle.journaled_shard.specs.Opening.{fault_of}
-use Rattle.journaled_shard.specs.Shard.{IsLegalWith}
-use Rattle.journaled_shard.specs.Written.{AreNamed, IsKeptOrDropped, IsNamedIfAny}
-use Rattle.journaled_shard.proofs.ShardLemmas.{found_legal}
-use Rattle.journaled_shard.proofs.WrittenLemmas.{named_found}
+use Rattle.journaled_shard.specs.Shard.{HasRoomWith, IsLegalWith}
+use Rattle.journaled_shard.specs.Written.{AreNamed, IsKeptOrDropped, IsNamedIfAny, IsOnDisk, WrittenRecord}
+use Rattle.journaled_shard.proofs.ShardLemmas.{found_has_room, found_legal}
+use Rattle.journaled_shard.proofs.WrittenLemmas.{named_found, settled_on_disk}
 
 -- ---- names and spellings
 
@@ -59,13 +60,14 @@ pub found_is_diary : (roster : RosterRecord) (keys : Keys) (me : PlatformCode) (
     (loose : Option Frame) (contents : List (List ℕ)) → SoundAreSpelled me
     → (IsLegal roster keys me found → IsSound me found) → IsLegalWith roster keys me diary loose → AreNamed diary
     → IsNamedIfAny loose → IsKeptOrDropped diary loose found → contents ≡ contents_in found
-    → IsDiaryOf roster keys me contents found
-found_is_diary roster keys me diary found loose contents law sound legal named name is same =
+    → HasRoomWith diary loose → IsDiaryOf roster keys me contents found
+found_is_diary roster keys me diary found loose contents law sound legal named name is same room =
     let fine : IsLegal roster keys me found = found_legal roster keys me diary found loose is legal in
     record {
       contents_are = same;
       spelled = spelled_behind me law [] found (sound fine) (named_found diary found loose is named name);
       legal = fine;
+      room = found_has_room diary found loose is room;
     }
 
 -- ---- the frame that is refused
@@ -84,3 +86,16 @@ pub is_not_blank : (roster : RosterRecord) (keys : Keys) (me : PlatformCode) (fi
 is_not_blank roster keys me [] frames place blank refused =
     absurd (nothing_there refused.front refused.at refused.rest (sym refused.parts ∙ blank refl))
 is_not_blank roster keys me (byte ∷ file) frames place blank refused = omega arith
+
+-- ---- on the disk
+
+-- a journal of a diary, blank before or not
+pub opened_on_disk : {D : Type 0} (seen : D → List ℕ) (may_leave : D → List ℕ → Type 0) (w : WrittenRecord D)
+    (file : List ℕ) (contents : List (List ℕ)) → contents ≡ contents_in w.diary
+    → (file ≡ [] → contents ≡ []) → (file ≡ [] → HasContents seen may_leave w.journal [])
+    → (0 < length file → HasContents seen may_leave w.journal contents) → IsOnDisk seen may_leave w
+opened_on_disk seen may_leave w [] contents is blank fresh settled =
+    settled_on_disk seen may_leave w
+    (subst (HasContents seen may_leave w.journal) (sym (blank refl) ∙ is) (fresh refl))
+opened_on_disk seen may_leave w (byte ∷ file) contents is blank fresh settled =
+    settled_on_disk seen may_leave w (subst (HasContents seen may_leave w.journal) is (settled (omega arith)))

@@ -1,5 +1,5 @@
 -- What becomes of a shard on a journal, by what its parts do.
-use Rattle.std.proofs.Common.{◌≡◌, ◌⊎◌, inl, inr, ℕ, true, false, List, [], ◌∷◌, ◌++◌, Option, Some, None, Err, refl, ap, sym, subst, ◌∙◌}
+use Rattle.std.proofs.Common.{◌≡◌, ◌⊎◌, inl, inr, ℕ, ◌<◌, ◌≤◌, Bool, true, false, List, [], ◌∷◌, ◌++◌, Option, Some, None, Err, refl, ap, sym, subst, ◌∙◌, arith}
 use Rattle.ebl_base.specs.declared.moment.Moment.{Moment}
 use Rattle.ebl_base.specs.declared.platform_code.PlatformCode.{PlatformCode}
 use Rattle.signed_envelope.specs.KeyRing.{Keys}
@@ -10,6 +10,11 @@ use Rattle.platform_requests.specs.declared.reply.Reply.{Reply}
 use Rattle.platform_requests.specs.declared.reply.Reply.TheVariants as replies
 use Rattle.bill_diary.specs.declared.frame.Frame.{Frame}
 use Rattle.transfer_judge.specs.Legal.{IsLegal}
+use Rattle.transfer_judge.proofs.FrameLemmas.{each_follows}
+use Rattle.bill_journal.specs.declared.fault.OpenFault.{OpenFault}
+use Rattle.bill_journal.specs.declared.fault.OpenFault.TheVariants as opening
+use Rattle.journal_room.specs.Room.{Fits, HasRoom, is_settling}
+use Rattle.journal_room.proofs.RoomLemmas.{one_more_has_room, settlement_fits}
 use Rattle.platform_machine.specs.declared.step.Step.{Step}
 use Rattle.platform_machine.specs.Complete.{is_failure, is_refusal}
 use Rattle.platform_machine.specs.Machine.{MayBeAsked, Steps}
@@ -18,9 +23,9 @@ use Rattle.journaled_shard.specs.declared.unwritten.Unwritten.{Unwritten}
 use Rattle.journaled_shard.specs.declared.unwritten.Unwritten.TheVariants as why
 use Rattle.std.proofs.lemmas.List.{append-nil}
 use Rattle.journaled_diary.specs.Contents.{IsJournalOf}
-use Rattle.journaled_shard.specs.Written.{HasDiary, IsStill, IsTooLong, IsKeptOrDropped, IsLeftOpen, IsRead, IsWritten, WrittenRecord}
+use Rattle.journaled_shard.specs.Written.{HasDiary, IsTooLong, IsKeptOrDropped, IsLeftOpen, IsRead, IsWritten, WrittenRecord}
 use Rattle.journaled_shard.proofs.WrittenLemmas.{kept_itself}
-use Rattle.journaled_shard.specs.Shard.{CarriesOut, HasNoRoom, HasStepWith, IsJudged, IsLeftLoose, IsLegalWith, IsStepOn, IsTaken, IsWrittenIfAny, IsOfReading, reply_of}
+use Rattle.journaled_shard.specs.Shard.{CarriesOut, HasNoRoom, HasRoomWith, HasStepWith, IsJudged, IsLeftLoose, IsLegalWith, IsOfReading, IsStepOn, IsStillUnread, IsTaken, IsWrittenIfAny, reply_for, reply_of}
 
 -- ---- legal diaries
 
@@ -103,6 +108,88 @@ module _ (roster : RosterRecord) (keys : Keys) (me : PlatformCode) where
   taken_legal before after now request out keep asked legal (inr x) =
       judged_legal x.found after now request out keep (asked x.found.diary x.kept)
       (found_legal before.diary x.found.diary before.loose x.kept legal) x.judged
+
+-- ---- room
+
+read_room : {D : Type 0} (after : WrittenRecord D) (diary : List Frame) → after.diary ≡ diary → IsRead after
+    → HasRoom diary → HasRoomWith after.diary after.loose
+read_room after diary is read room = record {
+  dropped = subst HasRoom (sym is) room;
+  kept = λ frame loose. let clash : None ≡ Some frame = sym read.nothing_loose ∙ loose in cc clash;
+}
+
+left_room : {D : Type 0} (before after : WrittenRecord D) (frame : Frame) → IsLeftOpen before frame after
+    → HasRoom before.diary → HasRoomWith after.diary after.loose
+left_room before after frame left room = record {
+  dropped = subst HasRoom (sym left.diary) room;
+  kept = λ other loose.
+      let both : Some frame ≡ Some other = sym left.loose ∙ loose in
+      let same : frame ≡ other = cc both in
+      subst (λ (f : Frame). Fits after.diary f) same
+      (subst (λ (d : List Frame). Fits d frame) (sym left.diary) left.fits);
+}
+
+handed_room : {D : Type 0} (before after : WrittenRecord D) (frame : Option Frame) → IsWrittenIfAny before frame after
+    → HasRoom before.diary → HasRoomWith after.diary after.loose
+handed_room before after None same room = read_room after before.diary same.diary same.read room
+handed_room before after (Some frame) added room =
+    read_room after (before.diary ++ frame ∷ []) added.diary added.read
+    (one_more_has_room before.diary frame room added.fits)
+
+refused_room : {D : Type 0} (before after : WrittenRecord D) (frame : Frame) (cause : Unwritten)
+    → IsWritten before frame after (Err cause) → HasRoom before.diary → HasRoomWith after.diary after.loose
+refused_room before after frame why.Full written room = read_room after before.diary written.0.diary written.0.read room
+refused_room before after frame why.Disk written room = left_room before after frame written room
+refused_room before after frame why.NoMemory written room = read_room after before.diary written.diary written.read room
+
+-- the diary that is judged
+pub found_has_room : (diary found : List Frame) (loose : Option Frame) → IsKeptOrDropped diary loose found
+    → HasRoomWith diary loose → HasRoom found
+found_has_room diary found None is room = subst HasRoom (sym is) room.dropped
+found_has_room diary found (Some frame) (inl is) room = subst HasRoom (sym is) room.dropped
+found_has_room diary found (Some frame) (inr is) room =
+    subst HasRoom (sym is) (one_more_has_room diary frame room.dropped (room.kept frame refl))
+
+judged_room : {D : Type 0} (roster : RosterRecord) (keys : Keys) (me : PlatformCode) (found after : WrittenRecord D)
+    (now : Moment) (request : RequestRecord) (out : Outcome) → HasRoom found.diary
+    → IsJudged roster keys me found now request out after → HasRoomWith after.diary after.loose
+judged_room roster keys me found after now request out room (inl undecided) =
+    read_room after found.diary undecided.same.diary undecided.same.read room
+judged_room roster keys me found after now request out room (inr (step, steps, inl handed)) =
+    handed_room found after step.frame handed.written room
+judged_room roster keys me found after now request out room (inr (step, steps, inr refused)) =
+    refused_room found after refused.frame refused.cause refused.written room
+
+-- a request keeps the diary's room, with a loose frame or without it
+pub taken_room : {D : Type 0} (roster : RosterRecord) (keys : Keys) (me : PlatformCode) (before after : WrittenRecord D)
+    (now : Moment) (request : RequestRecord) (out : Outcome) → HasRoomWith before.diary before.loose
+    → IsTaken roster keys me before now request out after → HasRoomWith after.diary after.loose
+taken_room roster keys me before after now request out room (inl stuck) =
+    subst (λ (d : List Frame). HasRoomWith d after.loose) (sym stuck.still.diary)
+    (subst (λ (o : Option Frame). HasRoomWith before.diary o) (sym stuck.still.loose) room)
+taken_room roster keys me before after now request out room (inr x) =
+    judged_room roster keys me x.found after now request out
+    (found_has_room before.diary x.found.diary before.loose x.kept room) x.judged
+
+-- what has no room settles nothing
+not_settling : (roster : RosterRecord) (keys : Keys) (me : PlatformCode) (diary : List Frame) (frame : Frame)
+    → IsLegal roster keys me diary → HasRoom diary → IsLegal roster keys me (diary ++ frame ∷ [])
+    → IsTooLong diary frame → is_settling frame ≡ false
+not_settling roster keys me diary frame legal room more long = by (is_settling frame) refl
+  where
+    by : (b : Bool) → is_settling frame ≡ b → b ≡ false
+    by false is = refl
+    by true is =
+        let fits : Fits diary frame = settlement_fits roster keys me diary frame legal room
+        (each_follows roster keys me diary [] frame more) is in
+        let no : ⊥ = omega arith in
+        absurd no
+
+-- a reading doesn't answer Full
+pub no_full_reading : {X : Type 0} (fault : OpenFault) → reply_for fault ≡ replies.Full → X
+no_full_reading opening.Disk full = cc full
+no_full_reading (opening.Damaged place) full = cc full
+no_full_reading opening.NoMemory full = cc full
 
 -- ---- nothing is loose
 
@@ -278,42 +365,53 @@ module _ (roster : RosterRecord) (keys : Keys) (me : PlatformCode) (now : Moment
   unfit found after frame why.NoMemory reply written is full =
       absurd (let clash : replies.NoMemory ≡ replies.Full = sym is ∙ full in cc clash)
 
-  judged_full : {D : Type 0} (found after : WrittenRecord D) (out : Outcome) → AreFine → out.reply ≡ replies.Full
-      → IsJudged roster keys me found now request out after
+  judged_full : {D : Type 0} (found after : WrittenRecord D) (out : Outcome) → AreFine
+      → StepsKeep roster keys me now request → MayBeAsked found.diary now request → IsLegal roster keys me found.diary
+      → HasRoom found.diary → out.reply ≡ replies.Full → IsJudged roster keys me found now request out after
       → (after.diary ≡ found.diary) × HasNoRoom roster keys me found.diary now request
-  judged_full found after out fine full (inl undecided) = full_decided out.reply undecided.reply_is full
-  judged_full found after out fine full (inr (step, steps, inl handed)) =
+  judged_full found after out fine keep asked legal room full (inl undecided) = full_decided out.reply undecided.reply_is full
+  judged_full found after out fine keep asked legal room full (inr (step, steps, inl handed)) =
       no_failure step.reply replies.Full (sym handed.reply_is ∙ full) (fine found.diary step steps) refl
-  judged_full found after out fine full (inr (step, steps, inr refused)) =
+  judged_full found after out fine keep asked legal room full (inr (step, steps, inr refused)) =
       let no = unfit found after refused.frame refused.cause out.reply refused.written
       (ap (λ (o : Outcome). o.reply) refused.out_is) full in
-      (no.0, (refused.frame, record { step = step; steps = steps; frame_is = refused.frame_is }, no.1))
+      let more : IsLegal roster keys me (found.diary ++ refused.frame ∷ []) =
+      subst (λ (f : Option Frame). IsLegal roster keys me (with_frame found.diary f)) refused.frame_is
+      (keep found.diary step legal asked steps) in
+      let settles = not_settling roster keys me found.diary refused.frame legal room more no.1 in
+      (no.0, (refused.frame, record { step = step; steps = steps; frame_is = refused.frame_is }, no.1, settles))
 
-  -- Full: the step's frame has no room
+  -- Full: the step's frame has no room, and settles nothing
   pub taken_full : {D : Type 0} (before after : WrittenRecord D) (out : Outcome) → AreFine
+      → StepsKeep roster keys me now request
+      → ((h : List Frame) → IsKeptOrDropped before.diary before.loose h → MayBeAsked h now request)
+      → IsLegalWith roster keys me before.diary before.loose → HasRoomWith before.diary before.loose
       → out.reply ≡ replies.Full → IsTaken roster keys me before now request out after
       → IsKeptOrDropped before.diary before.loose after.diary
       × HasNoRoom roster keys me after.diary now request
-  taken_full before after out fine full (inl stuck) = full_reading out.reply stuck.reply_is full
-  taken_full before after out fine full (inr x) =
-      let is = judged_full x.found after out fine full x.judged in (
+  taken_full before after out fine keep asked legal room full (inl stuck) =
+      full_reading out.reply stuck.reply_is full
+  taken_full before after out fine keep asked legal room full (inr x) =
+      let is = judged_full x.found after out fine keep (asked x.found.diary x.kept)
+      (found_legal roster keys me before.diary x.found.diary before.loose x.kept legal)
+      (found_has_room before.diary x.found.diary before.loose x.kept room) full x.judged in (
         subst (IsKeptOrDropped before.diary before.loose) (sym is.0) x.kept,
         subst (λ (d : List Frame). HasNoRoom roster keys me d now request) (sym is.0) is.1,
       )
 
   lost : {D : Type 0} (found after : WrittenRecord D) (frame : Frame) (cause : Unwritten) (reply : Reply)
       → IsWritten found frame after (Err cause) → reply ≡ reply_of cause → reply ≡ replies.Disk
-      → (after.diary ≡ found.diary) × (after.loose ≡ Some frame)
+      → (after.diary ≡ found.diary) × ((after.loose ≡ Some frame) × (after.unread ≡ true))
   lost found after frame why.Full reply written is disk =
       absurd (let clash : replies.Full ≡ replies.Disk = sym is ∙ disk in cc clash)
-  lost found after frame why.Disk reply written is disk = (written.diary, written.loose)
+  lost found after frame why.Disk reply written is disk = (written.diary, (written.loose, written.unread))
   lost found after frame why.NoMemory reply written is disk =
       absurd (let clash : replies.NoMemory ≡ replies.Disk = sym is ∙ disk in cc clash)
 
   judged_lost : {D : Type 0} (found after : WrittenRecord D) (out : Outcome) → AreFine → out.reply ≡ replies.Disk
       → IsJudged roster keys me found now request out after
       → (after.diary ≡ found.diary) × ((frame : Frame) × HasStepWith roster keys me found.diary now request frame
-      × (after.loose ≡ Some frame))
+      × ((after.loose ≡ Some frame) × (after.unread ≡ true)))
   judged_lost found after out fine disk (inl undecided) = disk_decided out.reply undecided.reply_is disk
   judged_lost found after out fine disk (inr (step, steps, inl handed)) =
       no_failure step.reply replies.Disk (sym handed.reply_is ∙ disk) (fine found.diary step steps) refl
@@ -325,15 +423,16 @@ module _ (roster : RosterRecord) (keys : Keys) (me : PlatformCode) (now : Moment
   -- Disk: nothing changed, or the step's frame is loose
   pub taken_disk : {D : Type 0} (before after : WrittenRecord D) (out : Outcome) → AreFine
       → out.reply ≡ replies.Disk → IsTaken roster keys me before now request out after
-      → IsStill before after ⊎ IsLeftLoose roster keys me before now request after
-  taken_disk before after out fine disk (inl stuck) = inl stuck.still
+      → IsStillUnread before after ⊎ IsLeftLoose roster keys me before now request after
+  taken_disk before after out fine disk (inl stuck) = inl (stuck.was, stuck.still)
   taken_disk before after out fine disk (inr x) =
       let is = judged_lost x.found after out fine disk x.judged in
       inr (
         is.1.0,
         subst (IsKeptOrDropped before.diary before.loose) (sym is.0) x.kept,
         subst (λ (d : List Frame). HasStepWith roster keys me d now request is.1.0) (sym is.0) is.1.1,
-        is.1.2,
+        is.1.2.0,
+        is.1.2.1,
       )
 
   caused_damaged : {X : Type 0} (cause : Unwritten) (place : ℕ) → reply_of cause ≡ replies.Damaged place → X
@@ -360,8 +459,8 @@ module _ (roster : RosterRecord) (keys : Keys) (me : PlatformCode) (now : Moment
   -- Damaged: the journal could not be read again
   pub taken_damaged : {D : Type 0} (before after : WrittenRecord D) (out : Outcome) (place : ℕ) → AreFine
       → out.reply ≡ replies.Damaged place → IsTaken roster keys me before now request out after
-      → IsStill before after
-  taken_damaged before after out place fine damaged (inl stuck) = stuck.still
+      → IsStillUnread before after
+  taken_damaged before after out place fine damaged (inl stuck) = (stuck.was, stuck.still)
   taken_damaged before after out place fine damaged (inr x) =
       judged_damaged x.found after out place fine damaged x.judged
 
@@ -388,7 +487,7 @@ module _ (roster : RosterRecord) (keys : Keys) (me : PlatformCode) (now : Moment
 
   -- NoMemory: it could not be read again, or it was read
   pub taken_short : {D : Type 0} (before after : WrittenRecord D) (out : Outcome) → out.reply ≡ replies.NoMemory
-      → IsTaken roster keys me before now request out after → IsStill before after ⊎ IsRead after
-  taken_short before after out short (inl stuck) = inl stuck.still
+      → IsTaken roster keys me before now request out after → IsStillUnread before after ⊎ IsRead after
+  taken_short before after out short (inl stuck) = inl (stuck.was, stuck.still)
   taken_short before after out short (inr x) = inr (decided_read x.found after out
       (λ is. let clash : replies.NoMemory ≡ replies.Disk = sym short ∙ is in cc clash) x.judged)

@@ -12,7 +12,8 @@ use Rattle.journaled_diary.specs.Contents.{IsJournalOf, contents_in}
 use Rattle.journaled_shard.specs.declared.unwritten.Unwritten.{Unwritten}
 use Rattle.journaled_shard.specs.declared.unwritten.Unwritten.TheVariants as why
 use Rattle.journaled_shard.specs.Written.{AreNamed, HasDiary, IsAdded, IsAsBefore, IsKeptOrDropped, IsLeft, IsLeftOpen, IsNamedIfAny, IsOnDisk, IsRead, IsTooLong, IsWritten, WrittenRecord, is_settling, journal_length}
-use Rattle.journaled_diary.proofs.ContentsLemmas.{contents_more}
+use Rattle.journal_room.specs.Room.{Fits}
+use Rattle.journal_room.proofs.RoomLemmas.{contents_more}
 
 -- ---- one diary
 
@@ -137,6 +138,15 @@ module _ {D : Type 0} where
   too_long before frame bytes is same long =
       omega (arith, longer_by before.diary frame before.journal.end is.end, ap length same, long)
 
+  -- there is room for it
+  pub room_behind : (before : WrittenRecord D) (frame : Frame) (bytes : List ℕ) → IsRead before
+      → bytes ≡ frame_bytes frame → (room_for (is_settling frame) < before.journal.end + 6 + length bytes → ⊥)
+      → Fits before.diary frame
+  room_behind before frame bytes is same room =
+      let long = longer_by before.diary frame before.journal.end is.end in
+      let size : length bytes ≡ length (frame_bytes frame) = ap length same in
+      omega (arith, long, size, room)
+
   -- nothing was written
   pub refused : (before after : WrittenRecord D) (frame : Frame) (cause : Unwritten) → IsAsBefore before after
       → IsRead before → (cause ≡ why.Full → 16777216 < length (frame_bytes frame)) → (cause ≡ why.Disk → ⊥)
@@ -162,7 +172,7 @@ module _ {D : Type 0} where
       ap (λ (d : List Frame). length (front_of (contents_in d))) diary in
       record {
         diary = diary;
-        fits = omega (arith, long, size, room);
+        fits = room_behind before frame bytes is same room;
         read = record {
           read = unread ∙ is.read;
           nothing_loose = loose ∙ is.nothing_loose;

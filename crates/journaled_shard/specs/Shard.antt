@@ -20,7 +20,8 @@ use Rattle.platform_machine.specs.Machine.{MayBeAsked, Steps}
 use Rattle.platform_machine.specs.Step.{with_frame}
 use Rattle.journaled_shard.specs.declared.unwritten.Unwritten.{Unwritten}
 use Rattle.journaled_shard.specs.declared.unwritten.Unwritten.TheVariants as why
-use Rattle.journaled_shard.specs.Written.{Fits, HasNamesOf, IsAdded, IsAsBefore, IsKeptOrDropped, IsOnDisk, IsRead, IsStill, IsTooLong, IsWritten, WrittenRecord}
+use Rattle.journal_room.specs.Room.{Fits, HasRoom, IsTooLong, is_settling}
+use Rattle.journaled_shard.specs.Written.{HasNamesOf, IsAdded, IsAsBefore, IsKeptOrDropped, IsOnDisk, IsRead, IsStill, IsWritten, WrittenRecord}
 
 -- how contracts see a shard on a journal: its platform, the roster, the ring of keys, and what was written down
 pub record JournaledShardRecord (D G : Type 0) : Type 0 where
@@ -35,10 +36,16 @@ pub record IsLegalWith (roster : RosterRecord) (keys : Keys) (me : PlatformCode)
   pub dropped : IsLegal roster keys me diary
   pub kept : (frame : Frame) → loose ≡ Some frame → IsLegal roster keys me (diary ++ frame ∷ [])
 
+-- a diary with room, which has it where the loose frame is kept
+pub record HasRoomWith (diary : List Frame) (loose : Option Frame) : Type 0 where
+  pub dropped : HasRoom diary
+  pub kept : (frame : Frame) → loose ≡ Some frame → Fits diary frame
+
 -- what always holds of what a shard wrote down
 pub record IsInOrder {D : Type 0} (tells : D → Bool) (seen : D → List ℕ) (may_leave : D → List ℕ → Type 0)
     (roster : RosterRecord) (keys : Keys) (me : PlatformCode) (w : WrittenRecord D) : Type 0 where
   pub legal : IsLegalWith roster keys me w.diary w.loose
+  pub room : HasRoomWith w.diary w.loose
   pub named : HasNamesOf w
   pub read : w.unread ≡ false → IsRead w
   pub on_disk : tells w.journal.disk ≡ true → IsOnDisk seen may_leave w
@@ -109,6 +116,10 @@ pub record IsStuck {D : Type 0} (before : WrittenRecord D) (out : Outcome) (afte
   pub nothing_sent : out.messages ≡ []
   pub still : IsStill before after
 
+-- the journal, which had to be read again, still has to be, and nothing else changed
+abbrev pub IsStillUnread : {D : Type 0} → WrittenRecord D → WrittenRecord D → Type 0
+IsStillUnread before after = (before.unread ≡ true) × IsStill before after
+
 -- nothing was decided: the ring of keys failed, or memory ran out
 pub record IsUndecided {D : Type 0} (before : WrittenRecord D) (out : Outcome) (after : WrittenRecord D) : Type 0 where
   pub reply_is : (out.reply ≡ replies.Sign) ⊎ (out.reply ≡ replies.NoMemory)
@@ -159,14 +170,15 @@ pub record HasStepWith (roster : RosterRecord) (keys : Keys) (me : PlatformCode)
   pub steps : Steps roster keys me diary now request step
   pub frame_is : step.frame ≡ Some frame
 
--- the step's frame has no room behind the diary
+-- the step's frame has no room behind the diary, and it settles no bill that is parting
 abbrev pub HasNoRoom : RosterRecord → Keys → PlatformCode → List Frame → Moment → RequestRecord → Type 0
 HasNoRoom roster keys me diary now request =
     (frame : Frame) × HasStepWith roster keys me diary now request frame × IsTooLong diary frame
+    × (is_settling frame ≡ false)
 
--- the append of the step's frame failed
+-- the append of the step's frame failed, and the journal has to be read again
 abbrev pub IsLeftLoose : {D : Type 0} → RosterRecord → Keys → PlatformCode → WrittenRecord D → Moment → RequestRecord
     → WrittenRecord D → Type 0
 IsLeftLoose roster keys me before now request after =
     (frame : Frame) × IsKeptOrDropped before.diary before.loose after.diary
-    × HasStepWith roster keys me after.diary now request frame × (after.loose ≡ Some frame)
+    × HasStepWith roster keys me after.diary now request frame × (after.loose ≡ Some frame) × (after.unread ≡ true)

@@ -1,15 +1,14 @@
 -- What a shard wrote down on its journal: a diary, and the frame that a failed append left open.
-use Rattle.std.specs.Prelude.{◌≡◌, ◌⊎◌, ℕ, ◌+◌, ◌<◌, ◌≤◌, Bool, true, false, List, [], ◌∷◌, ◌++◌, Option, Some, None, Result, Ok, Err, length}
-use Rattle.bill_diary.specs.declared.record.Record.TheVariants.{Settled, Regained}
+use Rattle.std.specs.Prelude.{◌≡◌, ◌⊎◌, ℕ, Bool, true, false, List, [], ◌∷◌, ◌++◌, Option, Some, None, Result, Ok, Err, length}
 use Rattle.bill_diary.specs.declared.frame.Frame.{Frame}
-use Rattle.bill_diary.specs.declared.frame.Frame.TheVariants.{One}
 use Rattle.bill_journal.specs.Frames.{front_of}
-use Rattle.bill_journal.specs.Journal.{HasContents, JournalRecord, room_for}
+use Rattle.bill_journal.specs.Journal.{HasContents, JournalRecord}
 use Rattle.record_bytes.specs.Forms.{HasNames}
 use Rattle.record_bytes.specs.Grammar.{kept}
 use Rattle.journaled_shard.specs.declared.unwritten.Unwritten.{Unwritten}
 use Rattle.journaled_shard.specs.declared.unwritten.Unwritten.TheVariants as why
 use Rattle.journaled_diary.specs.Contents.{IsJournalOf, contents_in}
+pub use Rattle.journal_room.specs.Room.{Fits, IsTooLong, is_settling, journal_length}
 
 -- the diary, the frame of an append that failed, whether the journal has to be read again, and the journal
 pub record WrittenRecord (D : Type 0) : Type 0 where
@@ -69,24 +68,6 @@ HasNamesOf w = AreNamed w.diary × IsNamedIfAny w.loose
 
 -- ---- a frame more
 
--- whether a frame settles a bill that is parting: for these the journal has the larger room
-abbrev pub is_settling : Frame → Bool
-is_settling (One (Settled bill entry)) = true
-is_settling (One (Regained bill entry)) = true
-is_settling frame = false
-
--- how many bytes the journal of a diary has
-abbrev pub journal_length : List Frame → ℕ
-journal_length diary = length (front_of (contents_in diary)) + 1
-
--- the journal has room for the frame behind the diary
-abbrev pub Fits : List Frame → Frame → Type 0
-Fits diary frame = journal_length (diary ++ frame ∷ []) ≤ room_for (is_settling frame)
-
--- it has none
-abbrev pub IsTooLong : List Frame → Frame → Type 0
-IsTooLong diary frame = room_for (is_settling frame) < journal_length (diary ++ frame ∷ [])
-
 -- the frame stands behind the diary
 pub record IsAdded {D : Type 0} (before : WrittenRecord D) (frame : Frame) (after : WrittenRecord D) : Type 0 where
   pub diary : after.diary ≡ before.diary ++ frame ∷ []
@@ -96,6 +77,7 @@ pub record IsAdded {D : Type 0} (before : WrittenRecord D) (frame : Frame) (afte
 -- the frame is loose, the diary as before
 pub record IsLeftOpen {D : Type 0} (before : WrittenRecord D) (frame : Frame) (after : WrittenRecord D) : Type 0 where
   pub diary : after.diary ≡ before.diary
+  pub fits : Fits before.diary frame
   pub loose : after.loose ≡ Some frame
   pub unread : after.unread ≡ true
 

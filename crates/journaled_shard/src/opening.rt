@@ -6,8 +6,9 @@ ghost use Rattle.transfer_judge.specs.Legal.{IsLegal};
 ghost use Rattle.bill_journal.specs.Places.{contents_of};
 ghost use Rattle.journaled_diary.specs.Contents.{IsJournalOf};
 ghost use Rattle.journaled_diary.specs.Reading.{IsDiaryOf, IsRefusedAt};
+ghost use Rattle.journal_room.specs.Room.{HasRoom};
 ghost use Rattle.journaled_shard.specs.Opening.{IsDamagedDiary, fault_of};
-ghost use Rattle.journaled_shard.specs.Shard.{IsLegalWith};
+ghost use Rattle.journaled_shard.specs.Shard.{HasRoomWith, IsLegalWith};
 ghost use Rattle.journaled_shard.specs.View.{written_view};
 ghost use Rattle.journaled_shard.specs.Written.{HasDiary, HasNamesOf, IsKeptOrDropped, IsOnDisk, IsRead, IsStill};
 
@@ -35,6 +36,7 @@ pub(crate) fn open<D: Disk, G: KeyRing>(
     ensures told { MatchResult result (λ w. D.tells w.journal.disk ≡ D.tells disk) (λ r. D.tells r.0 ≡ D.tells disk) }
     ensures read { IfOk result (λ w. IsRead (written_view w)) }
     ensures legal { IfOk result (λ w. IsLegal roster.now (G.keys ring.now) me w.register.diary) }
+    ensures has_room { IfOk result (λ w. HasRoom w.register.diary) }
     ensures named { IfOk result (λ w. HasNamesOf (written_view w)) }
     ensures blank { D.tells disk ≡ true → D.seen disk ≡ [] → IfOk result (λ w. w.register.diary ≡ []) }
     ensures stands { D.tells disk ≡ true → 0 < length (D.seen disk)
@@ -44,6 +46,8 @@ pub(crate) fn open<D: Disk, G: KeyRing>(
     ensures nothing_written { D.tells disk ≡ true → 0 < length (D.seen disk)
         → MatchResult result (λ w. Looked D.seen D.may_leave D.moment D.left_since disk w.journal.disk)
         (λ r. Looked D.seen D.may_leave D.moment D.left_since disk r.0) }
+    ensures not_blank { (place : ℕ) → D.tells disk ≡ true → IfErr result (λ r. r.1 ≡ OpenFault.Damaged place
+        → 0 < length (D.seen disk)) }
     ensures damaged { (place : ℕ) → D.tells disk ≡ true → IfErr result (λ r. r.1 ≡ OpenFault.Damaged place
         → IsDamagedDiary roster.now (G.keys ring.now) me (D.seen disk) place) }
     ensures later { MatchResult result (λ w. D.faults disk ≤ D.faults w.journal.disk)
@@ -77,11 +81,13 @@ impl<D: Disk> Written<D> {
         me: PlatformCode,
     ) -> Result<(), OpenFault>
         requires legal { IsLegalWith roster.now (G.keys ring.now) me self.old.register.diary self.old.loose }
+        requires has_room { HasRoomWith self.old.register.diary self.old.loose }
         requires named { HasNamesOf (written_view self.old) }
         requires room { self.old.register.room ≡ None }
         ensures told { D.tells self.new.journal.disk ≡ D.tells self.old.journal.disk }
         ensures read { OnOk result (IsRead (written_view self.new)) }
         ensures legal { OnOk result (IsLegal roster.now (G.keys ring.now) me self.new.register.diary) }
+        ensures has_room { OnOk result (HasRoom self.new.register.diary) }
         ensures still { OnErr result (IsStill (written_view self.old) (written_view self.new)) }
         ensures named { HasNamesOf (written_view self.new) }
         ensures found { D.tells self.old.journal.disk ≡ true → IsOnDisk D.seen D.may_leave (written_view self.old)
@@ -121,7 +127,7 @@ impl<D: Disk> Written<D> {
 }
 
 // The register of the legal diary that the frames of a journal are. `Refused` names the first frame that spells no
-// record or may not follow those before it.
+// record, may not follow those before it, or has no room behind them.
 fn read_register<G: KeyRing>(
     alloc: Global,
     roster: &Roster,

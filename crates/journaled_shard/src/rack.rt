@@ -1,5 +1,6 @@
-//! What a shard is opened from.
-/// A disk and a ring of keys: what a shard is opened from, and what is left of it when it is closed.
+//! What a shard is opened from, and gives back at its end.
+
+/// A disk and a ring of keys: what a shard is opened from, and gives back at its end.
 #[derive(Debug, Drop)]
 pub struct Rack<D, G> {
     pub disk: D,

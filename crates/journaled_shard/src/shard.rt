@@ -1,6 +1,7 @@
 //! One shard of a platform, with its diary on a journal.
 //!
-//! (1) Its diary is legal for its platform, under its roster and its ring of keys, with a loose frame or without it.
+//! (1) Its diary is legal for its platform, under its roster and its ring of keys, and has room on its journal, with a
+//!     loose frame or without it.
 //! (2) A request is decided first, with everything that it needs and signs made; then its frame is written; then its
 //!     reply and its messages are handed out. So a reply rests on a frame that stands in every later crash. What it
 //!     shows of a bill is looked up once the frame is written, which takes no memory.
@@ -20,11 +21,12 @@ ghost use Rattle.transfer_judge.specs.Plan.{HasAttempts};
 ghost use Rattle.transfer_core.specs.Decision.{reply_by, step_by};
 ghost use Rattle.transfer_core.specs.Shard.{AreShort, is_own_party};
 ghost use Rattle.platform_machine.specs.Machine.{MayBeAsked};
+ghost use Rattle.journal_room.specs.Room.{HasRoom};
 ghost use Rattle.journaled_diary.specs.Contents.{IsJournalOf};
 ghost use Rattle.journaled_shard.specs.Opening.{IsDamagedDiary};
 ghost use Rattle.platform_machine.specs.Complete.{is_failure, is_refusal};
 ghost use Rattle.platform_machine.specs.Step.{with_frame};
-ghost use Rattle.journaled_shard.specs.Shard.{CarriesOut, HasAttemptsOf, HasNoRoom, IsInOrder, IsJudged, IsLeftLoose, IsLegalWith, IsOfReading, IsStepOn, IsTaken, MayBeAskedOf, refusal_of, reply_for, reply_of};
+ghost use Rattle.journaled_shard.specs.Shard.{CarriesOut, HasAttemptsOf, HasNoRoom, IsInOrder, IsJudged, IsLeftLoose, IsLegalWith, IsOfReading, IsStepOn, IsStillUnread, IsTaken, MayBeAskedOf, refusal_of, reply_for, reply_of};
 ghost use Rattle.journaled_shard.specs.View.{written_view};
 ghost use Rattle.journaled_shard.specs.Written.{HasDiary, HasNamesOf, IsKeptOrDropped, IsLeft, IsOnDisk, IsRead, IsStill};
 
@@ -78,7 +80,8 @@ impl<D: Disk, G: KeyRing> JournaledShard<D, G> {
     /// gives.
     ///
     /// `Disk` comes only where the disk's count of faults rose. `Damaged` names the place where the disk is no journal,
-    /// or the first frame that spells no record or may not follow those before it. Each fault hands disk and ring back.
+    /// or the first frame that spells no record, may not follow those before it, or has no room behind them; a blank
+    /// disk is never damaged. Each fault hands disk and ring back.
     pub fn open(
         alloc: Global,
         me: PlatformCode,
@@ -94,6 +97,7 @@ impl<D: Disk, G: KeyRing> JournaledShard<D, G> {
         ensures ring { MatchResult result (λ s. s.ring ≡ ring) (λ r. r.1 ≡ ring) }
         ensures read { IfOk result (λ s. IsRead s.written) }
         ensures legal { IfOk result (λ s. IsLegal roster (G.keys ring) me s.written.diary) }
+        ensures room { IfOk result (λ s. HasRoom s.written.diary) }
         ensures blank { D.tells disk ≡ true → D.seen disk ≡ [] → IfOk result (λ s. s.written.diary ≡ []) }
         ensures stands { D.tells disk ≡ true → 0 < length (D.seen disk)
             → IfOk result (λ s. IsJournalOf (D.seen disk) s.written.diary) }
@@ -101,6 +105,8 @@ impl<D: Disk, G: KeyRing> JournaledShard<D, G> {
         ensures nothing_written { D.tells disk ≡ true → 0 < length (D.seen disk)
             → MatchResult result (λ s. Looked D.seen D.may_leave D.moment D.left_since disk s.written.journal.disk)
             (λ r. Looked D.seen D.may_leave D.moment D.left_since disk r.0) }
+        ensures not_blank { (place : ℕ) → D.tells disk ≡ true → IfErr result (λ r. r.2 ≡ OpenFault.Damaged place
+            → 0 < length (D.seen disk)) }
         ensures damaged { (place : ℕ) → D.tells disk ≡ true → IfErr result (λ r. r.2 ≡ OpenFault.Damaged place
             → IsDamagedDiary roster (G.keys ring) me (D.seen disk) place) }
         ensures told { MatchResult result (λ s. D.tells s.written.journal.disk ≡ D.tells disk)
@@ -127,7 +133,8 @@ impl<D: Disk, G: KeyRing> JournaledShard<D, G> {
     /// A command is well-formed, and so is its party; of a bill on which it acts fewer than 4,294,967,295 entries were
     /// parted ([`JournaledShard::has_attempts`]). Every other request may hold any bytes.
     ///
-    /// `Full` comes where the step's frame has no room behind the diary. `Sign` and `Disk` come only where the count of
+    /// `Full` comes where the step's frame has no room behind the diary; it never answers what would settle a bill that
+    /// is parting, since a settlement always has room. `Sign` and `Disk` come only where the count of
     /// faults of the ring and of the disk rose. `Damaged` names a frame that isn't the diary's, and never comes over a
     /// disk that tells. After each of them, after `NoMemory` and after every refusal the diary is as it was, with a
     /// loose frame kept or dropped, and nothing is sent; after `Disk` the step's frame may be loose.
@@ -144,12 +151,12 @@ impl<D: Disk, G: KeyRing> JournaledShard<D, G> {
             → IsKeptOrDropped self.old.written.diary self.old.written.loose self.new.written.diary
             × HasNoRoom self.old.roster (G.keys self.old.ring) self.old.me self.new.written.diary now
             (request_view request) }
-        ensures disk { result.reply ≡ replies.Disk → IsStill self.old.written self.new.written
+        ensures disk { result.reply ≡ replies.Disk → IsStillUnread self.old.written self.new.written
             ⊎ IsLeftLoose self.old.roster (G.keys self.old.ring) self.old.me self.old.written now
             (request_view request) self.new.written }
         ensures damaged { (place : ℕ) → result.reply ≡ replies.Damaged place
-            → IsStill self.old.written self.new.written }
-        ensures short { result.reply ≡ replies.NoMemory → IsStill self.old.written self.new.written
+            → IsStillUnread self.old.written self.new.written }
+        ensures short { result.reply ≡ replies.NoMemory → IsStillUnread self.old.written self.new.written
             ⊎ IsRead self.new.written }
         ensures read { ¬ IsOfReading result.reply → IsRead self.new.written }
         ensures sign { result.reply ≡ replies.Sign → Rose (G.faults self.old.ring) (G.faults self.new.ring) }
@@ -187,18 +194,16 @@ impl<D: Disk, G: KeyRing> JournaledShard<D, G> {
         )
     }
 
-    /// Reads the journal again where an earlier call failed, and keeps or drops the frame that it left loose; else it
-    /// does nothing. [`JournaledShard::take`] begins so. After a fault the diary is as it was, and the journal is read
-    /// before the next request is decided.
+    /// Reads the journal again where it has to be, and so finds whether the loose frame is there: it is kept or dropped.
+    /// After a fault nothing has changed.
     ///
-    /// `Disk` comes only where the disk's count of faults rose. `Damaged` names a frame that isn't the diary's, and
-    /// never comes over a disk that tells.
+    /// The faults are those of `open`, and come only where the journal had to be read; `Damaged` never comes over a disk
+    /// that tells.
     pub fn settle(&mut self, alloc: Global) -> Result<(), OpenFault>
-        ensures found { OnOk result
-            (IsKeptOrDropped self.old.written.diary self.old.written.loose self.new.written.diary) }
+        ensures found { OnOk result (IsKeptOrDropped self.old.written.diary self.old.written.loose
+            self.new.written.diary) }
         ensures read { OnOk result (IsRead self.new.written) }
-        ensures was { OnErr result (self.old.written.unread ≡ true) }
-        ensures still { OnErr result (IsStill self.old.written self.new.written) }
+        ensures still { OnErr result (IsStillUnread self.old.written self.new.written) }
         ensures undamaged { (place : ℕ) → D.tells self.old.written.journal.disk ≡ true
             → IsErrOf result (OpenFault.Damaged place) → ⊥ }
         ensures legal { IsLegalWith self.new.roster (G.keys self.new.ring) self.new.me self.new.written.diary
@@ -219,6 +224,17 @@ impl<D: Disk, G: KeyRing> JournaledShard<D, G> {
             → Rose (D.faults self.old.written.journal.disk) (D.faults self.new.written.journal.disk) }
     {
         self.written.settle(alloc)
+    }
+
+    /// From now on the journal has to be read again before anything rests on it.
+    pub fn loosen(&mut self)
+        ensures still { IsStill self.old.written self.new.written }
+        ensures disk { self.new.written.journal.disk ≡ self.old.written.journal.disk }
+        ensures me { self.new.me ≡ self.old.me }
+        ensures roster { self.new.roster ≡ self.old.roster }
+        ensures ring { self.new.ring ≡ self.old.ring }
+    {
+        self.written.unread = true;
     }
 
     /// Forgets the diary, and reads the journal again. After a fault the diary is as it was, and the journal is read
@@ -283,20 +299,24 @@ impl<D: Disk, G: KeyRing> JournaledShard<D, G> {
     pub fn diary(&self) -> &Diary
         ensures diary { result.now ≡ self.now.written.diary }
         ensures legal { IsLegal self.now.roster (G.keys self.now.ring) self.now.me self.now.written.diary }
+        ensures room { HasRoom self.now.written.diary }
     {
         self.written.register.diary()
     }
 
-    /// Whether the journal has to be read again before the next request is decided.
+    /// Whether the journal has to be read again before the next request is decided. Where it hasn't, nothing is loose.
     pub fn is_unread(&self) -> bool
-        ensures { result ≡ self.now.written.unread }
+        ensures unread { result ≡ self.now.written.unread }
+        ensures nothing_loose { result ≡ false → self.now.written.loose ≡ None }
     {
         self.written.unread
     }
 
-    /// Hands out the disk and the ring.
+    /// Hands out the disk and the ring. A disk that tells reads as the journal of the diary, with its loose frame or
+    /// without, and so does whatever a crash leaves.
     pub fn close(self) -> (D, G)
-        ensures { result ≡ (self.written.journal.disk, self.ring) }
+        ensures parts { result ≡ (self.written.journal.disk, self.ring) }
+        ensures on_disk { D.tells self.written.journal.disk ≡ true → IsOnDisk D.seen D.may_leave self.written }
     {
         (self.written.close(), self.ring)
     }
@@ -344,6 +364,9 @@ fn take_by<D: Disk, G: KeyRing>(
     ensures taken { IsTaken roster.now (G.keys ring.old) me (written_view written.old) now (request_view request) result
         (written_view written.new) }
     ensures order { IsInOrder D.tells D.seen D.may_leave roster.now (G.keys ring.new) me (written_view written.new) }
+    ensures full { result.reply ≡ replies.Full
+        → IsKeptOrDropped written.old.register.diary written.old.loose written.new.register.diary
+        × HasNoRoom roster.now (G.keys ring.old) me written.new.register.diary now (request_view request) }
     ensures sign { result.reply ≡ replies.Sign → Rose (G.faults ring.old) (G.faults ring.new) }
     ensures failed { result.reply ≡ replies.Disk
         → Rose (D.faults written.old.journal.disk) (D.faults written.new.journal.disk) }
@@ -359,6 +382,7 @@ fn take_by<D: Disk, G: KeyRing>(
     ensures room { written.new.register.room ≡ None }
 {
     steps_keep_a_diary_legal();
+    steps_reply_no_failure();
     match written.settle(alloc) {
         Ok(()) => judge_by(alloc, roster, ring, me, written, now, request),
         Err(fault) => refusal(alloc, reply_for(fault)),

@@ -16,13 +16,14 @@ ghost use Rattle.record_bytes.specs.Grammar.{frame_bytes, kept};
 ghost use Rattle.journaled_diary.specs.Contents.{contents_in};
 ghost use Rattle.title_register.specs.Register.{IsReadyFor};
 ghost use Rattle.journaled_shard.specs.View.{written_view};
-ghost use Rattle.journaled_shard.specs.Written.{AreNamed, HasDiary, HasNamesOf, IsKeptOrDropped, IsLeft, IsNamedIfAny, IsOnDisk, IsRead, IsStill, IsWritten, is_settling};
+ghost use Rattle.journaled_shard.specs.Written.{AreNamed, HasDiary, HasNamesOf, IsKeptOrDropped, IsLeft, IsNamedIfAny, IsOnDisk, IsRead, IsStill, IsWritten};
 
 use crate::unwritten::Unwritten;
-use bill_diary::{Frame, Record};
+use bill_diary::Frame;
 use bill_journal::{AppendFault, FrameAt, Framed, Journal, OpenFault, no_journal_is_damaged};
 use disk_model::Disk;
 use ebl_base::{MAX_FRAME_CONTENT, NoMemory};
+use journal_room::is_settling;
 use record_bytes::frame_write;
 use std::alloc::Global;
 use title_register::Register;
@@ -305,16 +306,6 @@ fn keep(alloc: Global, register: &mut Register, loose: &mut Option<Frame>) -> Re
 }
 
 // ---- writing
-
-// Whether a frame settles a bill that is parting.
-fn is_settling(frame: &Frame) -> bool
-    ensures { result ≡ is_settling frame.now }
-{
-    match frame {
-        Frame::One(kept) => matches!(kept, Record::Settled { .. } | Record::Regained { .. }),
-        Frame::BegunTaken(_) => false,
-    }
-}
 
 // Makes a frame's bytes ready for an append, and takes the memory that adding it needs.
 fn make_ready(alloc: Global, register: &mut Register, frame: &Frame) -> Result<Framed, Unwritten>

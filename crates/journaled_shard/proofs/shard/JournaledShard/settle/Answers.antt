@@ -1,6 +1,6 @@
 use Rattle.std.proofs.Common.{◌∙◌, sym}
 use Rattle.journaled_shard.specs.View.{written_view}
-use Rattle.journaled_shard.proofs.SettlingLemmas.{settled_legal, settled_read}
+use Rattle.journaled_shard.proofs.SettlingLemmas.{settled_legal, settled_read, settled_room}
 use Rattle.journaled_shard.proofs.shard.JournaledShard.settle.Goals as goal
 
 pub invariant_of-self : goal.invariant_of-self
@@ -13,6 +13,8 @@ invariant_of-self g c =
       record {
         legal = settled_legal s.roster (g.G.KeyRing.keys s.ring) s.me before after c.settle.result
             c.settle.ensures.found c.settle.ensures.read c.settle.ensures.still order.legal;
+        room = settled_room before after c.settle.result c.settle.ensures.found c.settle.ensures.read
+            c.settle.ensures.still order.room;
         named = c.settle.ensures.named order.named;
         read = settled_read before after c.settle.result c.settle.ensures.read c.settle.ensures.still;
         on_disk = λ tells.

@@ -1,8 +1,9 @@
 use Rattle.platform_requests.specs.Request.{request_view}
 use Rattle.std.proofs.Common.{subst}
-use Rattle.journaled_shard.specs.Shard.{IsTaken, JournaledShardRecord}
+use Rattle.journaled_shard.specs.Shard.{HasNoRoom, IsTaken, JournaledShardRecord}
 use Rattle.journaled_shard.specs.View.{written_view}
-use Rattle.journaled_shard.proofs.ShardLemmas.{taken_damaged, taken_disk, taken_full, taken_refused, taken_settled, taken_short, taken_step}
+use Rattle.journaled_shard.specs.Written.{IsKeptOrDropped}
+use Rattle.journaled_shard.proofs.ShardLemmas.{taken_damaged, taken_disk, taken_refused, taken_settled, taken_short, taken_step}
 use Rattle.journaled_shard.proofs.shard.JournaledShard.take.Goals as goal
 
 pub returns-clause-step : goal.returns-clause-step
@@ -32,16 +33,11 @@ returns-clause-refused g c = λ refusal.
 
 pub returns-clause-full : goal.returns-clause-full
 returns-clause-full g c = λ full.
-    let s = c.args.self.now in
-    let keys = g.G.KeyRing.keys s.ring in
     let request = request_view c.args.request in
-    let out = c.take_by.result in
     let after = written_view c.take_by.new.written in
-    let taken : IsTaken s.roster keys s.me s.written c.args.now request out after =
-    subst (λ (r : JournaledShardRecord g.row.D.Denot g.row.G.Denot). IsTaken r.roster (g.G.KeyRing.keys r.ring) r.me
-    r.written c.args.now request out after) c.self.view_is c.take_by.ensures.taken in
-    taken_full s.roster keys s.me c.args.now request s.written after out
-    (λ diary step. c.steps_reply_no_failure.ensures s.roster keys s.me diary c.args.now request step) full taken
+    subst (λ (r : JournaledShardRecord g.row.D.Denot g.row.G.Denot). IsKeptOrDropped r.written.diary r.written.loose
+    after.diary × HasNoRoom r.roster (g.G.KeyRing.keys r.ring) r.me after.diary c.args.now request) c.self.view_is
+    (c.take_by.ensures.full full)
 
 pub returns-clause-disk : goal.returns-clause-disk
 returns-clause-disk g c = λ disk.

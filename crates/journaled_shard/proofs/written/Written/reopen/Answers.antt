@@ -22,7 +22,8 @@ returns-in-Ok-clause-found g c = λ tells on.
     let is = found_is_diary roster keys c.args.me before.register.diary on.now.0 before.loose
     (contents_of c.in_ok-frames.frames) (c.frame_of_a_sound_diary_has_a_spelling.ensures c.args.me)
     (c.legal_diary_is_sound.ensures roster keys c.args.me on.now.0) c.requires.legal c.requires.named.0
-    c.requires.named.1 on.now.1 (c.in_ok-frames.ensures.kept (contents_in on.now.0) tells on.now.2) in
+    c.requires.named.1 on.now.1 (c.in_ok-frames.ensures.kept (contents_in on.now.0) tells on.now.2)
+    c.requires.has_room in
     subst (IsKeptOrDropped before.register.diary before.loose)
     (c.contents_are_one_diary.ensures roster keys c.args.me (contents_of c.in_ok-frames.frames) on.now.0 c.in-Ok.register.diary
     is c.in-Ok.ensures.ok) on.now.1
@@ -42,6 +43,7 @@ returns-clause-undamaged g c = λ place tells on is.
     let is = found_is_diary roster keys c.args.me before.register.diary on.now.0 before.loose
     (contents_of c.in_ok-frames.frames) (c.frame_of_a_sound_diary_has_a_spelling.ensures c.args.me)
     (c.legal_diary_is_sound.ensures roster keys c.args.me on.now.0) c.requires.legal c.requires.named.0
-    c.requires.named.1 on.now.1 (c.in_ok-frames.ensures.kept (contents_in on.now.0) tells on.now.2) in
+    c.requires.named.1 on.now.1 (c.in_ok-frames.ensures.kept (contents_in on.now.0) tells on.now.2)
+    c.requires.has_room in
     c.diary_is_refused_nowhere.ensures roster keys c.args.me c.in_ok-frames.frames on.now.0 place is
     (c.in-Err.ensures.refused place (ap Err fault))

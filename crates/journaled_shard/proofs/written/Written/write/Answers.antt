@@ -4,7 +4,7 @@ use Rattle.bill_journal.specs.Journal.{HasContents, WithOrWithout, room_for}
 use Rattle.journaled_diary.specs.Contents.{contents_in}
 use Rattle.journaled_shard.specs.View.{written_view}
 use Rattle.journaled_shard.specs.Written.{AreNamed, IsLeft, IsLeftOpen, IsWritten, WrittenRecord}
-use Rattle.journaled_shard.proofs.WrittenLemmas.{added, as_before, behind, contents_added, left_by_added, left_by_failed, left_on_disk, named_more, refused, settled_on_disk, too_long}
+use Rattle.journaled_shard.proofs.WrittenLemmas.{added, as_before, behind, contents_added, left_by_added, left_by_failed, left_on_disk, named_more, refused, room_behind, settled_on_disk, too_long}
 use Rattle.journaled_shard.proofs.written.Written.write.Goals as goal
 
 pub returns-in_err-framed-clause-written : goal.returns-in_err-framed-clause-written
@@ -79,6 +79,19 @@ returns-in-Err-Full-clause-written g c =
           c.is_settling-settling.ensures (c.in-Err-Full.ensures.full.0 full)),
     )
 
+pub returns-in-Err-Disk-clause-written : goal.returns-in-Err-Disk-clause-written
+returns-in-Err-Disk-clause-written g c =
+    let before = written_view c.args.self.now in
+    record {
+      diary = c.release-in-Err-Disk.ensures.diary ∙ c.make_ready.ensures.diary;
+      fits = room_behind before c.args.frame c.in_ok-framed.framed c.requires.read c.in_ok-framed.ensures.ok
+          (λ long. let clash = c.in-Err-Disk.ensures.full.1 (subst (λ (s : Bool). room_for s
+          < c.args.self.now.journal.end + 6 + length c.in_ok-framed.framed) (sym c.is_settling-settling.ensures) long)
+          in cc clash);
+      loose = refl;
+      unread = refl;
+    }
+
 pub returns-in-Err-Disk-clause-on_disk : goal.returns-in-Err-Disk-clause-on_disk
 returns-in-Err-Disk-clause-on_disk g c = λ tells on.
     let before = written_view c.args.self.now in
@@ -86,6 +99,10 @@ returns-in-Err-Disk-clause-on_disk g c = λ tells on.
     record { diary = c.release-in-Err-Disk.new.self.diary; loose = Some c.args.frame; unread = true; journal = c.append.new.self } in
     let left : IsLeftOpen before c.args.frame after = record {
       diary = c.release-in-Err-Disk.ensures.diary ∙ c.make_ready.ensures.diary;
+      fits = room_behind before c.args.frame c.in_ok-framed.framed c.requires.read c.in_ok-framed.ensures.ok
+          (λ long. let clash = c.in-Err-Disk.ensures.full.1 (subst (λ (s : Bool). room_for s
+          < c.args.self.now.journal.end + 6 + length c.in_ok-framed.framed) (sym c.is_settling-settling.ensures) long)
+          in cc clash);
       loose = refl;
       unread = refl;
     } in
@@ -100,6 +117,10 @@ returns-in-Err-Disk-clause-any_moment g c = λ tells on.
     record { diary = c.release-in-Err-Disk.new.self.diary; loose = Some c.args.frame; unread = true; journal = c.append.new.self } in
     let left : IsLeftOpen before c.args.frame after = record {
       diary = c.release-in-Err-Disk.ensures.diary ∙ c.make_ready.ensures.diary;
+      fits = room_behind before c.args.frame c.in_ok-framed.framed c.requires.read c.in_ok-framed.ensures.ok
+          (λ long. let clash = c.in-Err-Disk.ensures.full.1 (subst (λ (s : Bool). room_for s
+          < c.args.self.now.journal.end + 6 + length c.in_ok-framed.framed) (sym c.is_settling-settling.ensures) long)
+          in cc clash);
       loose = refl;
       unread = refl;
     } in
