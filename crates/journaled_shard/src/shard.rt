@@ -194,11 +194,11 @@ impl<D: Disk, G: KeyRing> JournaledShard<D, G> {
         )
     }
 
-    /// Reads the journal again where it has to be, and so finds whether the loose frame is there: it is kept or dropped.
-    /// After a fault nothing has changed.
+    /// Reads the journal again where it has to be, and so finds whether the loose frame is there: it is kept or
+    /// dropped. [`JournaledShard::take`] begins so. After a fault nothing has changed.
     ///
-    /// The faults are those of `open`, and come only where the journal had to be read; `Damaged` never comes over a disk
-    /// that tells.
+    /// The faults are those of `open`, and come only where the journal had to be read; `Damaged` never comes over a
+    /// disk that tells.
     pub fn settle(&mut self, alloc: Global) -> Result<(), OpenFault>
         ensures found { OnOk result (IsKeptOrDropped self.old.written.diary self.old.written.loose
             self.new.written.diary) }

@@ -14,7 +14,7 @@ use Rattle.journaled_diary.proofs.reading.read_diary.Goals as goal
 pub loop-at-init : goal.loop-at-init
 loop-at-init g c = record {
   diary_is = subst (λ (d : List Frame). IsDiaryOf c.args.roster.now (g.G.KeyRing.keys c.args.ring.now) c.args.me [] d)
-    (sym c.new-diary.ensures) (nothing_read c.args.roster.now (g.G.KeyRing.keys c.args.ring.now) c.args.me);
+      (sym c.new-diary.ensures) (nothing_read c.args.roster.now (g.G.KeyRing.keys c.args.ring.now) c.args.me);
   used_is = ap journal_length (sym c.new-diary.ensures);
   short = omega arith;
 }
