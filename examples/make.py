@@ -179,6 +179,19 @@ def uploaded_documents():
     uploads("uploaded_documents", False)
 
 
+def start_delivered_twice():
+    script = Script("start_delivered_twice")
+    script.issue()
+    script.attach(b"abc", "A")
+    script.attach(b"{}", "B")
+    script.endorse()
+    script.part()
+    reference = script.reference(1)
+    for sent in (2, 3):
+        script.deliver(1, "STARTED", [sent], missing=[ABC, EMPTY], reference=reference)
+    script.write({"acts": [], "end": "ALPH", "entries": 0, "forked": False, "holder": IMPORT})
+
+
 def restart_between_uploads():
     uploads("restart_between_uploads", True)
 
@@ -706,6 +719,7 @@ def bad_line():
 
 def main():
     for make in (transfer_to_another_platform, repeated_delivery, restart_while_parting, uploaded_documents,
+                 start_delivered_twice,
                  restart_between_uploads, unknown_receiver, return_before_the_answer, to_another_platform, surrender,
                  two_bills_of_two_carriers, chain_without_its_middle, parted_chains, texts_of_disputes, forked_chains,
                  refused_bodies, ignored_replies, foreign_uploads, asked_documents, other_partys_platform,
