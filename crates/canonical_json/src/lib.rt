@@ -9,6 +9,7 @@ mod lawful;
 mod laws;
 mod name;
 mod number;
+mod plain;
 mod reading;
 mod taking;
 mod value;

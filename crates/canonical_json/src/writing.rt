@@ -10,14 +10,10 @@ ghost use Rattle.canonical_json.specs.View.{view, list_view, object_view};
 ghost use Rattle.canonical_json.specs.Lawful.{HasTexts, HaveTexts, MembersHaveTexts};
 ghost use Rattle.canonical_json.specs.Canon.{comma_if, canon, with_stop, decimal_text, values_text, members_text};
 
+use crate::plain::is_plain;
 use crate::value::{Json, JsonList, MemberList};
 use ebl_base::{ByteList, NoMemory};
-use json::Writer;
 use std::alloc::Global;
-use std::mem;
-
-// From this length on a text is written by the kit's writer, which pays once for its start.
-const LONG: usize = 64;
 
 /// The canonical text of a value: RFC 8785, sections 3.2.1 to 3.2.3. It takes one buffer that
 /// grows, and goes as deep as the value nests.
@@ -45,10 +41,7 @@ pub fn write_text(alloc: Global, text: &[u8]) -> Result<ByteList, NoMemory>
     ensures { IfOk result (λ bytes. bytes ≡ quoted text.now) }
 {
     let mut out = Vec::with_capacity(alloc, text.len())?;
-    match simdutf8::basic::from_utf8(text) {
-        Ok(text) => push_text(&mut out, text)?,
-        Err(_) => push_quoted(&mut out, text)?,
-    }
+    push_quoted(&mut out, text)?;
     Ok(ByteList::from_vec(out))
 }
 
@@ -181,26 +174,23 @@ fn push_text(out: &mut Vec<u8>, text: &str) -> Result<(), NoMemory>
     ensures text { OnOk result (out.new.items ≡ out.old.items ++ quoted text.now) }
     ensures utf8 { IsUtf8 text.now }
 {
-    if text.len() < LONG {
-        push_quoted(out, text.as_bytes())
-    } else {
-        push_long_text(out, text)
-    }
+    push_quoted(out, text.as_bytes())
 }
 
-// The kit's writer looks at many bytes at a time.
-fn push_long_text(out: &mut Vec<u8>, text: &str) -> Result<(), NoMemory>
+// RFC 8785, section 3.2.2.2.
+fn push_quoted(out: &mut Vec<u8>, text: &[u8]) -> Result<(), NoMemory>
     ensures { OnOk result (out.new.items ≡ out.old.items ++ quoted text.now) }
 {
-    let empty = Vec::new(*out.allocator());
-    let mut writer = Writer::new(mem::replace(out, empty));
-    let written = writer.string(text);
-    *out = writer.into_inner();
-    Ok(written?)
+    if !is_plain(text) {
+        return push_escaped(out, text);
+    }
+    push_byte(out, b'"')?;
+    push_bytes(out, text)?;
+    push_byte(out, b'"')
 }
 
-// RFC 8785, section 3.2.2.2. Bytes that stand for themselves are written together.
-fn push_quoted(out: &mut Vec<u8>, text: &[u8]) -> Result<(), NoMemory>
+// Bytes that stand for themselves are written together.
+fn push_escaped(out: &mut Vec<u8>, text: &[u8]) -> Result<(), NoMemory>
     ensures { OnOk result (out.new.items ≡ out.old.items ++ quoted text.now) }
 {
     push_byte(out, b'"')?;
@@ -224,17 +214,16 @@ fn plain_end(text: &[u8], at: usize) -> usize
     ensures bound { result ≤ length text.now }
 {
     let mut end = at;
-    while end < text.len() && is_plain(text[end]) {
+    while end < text.len() && stands_for_itself(text[end]) {
         end += 1;
     }
     end
 }
 
-fn is_plain(byte: u8) -> bool
+fn stands_for_itself(byte: u8) -> bool
     ensures { result ≡ is_plain byte }
 {
-    // Letters and digits take two comparisons.
-    (byte > b'"' && byte != b'\\') || byte == b' ' || byte == b'!'
+    byte >= 0x20 && byte != b'"' && byte != b'\\'
 }
 
 // What stands for the byte, and how long it is.

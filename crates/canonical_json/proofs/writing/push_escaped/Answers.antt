@@ -3,7 +3,7 @@ use Rattle.std.proofs.lemmas.Result.{on_ok_weaker}
 use Rattle.json.specs.Print.{escape}
 use Rattle.json.proofs.Printed.Strings.{escape_to_stop, escape_at, escape_end}
 use Rattle.json.proofs.Printed.Room.{moved}
-use Rattle.canonical_json.proofs.writing.push_quoted.Goals as goal
+use Rattle.canonical_json.proofs.writing.push_escaped.Goals as goal
 
 pub returns-then-stop-text : goal.returns-then-stop-text
 returns-then-stop-text c =

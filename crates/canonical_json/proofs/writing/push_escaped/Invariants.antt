@@ -1,6 +1,6 @@
 use Rattle.std.proofs.Common.{◌≡◌, ◌≤◌, ◌-◌, ◌++◌, [], ◌∷◌, length, drop}
 use Rattle.json.specs.Print.{escape}
-use Rattle.canonical_json.proofs.writing.push_quoted.Given as goal
+use Rattle.canonical_json.proofs.writing.push_escaped.Given as goal
 
 abbrev pub invariant-loop-out : goal.invariant-loop-out
 invariant-loop-out l =
