@@ -5,6 +5,7 @@ use Rattle.canonical_json.specs.View.{values_of}
 use Rattle.document_checksum.specs.Text.{checksum_text}
 use Rattle.ebl_base.specs.PlatformCode.{code_text}
 use Rattle.ebl_base.specs.Party.{party_text}
+use Rattle.ebl_base.specs.declared.limits.TheConstants.{MAX_WHOLE_NUMBER}
 use Rattle.ebl_base.specs.declared.checksum.Checksum.{Checksum}
 use Rattle.ebl_base.specs.declared.platform_code.PlatformCode.{PlatformCode}
 use Rattle.ebl_base.specs.declared.party.Party.{Party}
@@ -19,7 +20,7 @@ number_value n = int (pos n)
 
 -- a whole number as it is written: past 2^53 - 1, the greatest of canonical JSON (RFC 7493, section 2.2), as that
 abbrev pub capped_value : ℕ → Value
-capped_value n = number_value (min n 9007199254740991)
+capped_value n = number_value (min n MAX_WHOLE_NUMBER)
 
 -- a platform code is its text
 abbrev pub platform_value : PlatformCode → Value

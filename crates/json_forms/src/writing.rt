@@ -21,7 +21,7 @@ pub fn text_json(alloc: Global, chars: &str) -> Result<Json, NoMemory>
 /// that.
 pub fn number_json(number: u64) -> Json
     ensures value { view result ≡ capped_value number }
-    ensures small { number ≤ 9007199254740991 → view result ≡ number_value number }
+    ensures small { number ≤ MAX_WHOLE_NUMBER → view result ≡ number_value number }
     ensures lawful { IsLawful (view result) }
 {
     Json::Int(number.min(MAX_WHOLE_NUMBER) as i64)
@@ -73,7 +73,7 @@ pub fn member(alloc: Global, name: &str, value: Json) -> Result<Member, NoMemory
 /// A whole number under a name, as [`number_json`] writes it.
 pub fn number_member(alloc: Global, name: &str, number: u64) -> Result<Member, NoMemory>
     ensures value { IfOk result (λ m. member_view m ≡ (name.now, capped_value number)) }
-    ensures small { IfOk result (λ m. number ≤ 9007199254740991
+    ensures small { IfOk result (λ m. number ≤ MAX_WHOLE_NUMBER
         → member_view m ≡ (name.now, number_value number)) }
 {
     member(alloc, name, number_json(number))
