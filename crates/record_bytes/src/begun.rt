@@ -107,7 +107,7 @@ fn begun_with(
 
 // Whether there are 1 to 64 texts.
 fn has_entries(chain: &TextList) -> bool
-    ensures { IsTrue result ↔ ((1 ≤ length chain.now) × (length chain.now ≤ 64)) }
+    ensures { IsTrue result ↔ ((1 ≤ length chain.now) × (length chain.now ≤ MAX_CHAIN_ENTRIES)) }
 {
     1 <= chain.len() && chain.len() <= MAX_CHAIN_ENTRIES
 }
