@@ -32,12 +32,12 @@ record IsNamed (texts : List SignedText) (link : ChainLink) : Type 0 where
   name : link.name ≡ checksum_of link.text.0
   text : Contains texts link.text
 
-abbrev AreNamed : List SignedText → List ChainLink → Type 0
-AreNamed texts [] = Unit {0}
-AreNamed texts (link ∷ chain) = IsNamed texts link × AreNamed texts chain
+abbrev HaveNames : List SignedText → List ChainLink → Type 0
+HaveNames texts [] = Unit {0}
+HaveNames texts (link ∷ chain) = IsNamed texts link × HaveNames texts chain
 
 named-more : (texts : List SignedText) (chain : List ChainLink) → HaveOwnNames chain
-    → ((t : SignedText) → Contains (texts_of chain) t → Contains texts t) → AreNamed texts chain
+    → ((t : SignedText) → Contains (texts_of chain) t → Contains texts t) → HaveNames texts chain
 named-more texts [] own within = tt
 named-more texts (link ∷ chain) own within = (
   record {
@@ -56,7 +56,7 @@ one_text texts x y distinct a b same =
 
 -- ---- chains meet as their texts do
 
-equal_texts : (texts : List SignedText) (a b : List ChainLink) → HaveDistinctNames texts → AreNamed texts a → AreNamed texts b
+equal_texts : (texts : List SignedText) (a b : List ChainLink) → HaveDistinctNames texts → HaveNames texts a → HaveNames texts b
     → names_of a ≡ names_of b → texts_of a ≡ texts_of b
 equal_texts texts [] [] distinct first second same = refl
 equal_texts texts [] (y ∷ b) distinct first second same = cc
@@ -67,7 +67,7 @@ equal_texts texts (x ∷ a) (y ∷ b) distinct first second same =
     ap (λ t. t ∷ texts_of a) (one_text texts x y distinct first.0 second.0 name)
     ∙ ap (λ ts. y.text ∷ ts) (equal_texts texts a b distinct first.1 second.1 rest)
 
-front_texts : (texts : List SignedText) (a b : List ChainLink) → HaveDistinctNames texts → AreNamed texts a → AreNamed texts b
+front_texts : (texts : List SignedText) (a b : List ChainLink) → HaveDistinctNames texts → HaveNames texts a → HaveNames texts b
     → IsFront (names_of a) (names_of b) → IsFront (texts_of a) (texts_of b)
 front_texts texts [] [] distinct first second (x, rest, same) = cc
 front_texts texts [] (y ∷ b) distinct first second h = (y.text, texts_of b, refl)
@@ -82,8 +82,8 @@ front_texts texts (x ∷ a) (y ∷ b) distinct first second (z, rest, same) =
           ∙ ap (λ ts. x.text ∷ ts) further.2,
     )
 
-part_texts : (texts : List SignedText) (a b : List ChainLink) (at : ℕ) → HaveDistinctNames texts → AreNamed texts a
-    → AreNamed texts b → (front : List Checksum) (x y : Checksum) (xs ys : List Checksum)
+part_texts : (texts : List SignedText) (a b : List ChainLink) (at : ℕ) → HaveDistinctNames texts → HaveNames texts a
+    → HaveNames texts b → (front : List Checksum) (x y : Checksum) (xs ys : List Checksum)
     → names_of a ≡ front ++ x ∷ xs → names_of b ≡ front ++ y ∷ ys → length front ≡ at → x ≢ y
     → PartAt (texts_of a) (texts_of b) at
 part_texts texts [] b at distinct first second [] x y xs ys in_a in_b far differ = cc
@@ -128,7 +128,7 @@ part_texts texts (l ∷ a) (m ∷ b) at distinct first second (z ∷ front) x y 
     }
 
 meet_named : (texts : List SignedText) (a b : List ChainLink) (meeting : Meeting) → HaveDistinctNames texts
-    → AreNamed texts a → AreNamed texts b → Meet (names_of a) (names_of b) meeting
+    → HaveNames texts a → HaveNames texts b → Meet (names_of a) (names_of b) meeting
     → Meet (texts_of a) (texts_of b) meeting
 meet_named texts a b Equal distinct first second h = equal_texts texts a b distinct first second h
 meet_named texts a b FirstIsPrefix distinct first second h = front_texts texts a b distinct first second h
