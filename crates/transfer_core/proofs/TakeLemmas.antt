@@ -12,7 +12,7 @@ use Rattle.platform_machine.specs.Complete.{is_failure}
 use Rattle.platform_machine.specs.Machine.{Steps}
 use Rattle.transfer_core.specs.Shard.{IsCarriedOut, IsStepped}
 
--- a step that is carried out is the machine's; the only failure is want of memory
+-- a step that is carried out is the machine's; the only failure is that memory runs out
 pub taken_step : (roster : RosterRecord) (keys : Keys) (me : PlatformCode) (before : List Frame) (now : Moment)
     (request : RequestRecord) (step : Step) (out : Outcome) (after : List Frame)
     → Steps roster keys me before now request step → IsCarriedOut before step out after

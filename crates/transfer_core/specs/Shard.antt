@@ -1,6 +1,7 @@
 -- One shard of a platform, and what becomes of it when a request is taken.
 use Rattle.std.specs.Prelude.{◌≡◌, ◌≤◌, ◌⊎◌, Bool, true, false, ◌&&◌, List, [], Option}
 use Rattle.ebl_base.specs.PlatformCode.{code_eq}
+use Rattle.ebl_base.specs.declared.limits.TheConstants.{MAX_CHAIN_ENTRIES}
 use Rattle.ebl_base.specs.declared.checksum.Checksum.{Checksum}
 use Rattle.ebl_base.specs.declared.moment.Moment.{Moment}
 use Rattle.ebl_base.specs.declared.party.Party.{Party}
@@ -55,7 +56,7 @@ IsUnchanged before out after = (after ≡ before) × (out.messages ≡ [])
 
 -- the known chain of each bill has at most 64 entries
 abbrev pub AreShort : List Frame → Type 0
-AreShort diary = (bill : Checksum) → entries_at (place_of (history bill diary)) ≤ 64
+AreShort diary = (bill : Checksum) → entries_at (place_of (history bill diary)) ≤ MAX_CHAIN_ENTRIES
 
 -- a step is carried out: its frame is in the diary, its reply and its messages are handed out; or memory ran out
 abbrev pub IsCarriedOut : List Frame → Step → Outcome → List Frame → Type 0
