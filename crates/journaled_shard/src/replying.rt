@@ -1,5 +1,6 @@
 //! How a bill is, as a holder is shown it once a request's frame is written.
 ghost use Rattle.std.specs.Prelude.{◌≡◌, ◌≤◌};
+ghost use Rattle.ebl_base.specs.declared.limits.TheConstants.{MAX_CHAIN_ENTRIES};
 ghost use Rattle.bill_diary.specs.History.{history};
 ghost use Rattle.bill_diary.specs.Place.{place_of, title_at};
 ghost use Rattle.platform_machine.specs.Step.{entries_at, title_in, view_of};
@@ -12,7 +13,7 @@ use title_fold::Title;
 use title_register::Register;
 use transfer_core::DecidedReply;
 
-// What is replied, by the register as it is now. It takes no memory.
+// What is replied, by the register as it is now. It allocates nothing.
 pub(crate) fn reply_now(register: &Register, reply: DecidedReply) -> Reply
     requires { AreShort register.now.diary }
     ensures { result ≡ reply_by register.now.diary reply }
@@ -25,7 +26,7 @@ pub(crate) fn reply_now(register: &Register, reply: DecidedReply) -> Reply
 
 // How a bill is.
 fn view(register: &Register, bill: Checksum) -> View
-    requires { entries_at (place_of (history bill register.now.diary)) ≤ 64 }
+    requires { entries_at (place_of (history bill register.now.diary)) ≤ MAX_CHAIN_ENTRIES }
     ensures { result ≡ view_of bill register.now.diary }
 {
     View {
@@ -39,7 +40,7 @@ fn view(register: &Register, bill: Checksum) -> View
 // How many entries the known chain has.
 #[tactic(auto, using(crate::proofs::RegisterLemmas::places))]
 fn entries(register: &Register, bill: Checksum) -> u32
-    requires { entries_at (place_of (history bill register.now.diary)) ≤ 64 }
+    requires { entries_at (place_of (history bill register.now.diary)) ≤ MAX_CHAIN_ENTRIES }
     ensures { result ≡ entries_at (place_of (history bill register.now.diary)) }
 {
     match register.known(bill) {

@@ -4,7 +4,7 @@
 //!     loose frame or without it.
 //! (2) A request is decided first, with everything that it needs and signs made; then its frame is written; then its
 //!     reply and its messages are handed out. So a reply rests on a frame that stands in every later crash. What it
-//!     shows of a bill is looked up once the frame is written, which takes no memory.
+//!     shows of a bill is looked up once the frame is written, which allocates nothing.
 //! (3) After a call that failed the journal is read again before the next request is decided.
 ghost use Rattle.std.specs.Prelude.{◌≡◌, ◌⊎◌, ◌&&◌, ◌<◌, ◌≤◌, [], not, true, false, List, None, Option, ℕ, length, IfErr, IfOk, IsErrOf, IsTrue, MatchResult, OnErr, OnOk};
 ghost use Rattle.ebl_base.specs.Faults.{Rose};
