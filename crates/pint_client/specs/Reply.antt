@@ -4,7 +4,7 @@ use Rattle.std.specs.List.{list_all}
 use Rattle.std.specs.Char.{to_ascii_lowercase}
 use Rattle.std.specs.Str.{all_ascii_digits, bytes_eq}
 use Rattle.std.specs.Str.Parse.{digits_value}
-use Rattle.pint_client.specs.declared.reply_head.TheConstants.{MAX_BODY}
+use Rattle.pint_client.specs.declared.reply_head.TheConstants.{MAX_BODY, MAX_FIELDS}
 use Rattle.pint_client.specs.declared.receiving.TheConstants.{MAX_HEAD}
 use Rattle.httparse.specs.Grammar.{ResponseHead, ReadsResponse, print_response, status_code}
 use Rattle.httparse.specs.Spans.{name_and_value}
@@ -58,7 +58,7 @@ pub record IsReply (came : List ℕ) (status : ℕ) (body after : List ℕ) : Ty
   pub head : ResponseHead
   pub reads : ReadsResponse came head (body ++ after)
   pub head_size : length (print_response head) ≤ MAX_HEAD
-  pub field_count : length head.fields ≤ 64
+  pub field_count : length head.fields ≤ MAX_FIELDS
   pub status_is : status ≡ status_code head
   pub length_is : stated_length head ≡ Some (length body)
   pub body_size : length body ≤ MAX_BODY
@@ -75,7 +75,7 @@ NeverHasReply came = (more : List ℕ) → HasNoReply (came ++ more)
 pub record States (piece : List ℕ) (status size : ℕ) : Type 0 where
   pub head : ResponseHead
   pub reads : ReadsResponse piece head []
-  pub field_count : length head.fields ≤ 64
+  pub field_count : length head.fields ≤ MAX_FIELDS
   pub status_is : status ≡ status_code head
   pub length_is : stated_length head ≡ Some size
   pub body_size : size ≤ MAX_BODY

@@ -10,6 +10,9 @@ ghost use Rattle.pint_client.specs.Reply.{States, first_of, has_field, is_length
 use httparse::Status;
 use httparse::spans::{EMPTY_HEADER_SPAN, HeaderSpan, ResponseSpans, parse_response};
 
+/// The most fields of a reply's head.
+pub const MAX_FIELDS: usize = 64;
+
 /// The most bytes of a reply's body.
 pub const MAX_BODY: usize = 4_194_304;
 
@@ -26,7 +29,7 @@ pub fn reply_head(piece: &[u8]) -> Option<ReplyHead>
     ensures some { IfSome result (λ says. States piece.now says.status says.body) }
     ensures none { IfNone result ((status size : ℕ) → ¬ (States piece.now status size)) }
 {
-    let mut headers = [EMPTY_HEADER_SPAN; 64];
+    let mut headers = [EMPTY_HEADER_SPAN; MAX_FIELDS];
     let Some(head) = whole_head(piece, &mut headers) else {
         return None;
     };
@@ -44,11 +47,12 @@ pub fn reply_head(piece: &[u8]) -> Option<ReplyHead>
 
 // The head that the whole piece is.
 fn whole_head(piece: &[u8], headers: &mut [HeaderSpan]) -> Option<ResponseSpans>
-    requires { length headers.old ≡ 64 }
-    ensures some { IfSome result (λ spans. (h : ResponseHead) × ReadsResponse piece.now h [] × (length h.fields ≤ 64)
-        × IsResponseAt piece.now headers.new spans h) }
+    requires { length headers.old ≡ MAX_FIELDS }
+    ensures some { IfSome result (λ spans. (h : ResponseHead) × ReadsResponse piece.now h []
+        × (length h.fields ≤ MAX_FIELDS) × IsResponseAt piece.now headers.new spans h) }
     ensures within { IfSome result (λ spans. IsResponseWithin piece.now headers.new spans) }
-    ensures none { IfNone result ((h : ResponseHead) → ReadsResponse piece.now h [] → length h.fields ≤ 64 → ⊥) }
+    ensures none { IfNone result ((h : ResponseHead) → ReadsResponse piece.now h []
+        → length h.fields ≤ MAX_FIELDS → ⊥) }
 {
     match parse_response(piece, headers) {
         Ok(Status::Complete(head)) => {
