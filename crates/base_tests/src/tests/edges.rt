@@ -69,7 +69,7 @@ const SOURCES: [(&[u64], &[u8], u64); 4] = [
 
 #[test]
 fn a_memory_source_fails_at_the_listed_reads(rt: HostRuntime) -> Result<(), Fail> {
-    for (fails, told, faults) in SOURCES {
+    for &(fails, told, faults) in &SOURCES {
         source_row(&rt, rt.alloc(), fails, told, faults)?;
     }
     Ok(())
@@ -303,7 +303,7 @@ const LINKS: [(&[usize], &[u64], &[u8]); 4] = [
 
 #[test]
 fn a_memory_link_hands_out_its_pieces(rt: HostRuntime) -> Result<(), Fail> {
-    for (sizes, fails, told) in LINKS {
+    for &(sizes, fails, told) in &LINKS {
         link_row(&rt, rt.alloc(), sizes, fails, told)?;
     }
     Ok(())

@@ -152,7 +152,7 @@ fn assert_lists(rt: &impl Abort, roster: &Roster) {
 }
 
 fn assert_look_ups(rt: &impl Abort, roster: &Roster) {
-    for (text, want) in LISTED {
+    for &(text, want) in &LISTED {
         let found = PlatformCode::try_new(text).map(|platform| roster.has_platform(platform));
         assert_eq!(rt; found, Some(want), "{text:?}");
     }
