@@ -49,7 +49,7 @@ const TEXTS: [(&[u8], &[u8]); 12] = [
 
 #[test]
 fn the_text_is_that_of_rfc_8785(rt: HostRuntime) -> Result<(), Fail> {
-    for (text, want) in TEXTS {
+    for &(text, want) in &TEXTS {
         let json = read(rt.alloc(), text)?;
         assert!(rt; is_lawful(&json));
         assert_eq!(rt; write(rt.alloc(), &json)?.as_slice(), want);
@@ -142,11 +142,11 @@ const OTHERS: [(&[u8], ReadError); 21] = [
 
 #[test]
 fn each_refusal_has_its_cause(rt: HostRuntime) -> Result<(), Fail> {
-    for text in NONE {
+    for &text in &NONE {
         let refusal = read(rt.alloc(), text).err();
         assert_eq!(rt; refusal, Some(ReadError::NotJson), "{text:?}");
     }
-    for (text, want) in OTHERS {
+    for &(text, want) in &OTHERS {
         assert_eq!(rt; read(rt.alloc(), text).err(), Some(want), "{text:?}");
         assert!(rt; read_if_any(rt.alloc(), text)?.is_none());
     }
@@ -184,7 +184,7 @@ const NUMBERS: [(&[u8], &[u8]); 25] = [
 
 #[test]
 fn a_number_is_read_exactly(rt: HostRuntime) -> Result<(), Fail> {
-    for (text, want) in NUMBERS {
+    for &(text, want) in &NUMBERS {
         let read = read(rt.alloc(), text);
         if want == b"-".as_slice() {
             assert_eq!(rt; read.err(), Some(ReadError::Fraction), "{text:?}");
@@ -378,7 +378,7 @@ const BUILT: [(&str, &str, i64, bool); 7] = [
 #[test]
 fn values_are_built_and_copied(rt: HostRuntime) -> Result<(), Fail> {
     let alloc = rt.alloc();
-    for (first, second, number, lawful) in BUILT {
+    for &(first, second, number, lawful) in &BUILT {
         let json = built(alloc, first, second, number)?;
         assert_eq!(rt; is_lawful(&json), lawful);
         let copy = json.copy(alloc)?;

@@ -87,7 +87,7 @@ const NOT_COMPACT: [&str; 22] = [
 
 #[test]
 fn other_forms(rt: HostRuntime) {
-    for text in NOT_COMPACT {
+    for &text in &NOT_COMPACT {
         let fault = split(rt.alloc(), text.as_bytes(), 100).err();
         assert_eq!(rt; fault, Some(SplitFault::NotCompact), "{text}");
     }

@@ -49,7 +49,7 @@ const NUMBERS: [(&str, u64, u64, Option<u64>); 6] = [
 #[test]
 fn whole_numbers_in_their_range(rt: HostRuntime) -> Result<(), Fail> {
     let object = json(rt.alloc(), "{'n':3,'below':-1,'text':'3'}")?;
-    for (name, least, most, want) in NUMBERS {
+    for &(name, least, most, want) in &NUMBERS {
         let found = required_number(&object, name, least, most);
         assert_eq!(rt; found, want, "{name}");
     }
@@ -67,7 +67,7 @@ const LENGTHS: [(&str, usize, usize, bool); 4] = [
 #[test]
 fn lists_of_a_stated_length(rt: HostRuntime) -> Result<(), Fail> {
     let object = json(rt.alloc(), "{'l':[1,2],'o':{}}")?;
-    for (name, least, most, want) in LENGTHS {
+    for &(name, least, most, want) in &LENGTHS {
         let found = required_items(&object, name, least, most);
         assert_eq!(rt; found.is_some(), want, "{name}");
     }
@@ -133,7 +133,7 @@ const WRITTEN: [(u64, &str); 4] = [
 
 #[test]
 fn numbers_past_the_greatest_are_the_greatest(rt: HostRuntime) -> Result<(), Fail> {
-    for (number, canonical) in WRITTEN {
+    for &(number, canonical) in &WRITTEN {
         let text = write(rt.alloc(), &number_json(number))?;
         assert!(rt; text.as_slice() == canonical.as_bytes());
     }

@@ -107,7 +107,7 @@ const JOSE_TEXTS: [(&str, &str, &str); 6] = [
 
 #[test]
 fn texts_of_a_jose_library(rt: HostRuntime) -> Result<(), Fail> {
-    for (platform, payload, text) in JOSE_TEXTS {
+    for &(platform, payload, text) in &JOSE_TEXTS {
         is_text_of(&rt, platform, payload, text)?;
     }
     Ok(())
@@ -215,7 +215,7 @@ const REFUSED: [(&str, Option<BadSigned>); 14] = [
 
 #[test]
 fn refused_texts(rt: HostRuntime) {
-    for (text, want) in REFUSED {
+    for &(text, want) in &REFUSED {
         is_refused(&rt, text, want);
     }
 }

@@ -56,7 +56,7 @@ const CASES: [(u8, &[u8], &[u8], &str); 7] = [
 
 #[test]
 fn rfc4231_cases(rt: HostRuntime) {
-    for (number, key, message, want) in CASES {
+    for &(number, key, message, want) in &CASES {
         let tag = to_text(Checksum(hmac_sha256(key, message)));
         assert!(rt;
             tag.as_slice().starts_with(want.as_bytes()),
