@@ -62,7 +62,7 @@ fn again(alloc: Global, text: &str) -> Result<ByteList, Fail> {
 
 #[test]
 fn commands_are_read_and_written(rt: HostRuntime) -> Result<(), Fail> {
-    for (text, wanted) in WRITTEN {
+    for &(text, wanted) in &WRITTEN {
         let bytes = again(rt.alloc(), text)?;
         let wanted = quoted(rt.alloc(), wanted)?;
         assert_eq!(rt; bytes.as_slice(), wanted.as_slice(), "{text}");
@@ -156,7 +156,7 @@ const WRONG: [(&str, CommandField); 24] = [
 
 #[test]
 fn the_first_wrong_member_is_named(rt: HostRuntime) -> Result<(), Fail> {
-    for (text, field) in WRONG {
+    for &(text, field) in &WRONG {
         assert_eq!(rt; wrong_member(rt.alloc(), text), Some(field), "{text}");
     }
     Ok(())
@@ -200,7 +200,7 @@ const LIMITS: [(usize, usize, Option<CommandField>); 6] = [
 
 #[test]
 fn limits_of_an_attachment(rt: HostRuntime) -> Result<(), Fail> {
-    for (name, media, field) in LIMITS {
+    for &(name, media, field) in &LIMITS {
         let text = attachment(rt.alloc(), name, media, 1)?;
         let found = wrong_member(rt.alloc(), text.as_str());
         assert_eq!(rt; found, field, "{name} {media}");

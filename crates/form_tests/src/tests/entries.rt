@@ -129,7 +129,7 @@ fn fault_with(alloc: Global, members: [&str; 5]) -> Result<Option<EntryFault>, A
 #[test]
 fn the_first_wrong_member_is_named(rt: HostRuntime) -> Result<(), Fail> {
     let alloc = rt.alloc();
-    for (place, field, wrong) in WRONG {
+    for &(place, field, wrong) in &WRONG {
         let want = Some(EntryFault::EntryForm(field));
         let alone = fault_with(alloc, with(place, wrong))?;
         assert_eq!(rt; alone, want, "{wrong}");
@@ -180,7 +180,7 @@ const ATTEMPTS: [(&str, Option<(u32, usize)>); 4] = [
 
 #[test]
 fn attempts_at_their_limits(rt: HostRuntime) -> Result<(), Fail> {
-    for (attempt, want) in ATTEMPTS {
+    for &(attempt, want) in &ATTEMPTS {
         let text = first_entry(rt.alloc(), attempt, GOOD[4])?;
         assert_eq!(rt; numbers_of(rt.alloc(), &text), want, "{attempt}");
     }
@@ -279,7 +279,7 @@ fn transaction_row(
 
 #[test]
 fn transactions_are_read_and_written(rt: HostRuntime) -> Result<(), Fail> {
-    for (text, time, is_transaction) in TRANSACTIONS {
+    for &(text, time, is_transaction) in &TRANSACTIONS {
         let json = at_time(rt.alloc(), text, time).ok_or("a transaction")?;
         transaction_row(&rt, rt.alloc(), &json, is_transaction)?;
     }

@@ -98,7 +98,7 @@ const REFUSED: [(&str, ManifestFault); 6] = [
 
 #[test]
 fn names_the_first_wrong_field(rt: HostRuntime) {
-    for (text, fault) in REFUSED {
+    for &(text, fault) in &REFUSED {
         assert_eq!(rt; refused(rt.alloc(), text), Some(fault), "{text}");
     }
 }
@@ -160,7 +160,7 @@ const CONTROLS: [(&str, bool); 9] = [
 
 #[test]
 fn texts_without_control_characters(rt: HostRuntime) -> Result<(), Fail> {
-    for (text, taken) in CONTROLS {
+    for &(text, taken) in &CONTROLS {
         assert_eq!(rt; is_read(rt.alloc(), text, "a", 0)?, taken, "{text}");
         assert_eq!(rt; is_read(rt.alloc(), "a", text, 0)?, taken, "{text}");
     }
@@ -202,7 +202,7 @@ const LISTED: [(&[(u32, u8)], Option<ManifestFault>); 8] = [
 
 #[test]
 fn documents_together(rt: HostRuntime) -> Result<(), Fail> {
-    for (listed, want) in LISTED {
+    for &(listed, want) in &LISTED {
         assert_eq!(rt; refused_list(rt.alloc(), listed)?, want, "{listed:?}");
     }
     Ok(())
@@ -253,7 +253,7 @@ const REFUSED_BODIES: [(&str, BodyField); 11] = [
 
 #[test]
 fn names_the_first_wrong_part(rt: HostRuntime) {
-    for (text, field) in REFUSED_BODIES {
+    for &(text, field) in &REFUSED_BODIES {
         let fault = refused_body(rt.alloc(), text);
         assert_eq!(rt; fault, Some(BodyFault::BodyForm(field)), "{text}");
     }

@@ -114,7 +114,7 @@ const LIMITS: [(LimitKind, &str); 5] = [
 
 #[test]
 fn refusals_by_a_limit(rt: HostRuntime) -> Result<(), Fail> {
-    for (which, text) in LIMITS {
+    for &(which, text) in &LIMITS {
         json_row(&rt, rt.alloc(), Reply::Limit(which), text)?;
     }
     Ok(())
@@ -146,7 +146,7 @@ const IGNORED: [(IgnoreReason, &str); 6] = [
 
 #[test]
 fn ignored_replies(rt: HostRuntime) -> Result<(), Fail> {
-    for (reason, text) in IGNORED {
+    for &(reason, text) in &IGNORED {
         json_row(&rt, rt.alloc(), Reply::Ignored(reason), text)?;
     }
     Ok(())
@@ -186,7 +186,7 @@ const DOCUMENTS: [(DocumentFault, &str); 7] = [
 #[test]
 fn faults_of_a_document(rt: HostRuntime) -> Result<(), Fail> {
     let alloc = rt.alloc();
-    for (fault, text) in DOCUMENTS {
+    for &(fault, text) in &DOCUMENTS {
         json_row(&rt, alloc, Reply::Document(fault), text)?;
     }
     nothing_row(&rt, alloc, Reply::Document(DocumentFault::NoMemory))?;

@@ -113,10 +113,10 @@ const NO_FORMS: [&str; 9] = [
 #[test]
 fn forms_of_a_reference(rt: HostRuntime) {
     let reference = reference_of(checksum(b"{}"), checksum(b"abc"));
-    for text in FORMS {
+    for &text in &FORMS {
         assert_eq!(rt; reference_from(text.as_bytes()), Some(reference), "{text}");
     }
-    for text in NO_FORMS {
+    for &text in &NO_FORMS {
         assert_eq!(rt; reference_from(text.as_bytes()), None, "{text}");
     }
 }
@@ -187,7 +187,7 @@ const NO_ANSWERS: [&str; 7] = [
 
 #[test]
 fn texts_that_are_no_answers(rt: HostRuntime) {
-    for text in NO_ANSWERS {
+    for &text in &NO_ANSWERS {
         let fault = refused(rt.alloc(), text);
         assert_eq!(rt; fault, Some(StartedFault::Form), "{text}");
     }

@@ -19,7 +19,7 @@ const REQUIRED: [(&str, &str); 3] = [
 // A response with these members, behind those that a response must have and that aren't among them.
 fn payload_with(alloc: Global, members: &str) -> Result<String, AllocError> {
     let mut text = String::from_str(alloc, "{")?;
-    for (name, member) in REQUIRED {
+    for &(name, member) in &REQUIRED {
         if !members.contains(name) {
             text.push_str(member)?;
         }
@@ -75,7 +75,7 @@ const ABSENT: [Row; 4] = [
 
 #[test]
 fn absent_members(rt: HostRuntime) -> Result<(), Fail> {
-    for (payload, field) in ABSENT {
+    for &(payload, field) in &ABSENT {
         let fault = fault_of(&rt, payload)?;
         assert_eq!(rt; fault, Some(UnsealFault::Form(field)), "{payload}");
     }
@@ -156,7 +156,7 @@ const TAKEN: [&str; 3] = [
 #[test]
 fn evidence(rt: HostRuntime) -> Result<(), Fail> {
     assert_faults(&rt, &EVIDENCE)?;
-    for members in TAKEN {
+    for &members in &TAKEN {
         assert_eq!(rt; fault_with(&rt, members)?, None, "{members}");
     }
     Ok(())

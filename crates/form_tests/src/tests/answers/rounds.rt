@@ -97,11 +97,11 @@ const REASONS: [(&str, &str, bool); 20] = [
 
 #[test]
 fn texts_of_codes_and_reasons(rt: HostRuntime) {
-    for text in CODES {
+    for &text in &CODES {
         let code = Code::from_text(text.as_bytes());
         assert_eq!(rt; code.map(Code::as_str), Some(text), "{text}");
     }
-    for (text, code, of_entry) in REASONS {
+    for &(text, code, of_entry) in &REASONS {
         let reason = Reason::from_text(text.as_bytes());
         assert_eq!(rt; reason.map(|r| r.code().as_str()), Some(code), "{text}");
         assert_eq!(rt;
@@ -145,7 +145,7 @@ const ROUNDS: [(Code, Option<Reason>); 27] = [
 
 #[test]
 fn each_code_and_reason(rt: HostRuntime) -> Result<(), Fail> {
-    for (code, reason) in ROUNDS {
+    for &(code, reason) in &ROUNDS {
         assert!(rt; there_and_back(&rt, code, reason)?, "{code:?} {reason:?}");
     }
     Ok(())
@@ -199,7 +199,7 @@ const OUTSIDE: [(Code, Reason, ResponseField); 4] = [
 #[test]
 fn reasons_outside_the_form(rt: HostRuntime) -> Result<(), Fail> {
     let alph = platform("ALPH")?;
-    for (code, reason, field) in OUTSIDE {
+    for &(code, reason, field) in &OUTSIDE {
         let text = sealed(rt.alloc(), code, Some(reason), None)?;
         let fault = unseal(rt.alloc(), &KeyedRing::derived(), text.0.as_slice(), alph).err();
         assert_eq!(rt; fault, Some(UnsealFault::Form(field)));
