@@ -1,6 +1,6 @@
 //! What each route asks with a body.
 use crate::tests::making::{CHECKSUM, REFERENCE};
-use ebl_base::{NoMemory, Party};
+use ebl_base::Party;
 use http_heads::Route;
 use http_requests::{Asked, asked_of};
 use platform_requests::Request;
@@ -8,116 +8,163 @@ use std::alloc::Global;
 use std::process::Abort;
 use std::test::Fail;
 
-#[test]
-fn an_envelope_of_any_bytes(rt: HostRuntime) -> Result<(), Fail> {
-    match asked_of(rt.alloc(), Route::Start, b"\0{")? {
-        Some(Asked::Desk(Request::Start { body })) => assert_eq!(rt;
-            body.as_slice(),
-            b"\0{".as_slice()
-        ),
-        _ => panic!(rt; "no start"),
+// What is asked: a start with these bytes, a document of these, the finish, the question, a validation of this party,
+// or a command of this one; nothing if the body hasn't its form.
+#[derive(Clone, Copy, Debug)]
+enum Want {
+    Start(&'static [u8]),
+    Document(&'static [u8]),
+    Finish,
+    Question,
+    Validation(&'static [u8]),
+    Command(&'static [u8]),
+    Nothing,
+}
+
+fn is_request(request: &Request, want: Want) -> bool {
+    match (request, want) {
+        (Request::Start { body }, Want::Start(bytes)) => body.as_slice() == bytes,
+        (
+            Request::Put {
+                reference,
+                checksum,
+                bytes,
+            },
+            Want::Document(listed),
+        ) => *reference == REFERENCE && *checksum == CHECKSUM && bytes.as_slice() == listed,
+        (Request::Finish { reference }, Want::Finish) => *reference == REFERENCE,
+        (Request::Ask { bill }, Want::Question) => *bill == CHECKSUM,
+        (Request::Command { party, .. }, Want::Command(text)) => {
+            Some(*party) == Party::from_text(text)
+        }
+        _ => false,
+    }
+}
+
+fn is_asked(asked: &Option<Asked>, want: Want) -> bool {
+    match (asked, want) {
+        (Some(Asked::Desk(request)), _) => is_request(request, want),
+        (Some(Asked::Party(party)), Want::Validation(text)) => {
+            Some(*party) == Party::from_text(text)
+        }
+        (None, Want::Nothing) => true,
+        _ => false,
+    }
+}
+
+// A route, a body, and what is asked.
+type Row = (Route, &'static [u8], Want);
+
+fn assert_rows<R: Abort>(rt: &R, alloc: Global, rows: &[Row]) -> Result<(), Fail> {
+    for (route, body, want) in rows {
+        let asked = asked_of(alloc, *route, body)?;
+        assert!(rt; is_asked(&asked, *want), "{want:?} with {body:?}");
     }
     Ok(())
 }
+
+const ANY_BYTES: [Row; 1] = [(Route::Start, b"\0{", Want::Start(b"\0{"))];
+
+#[test]
+fn an_envelope_of_any_bytes(rt: HostRuntime) -> Result<(), Fail> {
+    assert_rows(&rt, rt.alloc(), &ANY_BYTES)
+}
+
+const NO_BYTES: [Row; 1] = [(
+    Route::Document {
+        reference: REFERENCE,
+        checksum: CHECKSUM,
+    },
+    b"",
+    Want::Document(b""),
+)];
 
 #[test]
 fn a_document_of_no_bytes(rt: HostRuntime) -> Result<(), Fail> {
-    let route = Route::Document {
-        reference: REFERENCE,
-        checksum: CHECKSUM,
-    };
-    match asked_of(rt.alloc(), route, b"")? {
-        Some(
-            Asked::Desk(
-                Request::Put {
-                    reference,
-                    checksum,
-                    bytes,
-                },
-            ),
-        ) => {
-            assert_eq!(rt; reference, REFERENCE);
-            assert_eq!(rt; checksum, CHECKSUM);
-            assert_eq!(rt; bytes.len(), 0);
-        }
-        _ => panic!(rt; "no document"),
-    }
-    Ok(())
+    assert_rows(&rt, rt.alloc(), &NO_BYTES)
 }
 
 // A stated body of these two is ignored.
+const IGNORED: [Row; 2] = [
+    (
+        Route::Finish {
+            reference: REFERENCE,
+        },
+        b"{",
+        Want::Finish,
+    ),
+    (Route::Bill { bill: CHECKSUM }, b"{", Want::Question),
+];
+
 #[test]
 fn a_finish_and_a_question(rt: HostRuntime) -> Result<(), Fail> {
-    let finish = Route::Finish {
-        reference: REFERENCE,
-    };
-    match asked_of(rt.alloc(), finish, b"{")? {
-        Some(Asked::Desk(Request::Finish { reference })) => assert_eq!(rt; reference, REFERENCE),
-        _ => panic!(rt; "no finish"),
-    }
-    match asked_of(rt.alloc(), Route::Bill { bill: CHECKSUM }, b"{")? {
-        Some(Asked::Desk(Request::Ask { bill })) => assert_eq!(rt; bill, CHECKSUM),
-        _ => panic!(rt; "no question"),
-    }
-    Ok(())
+    assert_rows(&rt, rt.alloc(), &IGNORED)
 }
 
-fn malformed(alloc: Global, route: Route, body: &str) -> Result<bool, NoMemory> {
-    Ok(asked_of(alloc, route, body.as_bytes())?.is_none())
-}
-
-const VALIDATIONS: [&str; 8] = [
-    "",
-    "{",
-    "[]",
-    "{}",
-    r#"{"party":null}"#,
-    r#"{"party":"BETA"}"#,
-    r#"{"party":"beta/IMPORT"}"#,
-    r#"{"party":"BETA/IMPORT","party":"BETA/IMPORT"}"#,
+const VALIDATIONS: [Row; 9] = [
+    (Route::Validation, b"", Want::Nothing),
+    (Route::Validation, b"{", Want::Nothing),
+    (Route::Validation, b"[]", Want::Nothing),
+    (Route::Validation, b"{}", Want::Nothing),
+    (Route::Validation, br#"{"party":null}"#, Want::Nothing),
+    (Route::Validation, br#"{"party":"BETA"}"#, Want::Nothing),
+    (
+        Route::Validation,
+        br#"{"party":"beta/IMPORT"}"#,
+        Want::Nothing,
+    ),
+    (
+        Route::Validation,
+        br#"{"party":"BETA/IMPORT","party":"BETA/IMPORT"}"#,
+        Want::Nothing,
+    ),
+    (
+        Route::Validation,
+        br#" {"more":[1.5],"party":"BETA/IMPORT"} "#,
+        Want::Validation(b"BETA/IMPORT"),
+    ),
 ];
 
 #[test]
 fn receiver_validations(rt: HostRuntime) -> Result<(), Fail> {
-    let alloc = rt.alloc();
-    for body in VALIDATIONS {
-        assert!(rt; malformed(alloc, Route::Validation, body)?, "{body}");
-    }
-    match asked_of(
-        alloc,
-        Route::Validation,
-        br#" {"more":[1.5],"party":"BETA/IMPORT"} "#,
-    )? {
-        Some(Asked::Party(party)) => assert_eq!(rt; Some(party), Party::from_text(b"BETA/IMPORT")),
-        _ => panic!(rt; "no party"),
-    }
-    Ok(())
+    assert_rows(&rt, rt.alloc(), &VALIDATIONS)
 }
 
-const COMMANDS: [&str; 6] = [
-    r#"{"party":"BETA/IMPORT"}"#,
-    r#"{"do":"SIGN","document":{}}"#,
-    r#"{"do":"SIGN","document":{},"party":"BETA"}"#,
-    r#"{"do":"SIGN","party":"BETA/IMPORT"}"#,
-    r#"{"do":"SHIP","document":{},"party":"BETA/IMPORT"}"#,
-    r#"[{"do":"SIGN","document":{},"party":"BETA/IMPORT"}]"#,
+const COMMANDS: [Row; 7] = [
+    (Route::Command, br#"{"party":"BETA/IMPORT"}"#, Want::Nothing),
+    (
+        Route::Command,
+        br#"{"do":"SIGN","document":{}}"#,
+        Want::Nothing,
+    ),
+    (
+        Route::Command,
+        br#"{"do":"SIGN","document":{},"party":"BETA"}"#,
+        Want::Nothing,
+    ),
+    (
+        Route::Command,
+        br#"{"do":"SIGN","party":"BETA/IMPORT"}"#,
+        Want::Nothing,
+    ),
+    (
+        Route::Command,
+        br#"{"do":"SHIP","document":{},"party":"BETA/IMPORT"}"#,
+        Want::Nothing,
+    ),
+    (
+        Route::Command,
+        br#"[{"do":"SIGN","document":{},"party":"BETA/IMPORT"}]"#,
+        Want::Nothing,
+    ),
+    (
+        Route::Command,
+        br#"{"do":"SIGN","document":{},"party":"BETA/IMPORT"}"#,
+        Want::Command(b"BETA/IMPORT"),
+    ),
 ];
 
 #[test]
 fn holder_commands(rt: HostRuntime) -> Result<(), Fail> {
-    let alloc = rt.alloc();
-    for body in COMMANDS {
-        assert!(rt; malformed(alloc, Route::Command, body)?, "{body}");
-    }
-    match asked_of(
-        alloc,
-        Route::Command,
-        br#"{"do":"SIGN","document":{},"party":"BETA/IMPORT"}"#,
-    )? {
-        Some(Asked::Desk(Request::Command { party, .. })) => {
-            assert_eq!(rt; Some(party), Party::from_text(b"BETA/IMPORT"));
-        }
-        _ => panic!(rt; "no command"),
-    }
-    Ok(())
+    assert_rows(&rt, rt.alloc(), &COMMANDS)
 }

@@ -4,21 +4,28 @@ use ebl_edge::{MemoryLink, PieceList};
 use pint_client::{ClientFault, Incoming, exchange};
 use platform_requests::Message;
 use std::alloc::{AllocError, Global};
+use std::process::Abort;
 use std::test::Fail;
 
 const REFERENCE: Reference = Reference([0, 1, 2, 3, 4, 5, 6, 7, 8, 9, 10, 11, 12, 13, 14, 255]);
 
-fn start(alloc: Global, to: PlatformCode, body: &[u8]) -> Result<Message, NoMemory> {
+// ---- messages
+
+fn beta() -> Result<PlatformCode, Fail> {
+    Ok(PlatformCode::try_new(b"BETA").ok_or("a code")?)
+}
+
+fn start(alloc: Global, body: &[u8]) -> Result<Message, Fail> {
     Ok(Message::Start {
-        to,
+        to: beta()?,
         bill: Checksum([1; 32]),
         body: ByteList::from_slice(alloc, body)?,
     })
 }
 
-fn put(alloc: Global, to: PlatformCode, bytes: &[u8]) -> Result<Message, NoMemory> {
+fn put(alloc: Global, bytes: &[u8]) -> Result<Message, Fail> {
     Ok(Message::Put {
-        to,
+        to: beta()?,
         bill: Checksum([1; 32]),
         reference: REFERENCE,
         checksum: Checksum([171; 32]),
@@ -26,269 +33,338 @@ fn put(alloc: Global, to: PlatformCode, bytes: &[u8]) -> Result<Message, NoMemor
     })
 }
 
-fn finish(to: PlatformCode) -> Message {
-    Message::Finish {
-        to,
+fn finish() -> Result<Message, Fail> {
+    Ok(Message::Finish {
+        to: beta()?,
         bill: Checksum([1; 32]),
         reference: REFERENCE,
-    }
+    })
 }
 
-fn link_of(alloc: Global, came: &[u8], fails: &[u64]) -> Result<MemoryLink, NoMemory> {
+// ---- what is written
+
+fn link_of(alloc: Global, came: &[u8]) -> Result<MemoryLink, NoMemory> {
     let bytes = ByteList::from_slice(alloc, came)?;
-    Ok(MemoryLink::new(alloc, bytes, CallList::from_slice(alloc, fails)?))
+    Ok(MemoryLink::new(alloc, bytes, CallList::new(alloc)))
 }
 
-// Exchanges a Finish over a link that hands out these bytes.
-fn reply_to_finish(
-    alloc: Global,
-    to: PlatformCode,
-    came: &[u8],
-) -> Result<Result<Incoming, ClientFault>, NoMemory> {
-    let mut link = link_of(alloc, came, &[])?;
-    Ok(exchange(alloc, &mut link, &finish(to)))
-}
-
-fn is_reply(got: &Result<Incoming, ClientFault>, status: u16, body: &[u8]) -> bool {
-    match got {
-        Ok(incoming) => incoming.status == status && incoming.body.as_slice() == body,
-        Err(_) => false,
-    }
-}
-
-fn is_bad_reply(got: &Result<Incoming, ClientFault>) -> bool {
-    matches!(got, Err(ClientFault::BadReply))
-}
-
-fn is_fault(got: &Result<Incoming, ClientFault>) -> bool {
-    matches!(got, Err(ClientFault::Fault))
-}
-
-fn beta() -> Result<PlatformCode, Fail> {
-    Ok(PlatformCode::try_new(b"BETA").ok_or("a code")?)
-}
-
-#[test]
-fn client_exchange(rt: HostRuntime) -> Result<(), Fail> {
-    let alloc = rt.alloc();
-    let to = beta()?;
-    let came = b"HTTP/1.1 404 Not Found\r\ncontent-length: 0\r\n\r\n";
-    assert!(rt; is_reply(&reply_to_finish(alloc, to, came)?, 404, b""));
-    assert!(rt; is_bad_reply(&reply_to_finish(alloc, to, b"hello")?));
-    assert!(rt; is_bad_reply(&reply_to_finish(alloc, to, b"")?));
+// Asserts which bytes one exchange of the message writes.
+fn writes<R: Abort>(rt: &R, alloc: Global, out: &Message, text: &[u8]) -> Result<(), Fail> {
+    let mut link = link_of(alloc, b"HTTP/1.1 204 No Content\r\n\r\n")?;
+    let is_ok = exchange(alloc, &mut link, out).is_ok();
+    assert!(rt; is_ok);
+    assert_eq!(rt; link.written(), text);
     Ok(())
 }
 
-// The bytes that one exchange of the message writes.
-fn written(alloc: Global, out: &Message) -> Result<ByteList, NoMemory> {
-    let mut link = link_of(alloc, b"HTTP/1.1 204 No Content\r\n\r\n", &[])?;
-    match exchange(alloc, &mut link, out) {
-        Ok(_) => ByteList::from_slice(alloc, link.written()),
-        Err(_) => Ok(ByteList::new(alloc)),
-    }
-}
+const START: &[u8] =
+    b"POST /v3/envelopes HTTP/1.1\r\nhost: pint\r\ncontent-length: 7\r\n\r\n{\"a\":1}";
+
+const PUT: &[u8] =
+    b"PUT /v3/envelopes/00010203-0405-0607-0809-0a0b0c0d0eff/additional-documents/abababababababababababababababababababababababababababababababab HTTP/1.1\r\nhost: pint\r\ncontent-length: 10\r\n\r\nabcdefghij";
+
+const FINISH: &[u8] =
+    b"PUT /v3/envelopes/00010203-0405-0607-0809-0a0b0c0d0eff/finish-transfer HTTP/1.1\r\nhost: pint\r\ncontent-length: 0\r\n\r\n";
 
 #[test]
 fn one_request_for_each_message(rt: HostRuntime) -> Result<(), Fail> {
-    let alloc = rt.alloc();
-    let to = beta()?;
-    let text = written(alloc, &start(alloc, to, b"{\"a\":1}")?)?;
-    assert_eq!(rt;
-        text.as_slice(),
-        b"POST /v3/envelopes HTTP/1.1\r\nhost: pint\r\ncontent-length: 7\r\n\r\n{\"a\":1}".as_slice()
-    );
-    let text = written(alloc, &put(alloc, to, b"abcdefghij")?)?;
-    assert_eq!(rt;
-        text.as_slice(),
-        b"PUT /v3/envelopes/00010203-0405-0607-0809-0a0b0c0d0eff/additional-documents/abababababababababababababababababababababababababababababababab HTTP/1.1\r\nhost: pint\r\ncontent-length: 10\r\n\r\nabcdefghij".as_slice()
-    );
-    let text = written(alloc, &finish(to))?;
-    assert_eq!(rt;
-        text.as_slice(),
-        b"PUT /v3/envelopes/00010203-0405-0607-0809-0a0b0c0d0eff/finish-transfer HTTP/1.1\r\nhost: pint\r\ncontent-length: 0\r\n\r\n".as_slice()
-    );
+    writes(&rt, rt.alloc(), &start(rt.alloc(), b"{\"a\":1}")?, START)?;
+    writes(&rt, rt.alloc(), &put(rt.alloc(), b"abcdefghij")?, PUT)?;
+    writes(&rt, rt.alloc(), &finish()?, FINISH)
+}
+
+// ---- what comes
+
+// What an exchange gives: a reply of this status with this body, or why there is none.
+#[derive(Clone, Copy, Debug)]
+enum Got<'a> {
+    Reply(u16, &'a [u8]),
+    BadReply,
+    Fault,
+}
+
+fn is_got<'a>(answer: &Result<Incoming, ClientFault>, got: Got<'a>) -> bool {
+    match (answer, got) {
+        (Ok(incoming), Got::Reply(status, body)) => {
+            incoming.status == status && incoming.body.as_slice() == body
+        }
+        (Err(ClientFault::BadReply), Got::BadReply) => true,
+        (Err(ClientFault::Fault), Got::Fault) => true,
+        _ => false,
+    }
+}
+
+// Whether an exchange of a Finish over this link gives that.
+fn link_gives<'a>(alloc: Global, link: &mut MemoryLink, got: Got<'a>) -> Result<bool, Fail> {
+    let answer = exchange(alloc, link, &finish()?);
+    Ok(is_got(&answer, got))
+}
+
+// Whether it does over a link that hands out these bytes.
+fn gives<'a>(alloc: Global, came: &[u8], got: Got<'a>) -> Result<bool, Fail> {
+    link_gives(alloc, &mut link_of(alloc, came)?, got)
+}
+
+// The bytes that come, and what the exchange gives.
+type Row = (&'static [u8], Got<'static>);
+
+fn assert_rows<R: Abort>(rt: &R, alloc: Global, rows: &[Row]) -> Result<(), Fail> {
+    for (came, got) in rows {
+        assert!(rt; gives(alloc, came, *got)?, "{came:?}");
+    }
     Ok(())
 }
 
-// A head with this line behind the status line, and five bytes of a body.
-fn with_line(
-    alloc: Global,
-    to: PlatformCode,
-    status: &str,
-    line: &str,
-) -> Result<Result<Incoming, ClientFault>, Fail> {
-    let came = format!(in alloc; "HTTP/1.1 {status}\r\n{line}\r\n\r\nabcde")?;
-    Ok(reply_to_finish(alloc, to, came.as_bytes())?)
+const EXCHANGES: [Row; 3] = [
+    (
+        b"HTTP/1.1 404 Not Found\r\ncontent-length: 0\r\n\r\n",
+        Got::Reply(404, b""),
+    ),
+    (b"hello", Got::BadReply),
+    (b"", Got::BadReply),
+];
+
+#[test]
+fn client_exchange(rt: HostRuntime) -> Result<(), Fail> {
+    assert_rows(&rt, rt.alloc(), &EXCHANGES)
 }
+
+// ---- lengths
+
+// The status line from the status on, a line behind it, and what the exchange gives if five bytes follow the head.
+type LineRow = (&'static str, &'static str, Got<'static>);
+
+// A head with this line behind the status line, and five bytes.
+fn with_line(alloc: Global, status: &str, line: &str) -> Result<String, AllocError> {
+    format!(in alloc; "HTTP/1.1 {status}\r\n{line}\r\n\r\nabcde")
+}
+
+fn assert_lines<R: Abort>(rt: &R, alloc: Global, rows: &[LineRow]) -> Result<(), Fail> {
+    for (status, line, got) in rows {
+        let came = with_line(alloc, status, line)?;
+        assert!(rt; gives(alloc, came.as_bytes(), *got)?, "{status} {line}");
+    }
+    Ok(())
+}
+
+const FIVE: Got<'static> = Got::Reply(200, b"abcde");
+
+const STATED: [LineRow; 10] = [
+    ("200 OK", "content-length: 5", FIVE),
+    ("200 OK", "Content-Length:5", FIVE),
+    ("200 OK", "CONTENT-LENGTH: \t5 ", FIVE),
+    ("200 OK", "content-length: 00005", FIVE),
+    ("200 OK", "content-length: 0000000000000000005", FIVE),
+    ("200 OK", "content-length: 5\r\ncontent-length: 5", FIVE),
+    (
+        "200 OK",
+        "x: y\r\ncontent-length: 5\r\nconnection: close",
+        FIVE,
+    ),
+    ("200 OK", "content-length: 5\nx:", FIVE),
+    ("409", "content-length: 3", Got::Reply(409, b"abc")),
+    ("000 ", "content-length: 0", Got::Reply(0, b"")),
+];
 
 #[test]
 fn lengths_that_are_stated(rt: HostRuntime) -> Result<(), Fail> {
-    let alloc = rt.alloc();
-    let to = beta()?;
-    for line in [
-        "content-length: 5",
-        "Content-Length:5",
-        "CONTENT-LENGTH: \t5 ",
-        "content-length: 00005",
-        "content-length: 0000000000000000005",
-        "content-length: 5\r\ncontent-length: 5",
-        "x: y\r\ncontent-length: 5\r\nconnection: close",
-        "content-length: 5\nx:",
-    ] {
-        assert!(rt;
-            is_reply(&with_line(alloc, to, "200 OK", line)?, 200, b"abcde"),
-            "{line}"
-        );
-    }
-    assert!(rt;
-        is_reply(
-            &with_line(alloc, to, "409", "content-length: 3")?,
-            409,
-            b"abc"
-        )
-    );
-    assert!(rt; is_reply(&with_line(alloc, to, "000 ", "content-length: 0")?, 0, b""));
-    Ok(())
+    assert_lines(&rt, rt.alloc(), &STATED)
 }
+
+const NO_LENGTHS: [LineRow; 16] = [
+    ("200 OK", "x: y", Got::BadReply),
+    ("200 OK", "content-length:", Got::BadReply),
+    ("200 OK", "content-length: +5", Got::BadReply),
+    ("200 OK", "content-length: -5", Got::BadReply),
+    ("200 OK", "content-length: 5a", Got::BadReply),
+    ("200 OK", "content-length: 5, 5", Got::BadReply),
+    (
+        "200 OK",
+        "content-length: 00000000000000000005",
+        Got::BadReply,
+    ),
+    (
+        "200 OK",
+        "content-length: 5\r\ncontent-length: 05",
+        Got::BadReply,
+    ),
+    (
+        "200 OK",
+        "content-length: 5\r\ncontent-length: 4",
+        Got::BadReply,
+    ),
+    ("200 OK", "content-length: 6", Got::BadReply),
+    ("200 OK", "content-length: 4194305", Got::BadReply),
+    (
+        "200 OK",
+        "content-length: 9999999999999999999",
+        Got::BadReply,
+    ),
+    (
+        "200 OK",
+        "content-length: 5\r\ntransfer-encoding: identity",
+        Got::BadReply,
+    ),
+    ("200 OK", "transfer-encoding: chunked", Got::BadReply),
+    ("100 Continue", "x: y", Got::BadReply),
+    ("304 Not Modified", "x: y", Got::BadReply),
+];
 
 #[test]
 fn lengths_that_are_none(rt: HostRuntime) -> Result<(), Fail> {
-    let alloc = rt.alloc();
-    let to = beta()?;
-    for line in [
-        "x: y",
-        "content-length:",
-        "content-length: +5",
-        "content-length: -5",
-        "content-length: 5a",
-        "content-length: 5, 5",
-        "content-length: 00000000000000000005",
-        "content-length: 5\r\ncontent-length: 05",
-        "content-length: 5\r\ncontent-length: 4",
-        "content-length: 6",
-        "content-length: 4194305",
-        "content-length: 9999999999999999999",
-        "content-length: 5\r\ntransfer-encoding: identity",
-        "transfer-encoding: chunked",
-    ] {
-        assert!(rt;
-            is_bad_reply(&with_line(alloc, to, "200 OK", line)?),
-            "{line}"
-        );
-    }
-    assert!(rt; is_bad_reply(&with_line(alloc, to, "100 Continue", "x: y")?));
-    assert!(rt; is_bad_reply(&with_line(alloc, to, "304 Not Modified", "x: y")?));
-    Ok(())
+    assert_lines(&rt, rt.alloc(), &NO_LENGTHS)
 }
+
+const BARE: Got<'static> = Got::Reply(204, b"");
+
+const WITHOUT_BODY: [LineRow; 4] = [
+    ("204 No Content", "x: y", BARE),
+    ("204 No Content", "content-length: 5", BARE),
+    ("204 No Content", "content-length: no", BARE),
+    ("204 No Content", "transfer-encoding: chunked", BARE),
+];
 
 // RFC 9112, section 6.3: with the status 204 the reply ends with its head, whatever the fields are.
 #[test]
 fn a_204_has_no_body(rt: HostRuntime) -> Result<(), Fail> {
-    let alloc = rt.alloc();
-    let to = beta()?;
-    for line in [
-        "x: y",
-        "content-length: 5",
-        "content-length: no",
-        "transfer-encoding: chunked",
-    ] {
-        assert!(rt;
-            is_reply(&with_line(alloc, to, "204 No Content", line)?, 204, b""),
-            "{line}"
-        );
-    }
-    Ok(())
+    assert_lines(&rt, rt.alloc(), &WITHOUT_BODY)
 }
+
+// ---- heads
+
+const HEADS: [Row; 11] = [
+    (
+        b"HTTP/1.0 200 OK\r\ncontent-length: 1\r\n\r\na",
+        Got::Reply(200, b"a"),
+    ),
+    (
+        b"\r\n\nHTTP/1.1 200\ncontent-length: 1\n\na",
+        Got::Reply(200, b"a"),
+    ),
+    (
+        b"HTTP/1.1 200 \r\ncontent-length: 1\r\n\r\nafter",
+        Got::Reply(200, b"a"),
+    ),
+    (
+        b"HTTP/2.0 200 OK\r\ncontent-length: 1\r\n\r\na",
+        Got::BadReply,
+    ),
+    (
+        b"HTTP/1.1 20 OK\r\ncontent-length: 1\r\n\r\na",
+        Got::BadReply,
+    ),
+    (
+        b"HTTP/1.1 2000 OK\r\ncontent-length: 1\r\n\r\na",
+        Got::BadReply,
+    ),
+    (
+        b"http/1.1 200 OK\r\ncontent-length: 1\r\n\r\na",
+        Got::BadReply,
+    ),
+    (
+        b"HTTP/1.1 200 OK\r\ncontent length: 1\r\n\r\na",
+        Got::BadReply,
+    ),
+    (
+        b"HTTP/1.1 200 OK\r\n content-length: 1\r\n\r\na",
+        Got::BadReply,
+    ),
+    (
+        b"GET / HTTP/1.1\r\ncontent-length: 1\r\n\r\na",
+        Got::BadReply,
+    ),
+    (b"\r\n\r\n\r\n", Got::BadReply),
+];
 
 #[test]
 fn heads_and_what_is_none(rt: HostRuntime) -> Result<(), Fail> {
-    let alloc = rt.alloc();
-    let to = beta()?;
-    for came in [
-        "HTTP/1.0 200 OK\r\ncontent-length: 1\r\n\r\na",
-        "\r\n\nHTTP/1.1 200\ncontent-length: 1\n\na",
-        "HTTP/1.1 200 \r\ncontent-length: 1\r\n\r\nafter",
-    ] {
-        assert!(rt;
-            is_reply(&reply_to_finish(alloc, to, came.as_bytes())?, 200, b"a"),
-            "{came}"
-        );
-    }
-    for came in [
-        "HTTP/2.0 200 OK\r\ncontent-length: 1\r\n\r\na",
-        "HTTP/1.1 20 OK\r\ncontent-length: 1\r\n\r\na",
-        "HTTP/1.1 2000 OK\r\ncontent-length: 1\r\n\r\na",
-        "http/1.1 200 OK\r\ncontent-length: 1\r\n\r\na",
-        "HTTP/1.1 200 OK\r\ncontent length: 1\r\n\r\na",
-        "HTTP/1.1 200 OK\r\n content-length: 1\r\n\r\na",
-        "GET / HTTP/1.1\r\ncontent-length: 1\r\n\r\na",
-        "\r\n\r\n\r\n",
-    ] {
-        assert!(rt;
-            is_bad_reply(&reply_to_finish(alloc, to, came.as_bytes())?),
-            "{came}"
-        );
-    }
-    Ok(())
+    assert_rows(&rt, rt.alloc(), &HEADS)
+}
+
+// ---- pieces, cuts and faults
+
+const CREATED: &[u8] =
+    b"\r\nHTTP/1.1 201 Created\r\ncontent-type: application/json\r\ncontent-length: 12\r\n\r\n{\"body\":1234";
+
+// A link that hands out these bytes in pieces of this size, and fails at these calls.
+fn link_in_pieces(
+    alloc: Global,
+    came: &[u8],
+    size: usize,
+    fails: &[u64],
+) -> Result<MemoryLink, NoMemory> {
+    let bytes = ByteList::from_slice(alloc, came)?;
+    let pieces = PieceList::from_vec(vec![in alloc; size; 100]?);
+    let fails = CallList::from_slice(alloc, fails)?;
+    Ok(MemoryLink::in_pieces(alloc, bytes, pieces, fails))
+}
+
+fn gives_in_pieces<'a>(alloc: Global, size: usize, got: Got<'a>) -> Result<bool, Fail> {
+    link_gives(alloc, &mut link_in_pieces(alloc, CREATED, size, &[])?, got)
 }
 
 // The same reply in pieces of each size, and cut at each byte.
 #[test]
 fn every_piece_and_every_cut(rt: HostRuntime) -> Result<(), Fail> {
-    let alloc = rt.alloc();
-    let to = beta()?;
-    let came =
-        b"\r\nHTTP/1.1 201 Created\r\ncontent-type: application/json\r\ncontent-length: 12\r\n\r\n{\"body\":1234";
-    for size in 1..came.len() + 1 {
-        let sizes = vec![in alloc; size; 100]?;
-        let pieces = PieceList::from_vec(sizes);
-        let bytes = ByteList::from_slice(alloc, came)?;
-        let mut link = MemoryLink::in_pieces(alloc, bytes, pieces, CallList::new(alloc));
-        let got = exchange(alloc, &mut link, &finish(to));
-        assert!(rt; is_reply(&got, 201, b"{\"body\":1234"), "{size}");
+    let whole = Got::Reply(201, b"{\"body\":1234");
+    for size in 1..CREATED.len() + 1 {
+        assert!(rt; gives_in_pieces(rt.alloc(), size, whole)?, "{size}");
     }
-    for cut in 0..came.len() {
-        assert!(rt;
-            is_bad_reply(&reply_to_finish(alloc, to, &came[..cut])?),
-            "{cut}"
-        );
+    for cut in 0..CREATED.len() {
+        let front = CREATED.get(..cut).ok_or("a front")?;
+        assert!(rt; gives(rt.alloc(), front, Got::BadReply)?, "{cut}");
     }
+    Ok(())
+}
+
+const SHORT: &[u8] = b"HTTP/1.1 200 OK\r\ncontent-length: 2\r\n\r\nab";
+
+// The bytes that a Put of `abc` writes.
+const PUT_OF_ABC: &[u8] =
+    b"PUT /v3/envelopes/00010203-0405-0607-0809-0a0b0c0d0eff/additional-documents/abababababababababababababababababababababababababababababababab HTTP/1.1\r\nhost: pint\r\ncontent-length: 3\r\n\r\nabc";
+
+// The call that is one past the last: no call fails there.
+const NO_CALL: u64 = SHORT.len() as u64 + 2;
+
+// What the exchange gives where this call fails.
+fn got_where_failed(call: u64) -> Got<'static> {
+    if call == NO_CALL {
+        Got::Reply(200, b"ab")
+    } else {
+        Got::Fault
+    }
+}
+
+// How many bytes are written there.
+fn sent_where_failed(call: u64) -> usize {
+    match call {
+        0 => 0,
+        1 => PUT_OF_ABC.len() - 3,
+        _ => PUT_OF_ABC.len(),
+    }
+}
+
+fn failed_row<R: Abort>(rt: &R, alloc: Global, out: &Message, call: u64) -> Result<(), Fail> {
+    let mut link = link_in_pieces(alloc, SHORT, 1, &[call])?;
+    let is_well = is_got(&exchange(alloc, &mut link, out), got_where_failed(call));
+    assert!(rt; is_well, "{call}");
+    assert_eq!(rt; link.faults(), if call == NO_CALL { 0 } else { 1 });
+    assert_eq!(rt; link.written().len(), sent_where_failed(call));
     Ok(())
 }
 
 // Calls 0 and 1 write the head and the body of a Put, and each later one reads one byte.
 #[test]
 fn each_call_of_the_link_failed(rt: HostRuntime) -> Result<(), Fail> {
-    let alloc = rt.alloc();
-    let to = beta()?;
-    let came = b"HTTP/1.1 200 OK\r\ncontent-length: 2\r\n\r\nab";
-    let out = put(alloc, to, b"abc")?;
-    let whole = written(alloc, &out)?;
-    for call in 0..came.len() as u64 + 3 {
-        let pieces = PieceList::from_vec(vec![in alloc; 1; 100]?);
-        let fails = CallList::from_slice(alloc, &[call])?;
-        let bytes = ByteList::from_slice(alloc, came)?;
-        let mut link = MemoryLink::in_pieces(alloc, bytes, pieces, fails);
-        let got = exchange(alloc, &mut link, &out);
-        let last = call == came.len() as u64 + 2;
-        assert!(rt;
-            if last {
-                is_reply(&got, 200, b"ab")
-            } else {
-                is_fault(&got)
-            },
-            "{call}"
-        );
-        assert_eq!(rt; link.faults(), if last { 0 } else { 1 });
-        let sent = match call {
-            0 => 0,
-            1 => whole.len().saturating_sub(3),
-            _ => whole.len(),
-        };
-        assert_eq!(rt; link.written().len(), sent);
+    let out = put(rt.alloc(), b"abc")?;
+    writes(&rt, rt.alloc(), &out, PUT_OF_ABC)?;
+    for call in 0..NO_CALL + 1 {
+        failed_row(&rt, rt.alloc(), &out, call)?;
     }
     Ok(())
 }
+
+// ---- limits
 
 // A reply whose head has so many bytes.
 fn padded(alloc: Global, size: usize) -> Result<Vec<u8>, AllocError> {
@@ -299,25 +375,16 @@ fn padded(alloc: Global, size: usize) -> Result<Vec<u8>, AllocError> {
     Ok(came)
 }
 
+const AB: Got<'static> = Got::Reply(200, b"ab");
+
+const SIZES: [(usize, Got<'static>); 3] = [(16_383, AB), (16_384, AB), (16_385, Got::BadReply)];
+
 #[test]
 fn the_longest_head(rt: HostRuntime) -> Result<(), Fail> {
-    let alloc = rt.alloc();
-    let to = beta()?;
-    assert!(rt;
-        is_reply(
-            &reply_to_finish(alloc, to, &padded(alloc, 16_383)?)?,
-            200,
-            b"ab"
-        )
-    );
-    assert!(rt;
-        is_reply(
-            &reply_to_finish(alloc, to, &padded(alloc, 16_384)?)?,
-            200,
-            b"ab"
-        )
-    );
-    assert!(rt; is_bad_reply(&reply_to_finish(alloc, to, &padded(alloc, 16_385)?)?));
+    for (size, got) in &SIZES {
+        let came = padded(rt.alloc(), *size)?;
+        assert!(rt; gives(rt.alloc(), &came, *got)?, "{size}");
+    }
     Ok(())
 }
 
@@ -331,42 +398,49 @@ fn with_fields(alloc: Global, count: usize) -> Result<Vec<u8>, AllocError> {
     Ok(came)
 }
 
+const FIELDS: [(usize, Got<'static>); 2] = [(64, AB), (65, Got::BadReply)];
+
 #[test]
 fn the_most_fields(rt: HostRuntime) -> Result<(), Fail> {
-    let alloc = rt.alloc();
-    let to = beta()?;
-    assert!(rt;
-        is_reply(
-            &reply_to_finish(alloc, to, &with_fields(alloc, 64)?)?,
-            200,
-            b"ab"
-        )
-    );
-    assert!(rt; is_bad_reply(&reply_to_finish(alloc, to, &with_fields(alloc, 65)?)?));
+    for (count, got) in &FIELDS {
+        let came = with_fields(rt.alloc(), *count)?;
+        assert!(rt; gives(rt.alloc(), &came, *got)?, "{count}");
+    }
     Ok(())
 }
 
-// The longest body, with further bytes behind it: those that came with the head are dropped, the others left.
+// A reply with the longest body, and further bytes behind it.
+fn longest(alloc: Global) -> Result<Vec<u8>, AllocError> {
+    let head = b"HTTP/1.1 200 OK\r\ncontent-length: 4194304\r\n\r\n";
+    let mut came = Vec::from_slice(alloc, head)?;
+    came.resize(head.len() + 4_194_304, b'z')?;
+    came.extend_from_slice(b"behind")?;
+    Ok(came)
+}
+
+fn is_longest(answer: &Result<Incoming, ClientFault>) -> bool {
+    match answer {
+        Ok(incoming) => {
+            incoming.body.len() == 4_194_304 && incoming.body.as_slice().iter().all(|b| *b == b'z')
+        }
+        Err(_) => false,
+    }
+}
+
+// Of further bytes those that came with the head are dropped, the others left.
 #[test]
 fn the_longest_body(rt: HostRuntime) -> Result<(), Fail> {
-    let alloc = rt.alloc();
-    let to = beta()?;
-    let mut came = Vec::from_slice(alloc, b"HTTP/1.1 200 OK\r\ncontent-length: 4194304\r\n\r\n")?;
-    let head = came.len();
-    came.resize(head + 4_194_304, b'z')?;
-    came.extend_from_slice(b"behind")?;
-    let mut link = MemoryLink::new(alloc, ByteList::from_vec(came), CallList::new(alloc));
-    match exchange(alloc, &mut link, &finish(to)) {
-        Ok(incoming) => {
-            assert_eq!(rt; incoming.body.len(), 4_194_304);
-            assert!(rt; incoming.body.as_slice().iter().all(|b| *b == b'z'));
-        }
-        Err(fault) => panic!(rt; "{fault:?}"),
-    }
+    let mut link = link_of(rt.alloc(), &longest(rt.alloc())?)?;
+    let is_well = is_longest(&exchange(rt.alloc(), &mut link, &finish()?));
+    assert!(rt; is_well);
     assert_eq!(rt; link.left(), b"behind".as_slice());
-    let mut link = link_of(alloc, b"HTTP/1.1 204 No Content\r\n\r\nbehind", &[])?;
-    let got = exchange(alloc, &mut link, &finish(to));
-    assert!(rt; is_reply(&got, 204, b""));
+    Ok(())
+}
+
+#[test]
+fn bytes_behind_a_head(rt: HostRuntime) -> Result<(), Fail> {
+    let mut link = link_of(rt.alloc(), b"HTTP/1.1 204 No Content\r\n\r\nbehind")?;
+    assert!(rt; link_gives(rt.alloc(), &mut link, BARE)?);
     assert_eq!(rt; link.left().len(), 0);
     Ok(())
 }

@@ -31,18 +31,10 @@ fn asks(
     Ok(plans.plan_of(&head))
 }
 
-fn awaits(route: Route, length: u64, keeps: bool) -> Plan {
-    Plan::Await {
-        route,
-        length,
-        keeps,
-    }
-}
-
 // ---- where a head ends
 
 // The end of a head in these bytes, which is found alike if they come in two parts.
-fn scan_row(rt: &impl Abort, bytes: &[u8], end: usize) {
+fn scan_row<R: Abort>(rt: &R, bytes: &[u8], end: usize) {
     assert!(rt; end <= bytes.len());
     assert_eq!(rt; Scan::Blank.over(0, bytes), Ok(end));
     for at in 0..end {
@@ -54,124 +46,165 @@ fn scan_row(rt: &impl Abort, bytes: &[u8], end: usize) {
 }
 
 // RFC 9112, section 2.2: a recipient may take LF alone for a line's end, and should pass over empty lines in front.
+const ENDS: [(&[u8], usize); 4] = [
+    (b"GET / HTTP/1.1\r\n\r\nbody", 18),
+    (b"GET / HTTP/1.1\n\nbody", 16),
+    (b"\r\n\n\r\nGET / HTTP/1.1\r\na: b\r\n\n", 28),
+    (b"a\r\r\n\r\n\r\n", 6),
+];
+
 #[test]
 fn ends_of_heads(rt: HostRuntime) {
-    scan_row(&rt, b"GET / HTTP/1.1\r\n\r\nbody", 18);
-    scan_row(&rt, b"GET / HTTP/1.1\n\nbody", 16);
-    scan_row(&rt, b"\r\n\n\r\nGET / HTTP/1.1\r\na: b\r\n\n", 28);
-    scan_row(&rt, b"a\r\r\n\r\n\r\n", 6);
+    for (bytes, end) in &ENDS {
+        scan_row(&rt, bytes, *end);
+    }
 }
+
+const ENDLESS: [(usize, &[u8], Scan); 3] = [
+    (0, b"", Scan::Blank),
+    (0, b"\r\n\r\n\n", Scan::Blank),
+    (7, b"GET / HTTP/1.1\r\n\r", Scan::Return),
+];
 
 #[test]
 fn bytes_without_an_end(rt: HostRuntime) {
-    assert_eq!(rt; Scan::Blank.over(0, b""), Err(Scan::Blank));
-    assert_eq!(rt; Scan::Blank.over(0, b"\r\n\r\n\n"), Err(Scan::Blank));
-    assert_eq!(rt;
-        Scan::Blank.over(7, b"GET / HTTP/1.1\r\n\r"),
-        Err(Scan::Return)
-    );
+    for (at, bytes, state) in &ENDLESS {
+        assert_eq!(rt; Scan::Blank.over(*at, bytes), Err(*state));
+    }
 }
 
 // ---- what heads ask for
 
-#[test]
-fn bodies_of_a_stated_length(rt: HostRuntime) -> Result<(), Fail> {
-    let alloc = rt.alloc();
+// Asserts what a head asks for, of which these bytes are a part.
+fn assert_plan<R: Abort>(rt: &R, plan: Plan, want: Plan, of: &[u8]) {
+    assert_eq!(rt; plan, want, "{of:?}");
+}
+
+// A method, a path, the lines from the version on, and what the head asks for.
+type Row = (&'static [u8], &'static [u8], &'static [u8], Plan);
+
+fn assert_rows<R: Abort>(rt: &R, alloc: Global, rows: &[Row]) -> Result<(), Fail> {
     let plans = Plans::new(alloc)?;
-    let most = asks(
-        alloc,
-        &plans,
+    for (method, path, rest, plan) in rows {
+        assert_plan(rt, asks(alloc, &plans, method, path, rest)?, *plan, rest);
+    }
+    Ok(())
+}
+
+const STATED: [Row; 4] = [
+    (
         b"POST",
         START,
         b"HTTP/1.1\r\nContent-Length: 4194304",
-    )?;
-    assert_eq!(rt; most, awaits(Route::Start, MAX_BODY, true));
-    let zeros = asks(
-        alloc,
-        &plans,
+        Plan::Await {
+            route: Route::Start,
+            length: MAX_BODY,
+            keeps: true,
+        },
+    ),
+    (
         b"PUT",
         DOCUMENT,
         b"HTTP/1.1\r\ncontent-length: 0000000000000000007",
-    )?;
-    let document = Route::Document {
-        reference: REFERENCE,
-        checksum: CHECKSUM,
-    };
-    assert_eq!(rt; zeros, awaits(document, 7, true));
-    let twice = asks(
-        alloc,
-        &plans,
+        Plan::Await {
+            route: Route::Document {
+                reference: REFERENCE,
+                checksum: CHECKSUM,
+            },
+            length: 7,
+            keeps: true,
+        },
+    ),
+    (
         b"POST",
         VALIDATION,
         b"HTTP/1.1\r\nContent-Length: 23\r\ncontent-length: 23",
-    )?;
-    assert_eq!(rt; twice, awaits(Route::Validation, 23, true));
-    let none = asks(
-        alloc,
-        &plans,
+        Plan::Await {
+            route: Route::Validation,
+            length: 23,
+            keeps: true,
+        },
+    ),
+    (
         b"POST",
         COMMAND,
         b"HTTP/1.1\r\nCONTENT-LENGTH:0",
-    )?;
-    assert_eq!(rt; none, awaits(Route::Command, 0, true));
-    Ok(())
-}
+        Plan::Await {
+            route: Route::Command,
+            length: 0,
+            keeps: true,
+        },
+    ),
+];
 
 #[test]
-fn requests_that_need_no_length(rt: HostRuntime) -> Result<(), Fail> {
-    let alloc = rt.alloc();
-    let plans = Plans::new(alloc)?;
-    let finish = Route::Finish {
-        reference: REFERENCE,
-    };
-    let bill = Route::Bill { bill: CHECKSUM };
-    let unstated = asks(alloc, &plans, b"PUT", FINISH, b"HTTP/1.1")?;
-    assert_eq!(rt; unstated, awaits(finish, 0, true));
-    let unstated = asks(alloc, &plans, b"GET", BILL, b"HTTP/1.1")?;
-    assert_eq!(rt; unstated, awaits(bill, 0, true));
-    let stated = asks(
-        alloc,
-        &plans,
+fn bodies_of_a_stated_length(rt: HostRuntime) -> Result<(), Fail> {
+    assert_rows(&rt, rt.alloc(), &STATED)
+}
+
+// A question without a body, after which the link may stay open, or not.
+const OPEN: Plan = Plan::Await {
+    route: Route::Bill { bill: CHECKSUM },
+    length: 0,
+    keeps: true,
+};
+
+const CLOSED: Plan = Plan::Await {
+    route: Route::Bill { bill: CHECKSUM },
+    length: 0,
+    keeps: false,
+};
+
+const UNSTATED: [Row; 3] = [
+    (
+        b"PUT",
+        FINISH,
+        b"HTTP/1.1",
+        Plan::Await {
+            route: Route::Finish {
+                reference: REFERENCE,
+            },
+            length: 0,
+            keeps: true,
+        },
+    ),
+    (b"GET", BILL, b"HTTP/1.1", OPEN),
+    (
         b"GET",
         BILL,
         b"HTTP/1.1\r\ncontent-length: 12",
-    )?;
-    assert_eq!(rt; stated, awaits(bill, 12, true));
-    Ok(())
-}
-
-const OPEN: [&[u8]; 4] = [
-    b"HTTP/1.1",
-    b"HTTP/1.1\r\nconnection: keep-alive",
-    b"HTTP/1.1\r\nconnection: close, te",
-    b"HTTP/1.1\r\nproxy-connection: close",
+        Plan::Await {
+            route: Route::Bill { bill: CHECKSUM },
+            length: 12,
+            keeps: true,
+        },
+    ),
 ];
 
-const CLOSED: [&[u8]; 4] = [
-    b"HTTP/1.0",
-    b"HTTP/1.0\r\nconnection: keep-alive",
-    b"HTTP/1.1\r\nConnection: CLOSE",
-    b"HTTP/1.1\nconnection: te\nconnection:\tclose ",
+#[test]
+fn requests_that_need_no_length(rt: HostRuntime) -> Result<(), Fail> {
+    assert_rows(&rt, rt.alloc(), &UNSTATED)
+}
+
+const LINKS: [Row; 8] = [
+    (b"GET", BILL, b"HTTP/1.1", OPEN),
+    (b"GET", BILL, b"HTTP/1.1\r\nconnection: keep-alive", OPEN),
+    (b"GET", BILL, b"HTTP/1.1\r\nconnection: close, te", OPEN),
+    (b"GET", BILL, b"HTTP/1.1\r\nproxy-connection: close", OPEN),
+    (b"GET", BILL, b"HTTP/1.0", CLOSED),
+    (b"GET", BILL, b"HTTP/1.0\r\nconnection: keep-alive", CLOSED),
+    (b"GET", BILL, b"HTTP/1.1\r\nConnection: CLOSE", CLOSED),
+    (
+        b"GET",
+        BILL,
+        b"HTTP/1.1\nconnection: te\nconnection:\tclose ",
+        CLOSED,
+    ),
 ];
 
 #[test]
 fn links_that_may_stay_open(rt: HostRuntime) -> Result<(), Fail> {
-    let alloc = rt.alloc();
-    let plans = Plans::new(alloc)?;
-    let bill = Route::Bill { bill: CHECKSUM };
-    for rest in OPEN {
-        assert_eq!(rt;
-            asks(alloc, &plans, b"GET", BILL, rest)?,
-            awaits(bill, 0, true)
-        );
-    }
-    for rest in CLOSED {
-        assert_eq!(rt;
-            asks(alloc, &plans, b"GET", BILL, rest)?,
-            awaits(bill, 0, false)
-        );
-    }
-    Ok(())
+    assert_rows(&rt, rt.alloc(), &LINKS)
 }
 
 const REFERENCES: [&[u8]; 4] = [
@@ -181,63 +214,74 @@ const REFERENCES: [&[u8]; 4] = [
     b"urn:uuid:00112233-4455-6677-8899-aabbccddeeff",
 ];
 
+const SPELT: Plan = Plan::Await {
+    route: Route::Finish {
+        reference: Reference([
+            0, 17, 34, 51, 68, 85, 102, 119, 136, 153, 170, 187, 204, 221, 238, 255,
+        ]),
+    },
+    length: 0,
+    keeps: true,
+};
+
+// What a finish of this reference asks for.
+fn finish_plan(alloc: Global, plans: &Plans, text: &[u8]) -> Result<Plan, NoMemory> {
+    let path = joined(alloc, &[b"/v3/envelopes/", text, b"/finish-transfer"])?;
+    asks(alloc, plans, b"PUT", &path, b"HTTP/1.1")
+}
+
 #[test]
 fn spellings_of_a_reference(rt: HostRuntime) -> Result<(), Fail> {
-    let alloc = rt.alloc();
-    let plans = Plans::new(alloc)?;
-    let reference = Reference([
-        0, 17, 34, 51, 68, 85, 102, 119, 136, 153, 170, 187, 204, 221, 238, 255,
-    ]);
-    for text in REFERENCES {
-        let path = joined(alloc, &[b"/v3/envelopes/", text, b"/finish-transfer"])?;
-        let plan = asks(alloc, &plans, b"PUT", &path, b"HTTP/1.1")?;
-        assert_eq!(rt; plan, awaits(Route::Finish { reference }, 0, true));
+    let plans = Plans::new(rt.alloc())?;
+    for text in &REFERENCES {
+        assert_plan(&rt, finish_plan(rt.alloc(), &plans, text)?, SPELT, text);
     }
     Ok(())
 }
 
 // ---- paths that are none of the six
 
-fn assert_no_route(
-    rt: &impl Abort,
+const NO_ROUTE: Plan = Plan::Refuse(Status::NotFound);
+
+fn assert_no_route<R: Abort>(
+    rt: &R,
     alloc: Global,
     plans: &Plans,
     parts: &[&[u8]],
 ) -> Result<(), NoMemory> {
     let path = joined(alloc, parts)?;
-    let plan = asks(
-        alloc,
-        plans,
-        b"POST",
+    let rest = b"HTTP/1.1\r\ncontent-length: 0";
+    assert_plan(
+        rt,
+        asks(alloc, plans, b"POST", &path, rest)?,
+        NO_ROUTE,
         &path,
-        b"HTTP/1.1\r\ncontent-length: 0",
-    )?;
-    assert_eq!(rt; plan, Plan::Refuse(Status::NotFound), "{path:?}");
+    );
     Ok(())
 }
 
 // A path with one byte left out, and with one twice, has no route; nor has it one behind a further byte at its end.
-fn near_paths(rt: &impl Abort, alloc: Global, path: &[u8]) -> Result<(), NoMemory> {
-    let plans = Plans::new(alloc)?;
+const ENDINGS: [&[u8]; 5] = [b"/", b"?", b"#", b"x", b"*"];
+
+fn near_paths<R: Abort>(rt: &R, alloc: Global, plans: &Plans, path: &[u8]) -> Result<(), NoMemory> {
     for at in 0..path.len() {
-        assert_no_route(rt, alloc, &plans, &[&path[..at], &path[at + 1..]])?;
-        assert_no_route(rt, alloc, &plans, &[&path[..at + 1], &path[at..]])?;
+        assert_no_route(rt, alloc, plans, &[&path[..at], &path[at + 1..]])?;
+        assert_no_route(rt, alloc, plans, &[&path[..at + 1], &path[at..]])?;
     }
-    for end in [b"/", b"?", b"#", b"x", b"*"] {
-        assert_no_route(rt, alloc, &plans, &[path, end])?;
+    for end in &ENDINGS {
+        assert_no_route(rt, alloc, plans, &[path, end])?;
     }
     Ok(())
 }
 
+const SIX: [&[u8]; 6] = [START, DOCUMENT, FINISH, VALIDATION, COMMAND, BILL];
+
 #[test]
 fn paths_near_the_six(rt: HostRuntime) -> Result<(), Fail> {
-    let alloc = rt.alloc();
-    near_paths(&rt, alloc, START)?;
-    near_paths(&rt, alloc, DOCUMENT)?;
-    near_paths(&rt, alloc, FINISH)?;
-    near_paths(&rt, alloc, VALIDATION)?;
-    near_paths(&rt, alloc, COMMAND)?;
-    near_paths(&rt, alloc, BILL)?;
+    let plans = Plans::new(rt.alloc())?;
+    for path in &SIX {
+        near_paths(&rt, rt.alloc(), &plans, path)?;
+    }
     Ok(())
 }
 
@@ -264,7 +308,7 @@ const OTHERS: [&[u8]; 16] = [
 fn other_paths(rt: HostRuntime) -> Result<(), Fail> {
     let alloc = rt.alloc();
     let plans = Plans::new(alloc)?;
-    for path in OTHERS {
+    for path in &OTHERS {
         assert_no_route(&rt, alloc, &plans, &[path])?;
     }
     Ok(())
@@ -331,55 +375,40 @@ const REFUSED: [(&[u8], Status); 15] = [
 #[test]
 fn the_first_status_that_applies(rt: HostRuntime) -> Result<(), Fail> {
     let plans = Plans::new(rt.alloc())?;
-    for (head, status) in REFUSED {
-        assert_eq!(rt; plans.plan_of(head), Plan::Refuse(status), "{head:?}");
+    for (head, status) in &REFUSED {
+        assert_plan(&rt, plans.plan_of(head), Plan::Refuse(*status), head);
     }
     Ok(())
 }
 
-fn length_row(
-    rt: &impl Abort,
-    alloc: Global,
-    plans: &Plans,
-    length: &[u8],
-    status: Status,
-) -> Result<(), NoMemory> {
+// What a start asks for whose length is stated so.
+fn length_plan(alloc: Global, plans: &Plans, length: &[u8]) -> Result<Plan, NoMemory> {
     let rest = joined(alloc, &[b"HTTP/1.1\r\ncontent-length: ", length])?;
-    let plan = asks(alloc, plans, b"POST", START, &rest)?;
-    assert_eq!(rt; plan, Plan::Refuse(status), "{length:?}");
-    Ok(())
+    asks(alloc, plans, b"POST", START, &rest)
 }
 
-const NO_LENGTHS: [&[u8]; 8] = [
-    b"",
-    b"x",
-    b"-1",
-    b"1 2",
-    b"5, 5",
-    b"0x10",
-    b"1.5",
-    b"00000000000000000007",
+const LENGTHS: [(&[u8], Status); 12] = [
+    (b"", Status::BadRequest),
+    (b"x", Status::BadRequest),
+    (b"-1", Status::BadRequest),
+    (b"1 2", Status::BadRequest),
+    (b"5, 5", Status::BadRequest),
+    (b"0x10", Status::BadRequest),
+    (b"1.5", Status::BadRequest),
+    (b"00000000000000000007", Status::BadRequest),
+    (b"4194305", Status::PayloadTooLarge),
+    (b"9999999999999999999", Status::PayloadTooLarge),
+    (b"0000000000004194305", Status::PayloadTooLarge),
+    (b"0\r\ncontent-length: 00", Status::BadRequest),
 ];
-
-const LARGE_LENGTHS: [&[u8]; 3] = [b"4194305", b"9999999999999999999", b"0000000000004194305"];
 
 #[test]
 fn lengths_that_are_refused(rt: HostRuntime) -> Result<(), Fail> {
-    let alloc = rt.alloc();
-    let plans = Plans::new(alloc)?;
-    for length in NO_LENGTHS {
-        length_row(&rt, alloc, &plans, length, Status::BadRequest)?;
+    let plans = Plans::new(rt.alloc())?;
+    for (length, status) in &LENGTHS {
+        let plan = length_plan(rt.alloc(), &plans, length)?;
+        assert_plan(&rt, plan, Plan::Refuse(*status), length);
     }
-    for length in LARGE_LENGTHS {
-        length_row(&rt, alloc, &plans, length, Status::PayloadTooLarge)?;
-    }
-    length_row(
-        &rt,
-        alloc,
-        &plans,
-        b"0\r\ncontent-length: 00",
-        Status::BadRequest,
-    )?;
     Ok(())
 }
 
@@ -392,15 +421,18 @@ fn head_of_fields(alloc: Global, count: usize) -> Result<Vec<u8>, NoMemory> {
     Ok(head)
 }
 
+const FIELDS: [(usize, Plan); 2] = [
+    (MAX_FIELDS, OPEN),
+    (MAX_FIELDS + 1, Plan::Refuse(Status::BadRequest)),
+];
+
 #[test]
 fn heads_of_64_fields_and_65(rt: HostRuntime) -> Result<(), Fail> {
-    let alloc = rt.alloc();
-    let plans = Plans::new(alloc)?;
-    let bill = Route::Bill { bill: CHECKSUM };
-    let most = head_of_fields(alloc, MAX_FIELDS)?;
-    assert_eq!(rt; plans.plan_of(&most), awaits(bill, 0, true));
-    let more = head_of_fields(alloc, MAX_FIELDS + 1)?;
-    assert_eq!(rt; plans.plan_of(&more), Plan::Refuse(Status::BadRequest));
+    let plans = Plans::new(rt.alloc())?;
+    for (count, plan) in &FIELDS {
+        let head = head_of_fields(rt.alloc(), *count)?;
+        assert_plan(&rt, plans.plan_of(&head), *plan, &head);
+    }
     Ok(())
 }
 
@@ -425,10 +457,14 @@ const PHRASES: [(Status, u16, &str); 15] = [
     (Status::InsufficientStorage, 507, "Insufficient Storage"),
 ];
 
+fn assert_phrase<R: Abort>(rt: &R, status: Status, number: u16, phrase: &str) {
+    assert_eq!(rt; status.number(), number);
+    assert_eq!(rt; status.phrase(), phrase);
+}
+
 #[test]
 fn phrases(rt: HostRuntime) {
-    for (status, number, phrase) in PHRASES {
-        assert_eq!(rt; status.number(), number);
-        assert_eq!(rt; status.phrase(), phrase);
+    for (status, number, phrase) in &PHRASES {
+        assert_phrase(&rt, *status, *number, phrase);
     }
 }

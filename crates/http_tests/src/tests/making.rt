@@ -17,13 +17,24 @@ pub(crate) fn joined(alloc: Global, parts: &[&[u8]]) -> Result<Vec<u8>, NoMemory
     Ok(text)
 }
 
+/// A link that hands out these bytes in pieces of these sizes, and fails at these calls.
+pub(crate) fn failing_link(
+    alloc: Global,
+    input: &[u8],
+    pieces: &[usize],
+    fails: &[u64],
+) -> Result<MemoryLink, NoMemory> {
+    let bytes = ByteList::from_slice(alloc, input)?;
+    let pieces = PieceList::from_slice(alloc, pieces)?;
+    let fails = CallList::from_slice(alloc, fails)?;
+    Ok(MemoryLink::in_pieces(alloc, bytes, pieces, fails))
+}
+
 /// A link that hands out these bytes in pieces of these sizes.
 pub(crate) fn link_of(
     alloc: Global,
     input: &[u8],
     pieces: &[usize],
 ) -> Result<MemoryLink, NoMemory> {
-    let bytes = ByteList::from_slice(alloc, input)?;
-    let pieces = PieceList::from_slice(alloc, pieces)?;
-    Ok(MemoryLink::in_pieces(alloc, bytes, pieces, CallList::new(alloc)))
+    failing_link(alloc, input, pieces, &[])
 }

@@ -1,10 +1,10 @@
 //! The front of a link's bytes, however they come.
-use crate::tests::making::link_of;
-use ebl_base::{ByteList, CallList, NoMemory};
-use ebl_edge::{MemoryLink, PieceList};
+use crate::tests::making::{failing_link, joined, link_of};
+use ebl_base::NoMemory;
+use ebl_edge::MemoryLink;
 use http_heads::{MAX_HEAD, Plans, Route, Status};
 use http_requests::{Front, LinkEnd, await_next};
-use std::alloc::Global;
+use std::alloc::{AllocError, Global};
 use std::process::Abort;
 use std::test::Fail;
 
@@ -21,23 +21,50 @@ const FRONT: Front = Front::Whole {
     keeps: true,
 };
 
+/// A link, and the bytes that were read of it.
+#[derive(Drop)]
+struct Reading {
+    link: MemoryLink,
+    buffer: Vec<u8>,
+}
+
+fn reading_of(alloc: Global, link: MemoryLink) -> Reading {
+    let buffer = Vec::new(alloc);
+    Reading { link, buffer }
+}
+
+// What stands at its front.
+fn front_at(alloc: Global, reading: &mut Reading) -> Result<Result<Front, LinkEnd>, NoMemory> {
+    let plans = Plans::new(alloc)?;
+    Ok(await_next(&mut reading.link, &plans, &mut reading.buffer))
+}
+
 // What stands at the front of the input.
 fn front_of(
     alloc: Global,
     input: &[u8],
     pieces: &[usize],
 ) -> Result<Result<Front, LinkEnd>, NoMemory> {
-    let plans = Plans::new(alloc)?;
-    let mut link = link_of(alloc, input, pieces)?;
-    let mut buffer = Vec::new(alloc);
-    Ok(await_next(&mut link, &plans, &mut buffer))
+    front_at(
+        alloc,
+        &mut reading_of(alloc, link_of(alloc, input, pieces)?),
+    )
+}
+
+// Asserts what stands at the front, in a row of this number.
+fn assert_front<R: Abort>(
+    rt: &R,
+    front: Result<Front, LinkEnd>,
+    want: Result<Front, LinkEnd>,
+    row: usize,
+) {
+    assert_eq!(rt; front, want, "{row}");
 }
 
 #[test]
 fn a_request_in_two_pieces(rt: HostRuntime) -> Result<(), Fail> {
-    let alloc = rt.alloc();
     for at in 1..VALIDATION.len() {
-        assert_eq!(rt; front_of(alloc, VALIDATION, &[at])?, Ok(FRONT), "{at}");
+        assert_front(&rt, front_of(rt.alloc(), VALIDATION, &[at])?, Ok(FRONT), at);
     }
     Ok(())
 }
@@ -45,14 +72,15 @@ fn a_request_in_two_pieces(rt: HostRuntime) -> Result<(), Fail> {
 // Closed before the first byte, and Cut behind any other.
 #[test]
 fn a_request_that_ends_early(rt: HostRuntime) -> Result<(), Fail> {
-    let alloc = rt.alloc();
-    assert_eq!(rt; front_of(alloc, b"", &[])?, Err(LinkEnd::Closed));
+    assert_front(
+        &rt,
+        front_of(rt.alloc(), b"", &[])?,
+        Err(LinkEnd::Closed),
+        0,
+    );
     for at in 1..VALIDATION.len() {
-        assert_eq!(rt;
-            front_of(alloc, &VALIDATION[..at], &[])?,
-            Err(LinkEnd::Cut),
-            "{at}"
-        );
+        let cut = front_of(rt.alloc(), &VALIDATION[..at], &[])?;
+        assert_front(&rt, cut, Err(LinkEnd::Cut), at);
     }
     Ok(())
 }
@@ -60,15 +88,11 @@ fn a_request_that_ends_early(rt: HostRuntime) -> Result<(), Fail> {
 // The bytes behind a request stay at the front for the next, and nothing is read for it.
 #[test]
 fn two_requests_in_one_piece(rt: HostRuntime) -> Result<(), Fail> {
-    let alloc = rt.alloc();
-    let plans = Plans::new(alloc)?;
-    let mut input = Vec::from_slice(alloc, VALIDATION)?;
-    input.extend_from_slice(VALIDATION)?;
-    let mut link = link_of(alloc, &input, &[])?;
-    let mut buffer = Vec::new(alloc);
-    assert_eq!(rt; await_next(&mut link, &plans, &mut buffer), Ok(FRONT));
-    assert_eq!(rt; buffer, input);
-    assert_eq!(rt; link.left().len(), 0);
+    let input = joined(rt.alloc(), &[VALIDATION, VALIDATION])?;
+    let mut reading = reading_of(rt.alloc(), link_of(rt.alloc(), &input, &[])?);
+    assert_front(&rt, front_at(rt.alloc(), &mut reading)?, Ok(FRONT), 0);
+    assert_eq!(rt; reading.buffer.as_slice(), input.as_slice());
+    assert_eq!(rt; reading.link.left().len(), 0);
     Ok(())
 }
 
@@ -85,63 +109,69 @@ fn head_of(alloc: Global, size: usize) -> Result<Vec<u8>, NoMemory> {
     Ok(head)
 }
 
-fn length_row(rt: &impl Abort, alloc: Global, size: usize, front: Front) -> Result<(), NoMemory> {
-    let head = head_of(alloc, size)?;
-    assert_eq!(rt; head.len(), size);
-    assert_eq!(rt; front_of(alloc, &head, &[])?, Ok(front));
-    // One byte comes last.
-    assert_eq!(rt;
-        front_of(alloc, &head, &[4095, 4096, 4096, 4096])?,
-        Ok(front)
-    );
-    Ok(())
-}
+// One byte comes last.
+const ONE_LAST: [usize; 4] = [4095, 4096, 4096, 4096];
+
+const LONGEST: Front = Front::Whole {
+    route: Route::Start,
+    start: MAX_HEAD,
+    end: MAX_HEAD,
+    keeps: true,
+};
+
+const SIZES: [(usize, Front); 2] = [
+    (MAX_HEAD, LONGEST),
+    (MAX_HEAD + 1, Front::Refused(Status::BadRequest)),
+];
 
 #[test]
 fn heads_of_16_384_bytes_and_one_more(rt: HostRuntime) -> Result<(), Fail> {
-    let alloc = rt.alloc();
-    let longest = Front::Whole {
-        route: Route::Start,
-        start: MAX_HEAD,
-        end: MAX_HEAD,
-        keeps: true,
-    };
-    length_row(&rt, alloc, MAX_HEAD, longest)?;
-    length_row(&rt, alloc, MAX_HEAD + 1, Front::Refused(Status::BadRequest))?;
+    for (size, front) in &SIZES {
+        let head = head_of(rt.alloc(), *size)?;
+        assert_eq!(rt; head.len(), *size);
+        assert_front(&rt, front_of(rt.alloc(), &head, &[])?, Ok(*front), *size);
+        assert_front(
+            &rt,
+            front_of(rt.alloc(), &head, &ONE_LAST)?,
+            Ok(*front),
+            *size,
+        );
+    }
     Ok(())
+}
+
+fn line_feeds(alloc: Global, count: usize) -> Result<Vec<u8>, AllocError> {
+    vec![in alloc; b'\n'; count]
+}
+
+// The read behind these bytes would fail.
+fn failing_behind(alloc: Global, lines: &[u8]) -> Result<Reading, NoMemory> {
+    Ok(reading_of(alloc, failing_link(alloc, lines, &[], &[4])?))
 }
 
 // 16,384 bytes without an end are refused at once: no further byte is waited for.
 #[test]
 fn a_head_that_does_not_end(rt: HostRuntime) -> Result<(), Fail> {
-    let alloc = rt.alloc();
-    let plans = Plans::new(alloc)?;
-    let lines = vec![in alloc; b'\n'; MAX_HEAD]?;
-    let bytes = ByteList::from_slice(alloc, &lines)?;
-    // The read behind these bytes would fail.
-    let mut fails = CallList::new(alloc);
-    fails.push(4)?;
-    let mut link = MemoryLink::new(alloc, bytes, fails);
-    let mut buffer = Vec::new(alloc);
-    let front = await_next(&mut link, &plans, &mut buffer);
-    assert_eq!(rt; front, Ok(Front::Refused(Status::BadRequest)));
-    let none = front_of(alloc, &lines[..MAX_HEAD - 1], &[])?;
-    assert_eq!(rt; none, Err(LinkEnd::Cut));
+    let lines = line_feeds(rt.alloc(), MAX_HEAD)?;
+    let refused = front_at(rt.alloc(), &mut failing_behind(rt.alloc(), &lines)?)?;
+    assert_front(
+        &rt,
+        refused,
+        Ok(Front::Refused(Status::BadRequest)),
+        MAX_HEAD,
+    );
+    let lines = line_feeds(rt.alloc(), MAX_HEAD - 1)?;
+    let none = front_of(rt.alloc(), &lines, &[])?;
+    assert_front(&rt, none, Err(LinkEnd::Cut), MAX_HEAD - 1);
     Ok(())
 }
 
 #[test]
 fn a_read_that_fails(rt: HostRuntime) -> Result<(), Fail> {
-    let alloc = rt.alloc();
-    let plans = Plans::new(alloc)?;
-    let mut fails = CallList::new(alloc);
-    fails.push(1)?;
-    let pieces = PieceList::from_slice(alloc, &[HEAD])?;
-    let bytes = ByteList::from_slice(alloc, VALIDATION)?;
-    let mut link = MemoryLink::in_pieces(alloc, bytes, pieces, fails);
-    let mut buffer = Vec::new(alloc);
-    let front = await_next(&mut link, &plans, &mut buffer);
-    assert_eq!(rt; front, Err(LinkEnd::ReadFault));
-    assert_eq!(rt; link.faults(), 1);
+    let link = failing_link(rt.alloc(), VALIDATION, &[HEAD], &[1])?;
+    let mut reading = reading_of(rt.alloc(), link);
+    let front = front_at(rt.alloc(), &mut reading)?;
+    assert_front(&rt, front, Err(LinkEnd::ReadFault), HEAD);
+    assert_eq!(rt; reading.link.faults(), 1);
     Ok(())
 }

@@ -6,7 +6,7 @@ mod rows;
 
 use crate::tests::making::link_of;
 use ebl_base::{Moment, Party, Reference};
-use ebl_edge::MemoryClock;
+use ebl_edge::{MemoryClock, MemoryLink};
 use pint_http::{LinkEnd, serve_link};
 use platform_requests::{MemoryDesk, MessageList, Outcome, Reply};
 use std::alloc::Global;
@@ -55,36 +55,68 @@ fn clock() -> Result<MemoryClock, Fail> {
     Ok(MemoryClock::new(Moment::try_new(1000).ok_or("a moment")?))
 }
 
-// What a session writes, and how it ends.
-fn session_row(
-    rt: &impl Abort,
+/// A session: a link, the desk that is asked over it, and the desk's clock.
+#[derive(Drop)]
+struct Session {
+    link: MemoryLink,
+    desk: MemoryDesk,
+    clock: MemoryClock,
+}
+
+fn session_on(alloc: Global, link: MemoryLink, outcomes: Vec<Outcome>) -> Result<Session, Fail> {
+    let clock = clock()?;
+    Ok(Session {
+        link,
+        desk: desk_with(alloc, outcomes)?,
+        clock,
+    })
+}
+
+// How the session ends.
+fn serve(alloc: Global, session: &mut Session) -> LinkEnd {
+    serve_link(
+        alloc,
+        &mut session.link,
+        &mut session.desk,
+        &mut session.clock,
+    )
+}
+
+// Serves a session over this link, whose desk has no outcome, and asserts how it ends and what it writes.
+fn assert_session<R: Abort>(
+    rt: &R,
+    alloc: Global,
+    link: MemoryLink,
+    end: LinkEnd,
+    written: &[u8],
+) -> Result<(), Fail> {
+    let mut session = session_on(alloc, link, no_outcomes(alloc))?;
+    assert_eq!(rt; serve(alloc, &mut session), end);
+    assert_eq!(rt; session.link.written(), written);
+    Ok(())
+}
+
+// The same over a link that doesn't fail, whose desk has these outcomes.
+fn session_row<R: Abort>(
+    rt: &R,
     alloc: Global,
     input: &[u8],
     outcomes: Vec<Outcome>,
     end: LinkEnd,
     written: &[u8],
 ) -> Result<(), Fail> {
-    let mut link = link_of(alloc, input, &[])?;
-    let mut desk = desk_with(alloc, outcomes)?;
-    let mut clock = clock()?;
-    let ended = serve_link(alloc, &mut link, &mut desk, &mut clock);
-    assert_eq!(rt; link.written(), written);
-    assert_eq!(rt; ended, end);
-    assert_eq!(rt; link.faults(), 0);
+    let mut session = session_on(alloc, link_of(alloc, input, &[])?, outcomes)?;
+    assert_eq!(rt; serve(alloc, &mut session), end);
+    assert_eq!(rt; session.link.written(), written);
+    assert_eq!(rt; session.link.faults(), 0);
     Ok(())
 }
 
 // A session whose one reply closes the link.
-fn refused_row(rt: &impl Abort, alloc: Global, input: &[u8], line: &str) -> Result<(), Fail> {
+fn refused_row<R: Abort>(rt: &R, alloc: Global, input: &[u8], line: &str) -> Result<(), Fail> {
     let text = format!(in alloc;
         "HTTP/1.1 {line}\r\ncontent-length: 0\r\nconnection: close\r\n\r\n"
     )?;
-    session_row(
-        rt,
-        alloc,
-        input,
-        no_outcomes(alloc),
-        LinkEnd::Closed,
-        text.as_bytes(),
-    )
+    let none = no_outcomes(alloc);
+    session_row(rt, alloc, input, none, LinkEnd::Closed, text.as_bytes())
 }

@@ -1,11 +1,11 @@
 //! A session however its bytes come, and where it ends.
 use crate::tests::making::{joined, link_of};
 use crate::tests::sessions::{
-    FINISH, KNOWN, UNKNOWN_REFERENCE, VALIDATION, clock, desk_with, no_outcomes, session_row,
+    FINISH, KNOWN, UNKNOWN_REFERENCE, VALIDATION, assert_session, no_outcomes, session_row,
 };
 use ebl_base::{ByteList, CallList, NoMemory};
 use ebl_edge::{MemoryLink, PieceList};
-use pint_http::{LinkEnd, serve_link};
+use pint_http::LinkEnd;
 use std::alloc::Global;
 use std::process::Abort;
 use std::test::Fail;
@@ -19,20 +19,15 @@ fn three_replies(alloc: Global) -> Result<Vec<u8>, NoMemory> {
     joined(alloc, &[KNOWN, UNKNOWN_REFERENCE, KNOWN])
 }
 
-fn pieces_row(
-    rt: &impl Abort,
+fn pieces_row<R: Abort>(
+    rt: &R,
     alloc: Global,
     input: &[u8],
     pieces: &[usize],
     replies: &[u8],
 ) -> Result<(), Fail> {
-    let mut link = link_of(alloc, input, pieces)?;
-    let mut desk = desk_with(alloc, no_outcomes(alloc))?;
-    let mut clock = clock()?;
-    let end = serve_link(alloc, &mut link, &mut desk, &mut clock);
-    assert_eq!(rt; end, LinkEnd::Closed);
-    assert_eq!(rt; link.written(), replies);
-    Ok(())
+    let link = link_of(alloc, input, pieces)?;
+    assert_session(rt, alloc, link, LinkEnd::Closed, replies)
 }
 
 #[test]
@@ -69,84 +64,89 @@ fn a_session_in_made_pieces(rt: HostRuntime) -> Result<(), Fail> {
     Ok(())
 }
 
-// What stands at the front of a session up to its byte `at`: the replies to what is whole, and Cut behind a part.
-fn end_row(
-    rt: &impl Abort,
-    alloc: Global,
-    input: &[u8],
-    at: usize,
-    whole: bool,
-    replies: &[&[u8]],
-) -> Result<(), Fail> {
-    let end = if whole { LinkEnd::Closed } else { LinkEnd::Cut };
-    let front = input.get(..at).ok_or("a front")?;
-    let written = joined(alloc, replies)?;
-    session_row(rt, alloc, front, no_outcomes(alloc), end, &written)
-}
+// So many bytes came and no more, up to this number, of which only the first ends a request; and the replies by then.
+type Ending = (usize, usize, &'static [&'static [u8]]);
 
-#[test]
-fn a_session_that_ends_at_each_byte(rt: HostRuntime) -> Result<(), Fail> {
-    let alloc = rt.alloc();
-    let input = three_requests(alloc)?;
-    let one = VALIDATION.len();
-    let two = one + FINISH.len();
-    for at in 0..one {
-        end_row(&rt, alloc, &input, at, at == 0, &[])?;
-    }
-    for at in one..two {
-        end_row(&rt, alloc, &input, at, at == one, &[KNOWN])?;
-    }
-    for at in two..input.len() {
-        end_row(
-            &rt,
-            alloc,
-            &input,
-            at,
-            at == two,
-            &[KNOWN, UNKNOWN_REFERENCE],
-        )?;
+const ENDINGS: [Ending; 3] = [
+    (0, VALIDATION.len(), &[]),
+    (VALIDATION.len(), VALIDATION.len() + FINISH.len(), &[KNOWN]),
+    (
+        VALIDATION.len() + FINISH.len(),
+        2 * VALIDATION.len() + FINISH.len() + 2,
+        &[KNOWN, UNKNOWN_REFERENCE],
+    ),
+];
+
+fn ending_rows<R: Abort>(rt: &R, alloc: Global, input: &[u8], ending: Ending) -> Result<(), Fail> {
+    let (from, to, replies) = ending;
+    let written = joined(alloc, replies)?;
+    for at in from..to {
+        let front = input.get(..at).ok_or("a front")?;
+        let end = if at == from {
+            LinkEnd::Closed
+        } else {
+            LinkEnd::Cut
+        };
+        session_row(rt, alloc, front, no_outcomes(alloc), end, &written)?;
     }
     Ok(())
 }
 
-fn failing_row(
-    rt: &impl Abort,
-    alloc: Global,
-    fails: u64,
-    end: LinkEnd,
-    written: &[u8],
-) -> Result<(), Fail> {
-    let bytes = ByteList::from_slice(alloc, &joined(alloc, &[VALIDATION, FINISH])?)?;
-    let mut fail_at = CallList::new(alloc);
-    fail_at.push(fails)?;
+// The replies to what is whole, and Cut behind a part.
+#[test]
+fn a_session_that_ends_at_each_byte(rt: HostRuntime) -> Result<(), Fail> {
+    let input = three_requests(rt.alloc())?;
+    for ending in &ENDINGS {
+        ending_rows(&rt, rt.alloc(), &input, *ending)?;
+    }
+    Ok(())
+}
+
+// Two requests in a piece each, over a link that fails at this call. A put that fails writes half of its piece.
+fn tearing_link(alloc: Global, call: u64) -> Result<MemoryLink, NoMemory> {
+    let bytes = ByteList::from_vec(joined(alloc, &[VALIDATION, FINISH])?);
     let pieces = PieceList::from_slice(alloc, &[VALIDATION.len()])?;
-    let mut link = MemoryLink::tearing(alloc, bytes, pieces, fail_at);
-    let mut desk = desk_with(alloc, no_outcomes(alloc))?;
-    let mut clock = clock()?;
-    let ended = serve_link(alloc, &mut link, &mut desk, &mut clock);
-    assert_eq!(rt; ended, end, "{fails}");
-    assert_eq!(rt; link.written(), written, "{fails}");
+    let fails = CallList::from_slice(alloc, &[call])?;
+    Ok(MemoryLink::tearing(alloc, bytes, pieces, fails))
+}
+
+// The replies, and half of one.
+fn torn(alloc: Global, replies: &[&[u8]], last: &[u8]) -> Result<Vec<u8>, NoMemory> {
+    let mut text = joined(alloc, replies)?;
+    text.extend_from_slice(&last[..last.len() / 2])?;
+    Ok(text)
+}
+
+// The call that fails, how the session ends, the replies that are written, and one of which half is.
+type Failure = (u64, LinkEnd, &'static [&'static [u8]], &'static [u8]);
+
+fn failing_rows<R: Abort>(rt: &R, alloc: Global, failures: &[Failure]) -> Result<(), Fail> {
+    for (call, end, replies, last) in failures {
+        let written = torn(alloc, replies, last)?;
+        assert_session(rt, alloc, tearing_link(alloc, *call)?, *end, &written)?;
+    }
     Ok(())
 }
 
 // The calls of the link are a read, a put, a read, a put and a read.
+const READS: [Failure; 4] = [
+    (0, LinkEnd::ReadFault, &[], b""),
+    (2, LinkEnd::ReadFault, &[KNOWN], b""),
+    (4, LinkEnd::ReadFault, &[KNOWN, UNKNOWN_REFERENCE], b""),
+    (5, LinkEnd::Closed, &[KNOWN, UNKNOWN_REFERENCE], b""),
+];
+
 #[test]
 fn reads_that_fail(rt: HostRuntime) -> Result<(), Fail> {
-    let alloc = rt.alloc();
-    let all = joined(alloc, &[KNOWN, UNKNOWN_REFERENCE])?;
-    failing_row(&rt, alloc, 0, LinkEnd::ReadFault, b"")?;
-    failing_row(&rt, alloc, 2, LinkEnd::ReadFault, KNOWN)?;
-    failing_row(&rt, alloc, 4, LinkEnd::ReadFault, &all)?;
-    failing_row(&rt, alloc, 5, LinkEnd::Closed, &all)
+    failing_rows(&rt, rt.alloc(), &READS)
 }
 
-// A put that fails writes half of its piece here.
+const PUTS: [Failure; 2] = [
+    (1, LinkEnd::WriteFault, &[], KNOWN),
+    (3, LinkEnd::WriteFault, &[KNOWN], UNKNOWN_REFERENCE),
+];
+
 #[test]
 fn puts_that_fail(rt: HostRuntime) -> Result<(), Fail> {
-    let alloc = rt.alloc();
-    let half = &KNOWN[..KNOWN.len() / 2];
-    failing_row(&rt, alloc, 1, LinkEnd::WriteFault, half)?;
-    let half = &UNKNOWN_REFERENCE[..UNKNOWN_REFERENCE.len() / 2];
-    let torn = joined(alloc, &[KNOWN, half])?;
-    failing_row(&rt, alloc, 3, LinkEnd::WriteFault, &torn)
+    failing_rows(&rt, rt.alloc(), &PUTS)
 }

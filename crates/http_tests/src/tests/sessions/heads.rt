@@ -54,7 +54,7 @@ const REFUSED: [(&[u8], &str); 9] = [
 
 #[test]
 fn the_first_status_that_applies(rt: HostRuntime) -> Result<(), Fail> {
-    for (input, line) in REFUSED {
+    for (input, line) in &REFUSED {
         refused_row(&rt, rt.alloc(), input, line)?;
     }
     Ok(())
@@ -70,7 +70,7 @@ const CLOSING: [&[u8]; 4] = [
 
 #[test]
 fn links_that_are_closed(rt: HostRuntime) -> Result<(), Fail> {
-    for input in CLOSING {
+    for input in &CLOSING {
         refused_row(&rt, rt.alloc(), input, "404 Not Found")?;
     }
     Ok(())

@@ -180,6 +180,13 @@ fn answer_of(alloc: Global, code: Code) -> Result<Reply, NoMemory> {
     Ok(Reply::Answer { response, text })
 }
 
+fn answer_row<R: Abort>(rt: &R, alloc: Global, code: Code, line: &str) -> Result<(), Fail> {
+    let text = format!(in alloc;
+        "HTTP/1.1 {line}\r\ncontent-type: application/jose\r\ncontent-length: 5\r\n\r\na.b.c"
+    )?;
+    reply_row(rt, alloc, FINISH, answer_of(alloc, code)?, text.as_bytes())
+}
+
 const ANSWERS: [(Code, &str); 7] = [
     (Code::Received, "200 OK"),
     (Code::Duplicate, "200 OK"),
@@ -192,12 +199,8 @@ const ANSWERS: [(Code, &str); 7] = [
 
 #[test]
 fn signed_answers(rt: HostRuntime) -> Result<(), Fail> {
-    let alloc = rt.alloc();
-    for (code, line) in ANSWERS {
-        let text = format!(in alloc;
-            "HTTP/1.1 {line}\r\ncontent-type: application/jose\r\ncontent-length: 5\r\n\r\na.b.c"
-        )?;
-        reply_row(&rt, alloc, FINISH, answer_of(alloc, code)?, text.as_bytes())?;
+    for (code, line) in &ANSWERS {
+        answer_row(&rt, rt.alloc(), *code, line)?;
     }
     Ok(())
 }

@@ -1,60 +1,69 @@
 //! The rows that were worked by hand.
 use crate::tests::making::{joined, link_of};
 use crate::tests::sessions::{
-    FINISH, KNOWN, NOT_FOUND, REFERENCE, UNKNOWN_REFERENCE, VALIDATION, clock, desk_with,
-    no_outcomes, refused_row, session_row,
+    FINISH, KNOWN, NOT_FOUND, REFERENCE, Session, UNKNOWN_REFERENCE, VALIDATION, no_outcomes,
+    refused_row, serve, session_on, session_row,
 };
-use pint_http::{LinkEnd, serve_link};
+use pint_http::LinkEnd;
+use platform_requests::{MemoryDesk, Request};
+use std::alloc::Global;
+use std::process::Abort;
 use std::test::Fail;
+
+fn in_single_bytes(alloc: Global) -> Result<Session, Fail> {
+    let input = joined(alloc, &[VALIDATION, b"GET /v3/none HTTP/1.1\r\n\r\n"])?;
+    session_on(
+        alloc,
+        link_of(alloc, &input, &[1; 200])?,
+        no_outcomes(alloc),
+    )
+}
 
 #[test]
 fn http_in_single_bytes(rt: HostRuntime) -> Result<(), Fail> {
-    let alloc = rt.alloc();
-    let input = joined(alloc, &[VALIDATION, b"GET /v3/none HTTP/1.1\r\n\r\n"])?;
-    let ones = vec![in alloc; 1usize; 200]?;
-    let mut link = link_of(alloc, &input, &ones)?;
-    let mut desk = desk_with(alloc, no_outcomes(alloc))?;
-    let mut clock = clock()?;
-    let end = serve_link(alloc, &mut link, &mut desk, &mut clock);
-    assert_eq!(rt; end, LinkEnd::Closed);
-    assert_eq!(rt;
-        link.written(),
-        joined(alloc, &[KNOWN, NOT_FOUND])?.as_slice()
-    );
-    assert_eq!(rt; clock.calls(), 0);
+    let written = joined(rt.alloc(), &[KNOWN, NOT_FOUND])?;
+    let mut session = in_single_bytes(rt.alloc())?;
+    assert_eq!(rt; serve(rt.alloc(), &mut session), LinkEnd::Closed);
+    assert_eq!(rt; session.link.written(), written.as_slice());
+    assert_eq!(rt; session.clock.calls(), 0);
     Ok(())
 }
 
-#[test]
-fn a_body_of_4_194_305_bytes(rt: HostRuntime) -> Result<(), Fail> {
-    let head = b"POST /v3/receiver-validation HTTP/1.1\r\nContent-Length: 4194305\r\n\r\n";
-    refused_row(&rt, rt.alloc(), head, "413 Payload Too Large")
-}
+// Heads, and the status that refuses each.
+const REFUSED: [(&[u8], &str); 5] = [
+    // A body of 4,194,305 bytes.
+    (
+        b"POST /v3/receiver-validation HTTP/1.1\r\nContent-Length: 4194305\r\n\r\n",
+        "413 Payload Too Large",
+    ),
+    // A chunked body.
+    (
+        b"POST /v3/receiver-validation HTTP/1.1\r\nContent-Length: 23\r\nTransfer-Encoding: chunked\r\n\r\n",
+        "501 Not Implemented",
+    ),
+    // A method that the path lacks.
+    (
+        b"DELETE /v3/envelopes HTTP/1.1\r\n\r\n",
+        "405 Method Not Allowed",
+    ),
+    // An envelope without a length.
+    (
+        b"POST /v3/envelopes HTTP/1.1\r\n\r\n",
+        "411 Length Required",
+    ),
+    // A checksum in capitals.
+    (
+        b"GET /v3/bills/44136FA355B3678A1146AD16F7E8649E94FB4FC21FE77E8310C060F61CAAFF8A HTTP/1.1\r\n\r\n",
+        "404 Not Found",
+    ),
+];
 
 #[test]
-fn a_chunked_body(rt: HostRuntime) -> Result<(), Fail> {
-    let head =
-        b"POST /v3/receiver-validation HTTP/1.1\r\nContent-Length: 23\r\nTransfer-Encoding: chunked\r\n\r\n";
-    refused_row(&rt, rt.alloc(), head, "501 Not Implemented")
-}
-
-#[test]
-fn a_method_that_the_path_lacks(rt: HostRuntime) -> Result<(), Fail> {
-    let head = b"DELETE /v3/envelopes HTTP/1.1\r\n\r\n";
-    refused_row(&rt, rt.alloc(), head, "405 Method Not Allowed")
-}
-
-#[test]
-fn an_envelope_without_a_length(rt: HostRuntime) -> Result<(), Fail> {
-    let head = b"POST /v3/envelopes HTTP/1.1\r\n\r\n";
-    refused_row(&rt, rt.alloc(), head, "411 Length Required")
-}
-
-#[test]
-fn a_checksum_in_capitals(rt: HostRuntime) -> Result<(), Fail> {
-    let head =
-        b"GET /v3/bills/44136FA355B3678A1146AD16F7E8649E94FB4FC21FE77E8310C060F61CAAFF8A HTTP/1.1\r\n\r\n";
-    refused_row(&rt, rt.alloc(), head, "404 Not Found")
+fn refused_requests(rt: HostRuntime) -> Result<(), Fail> {
+    for (head, line) in &REFUSED {
+        refused_row(&rt, rt.alloc(), head, line)?;
+    }
+    Ok(())
 }
 
 // The link stays open: the second request is answered too, and the input then ends between two.
@@ -67,21 +76,31 @@ fn a_finish_of_an_unknown_reference(rt: HostRuntime) -> Result<(), Fail> {
     session_row(&rt, alloc, &input, none, LinkEnd::Closed, &written)
 }
 
+// Asserts that the desk was asked once, for the finish, at this moment.
+fn assert_asked<R: Abort>(rt: &R, desk: &MemoryDesk, moment: u64) {
+    match desk.calls() {
+        Some([call]) => {
+            assert_eq!(rt; call.now.number(), moment);
+            assert!(rt; is_finish(&call.request));
+        }
+        _ => panic!(rt; "one call"),
+    }
+}
+
+fn is_finish(request: &Request) -> bool {
+    match request {
+        Request::Finish { reference } => *reference == REFERENCE,
+        _ => false,
+    }
+}
+
 // The desk keeps what it was asked, at the clock's moment.
 #[test]
 fn a_desk_is_asked_once(rt: HostRuntime) -> Result<(), Fail> {
-    let alloc = rt.alloc();
-    let mut link = link_of(alloc, FINISH, &[])?;
-    let mut desk = desk_with(alloc, no_outcomes(alloc))?;
-    let mut clock = clock()?;
-    let _ = serve_link(alloc, &mut link, &mut desk, &mut clock);
-    assert_eq!(rt; clock.calls(), 1);
-    let calls = desk.calls().ok_or("calls")?;
-    assert_eq!(rt; calls.len(), 1);
-    assert_eq!(rt; calls[0].now.number(), 1000);
-    match &calls[0].request {
-        platform_requests::Request::Finish { reference } => assert_eq!(rt; *reference, REFERENCE),
-        _ => return Err("a Finish".into()),
-    }
+    let link = link_of(rt.alloc(), FINISH, &[])?;
+    let mut session = session_on(rt.alloc(), link, no_outcomes(rt.alloc()))?;
+    let _ = serve(rt.alloc(), &mut session);
+    assert_eq!(rt; session.clock.calls(), 1);
+    assert_asked(&rt, &session.desk, 1000);
     Ok(())
 }
