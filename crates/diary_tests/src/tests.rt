@@ -1,18 +1,18 @@
 //! Chains, places of bills, judgements, plans, families of diaries, and lines of bills.
-mod acts;
 mod chains;
 mod conjuncts;
-mod diaries;
-mod digits;
+mod entries;
 mod families;
 mod flaws;
 mod judgements;
 mod lines;
+mod making;
 mod meetings;
 mod names;
 mod places;
 mod plans;
 mod real_texts;
 mod refusals;
+mod steps;
 mod surveys;
 mod texts;

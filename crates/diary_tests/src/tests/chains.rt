@@ -1,7 +1,10 @@
 //! The chains of the tests are checked ones; those that end nowhere are judged so.
-use super::diaries::manifest;
-use super::digits::{chain, checked, document, found, roster, turn};
-use ebl_base::{Chain, Items, PlatformCode};
+use super::entries::{
+    FIRST_BY_UNKNOWN, FOURTH, NONE, SECOND_BY_UNKNOWN, chain, checked, found, turn,
+};
+use super::making::{At, Bill, WIDE, code, roster, the_bill};
+use super::steps::manifest;
+use ebl_base::{Chain, Items};
 use std::alloc::Global;
 use std::test::Fail;
 use transfer_chain::{Meeting, meet};
@@ -10,17 +13,19 @@ use transfer_judge::{Judgement, judge};
 #[test]
 fn longest_chain_is_checked(rt: HostRuntime) -> Result<(), Fail> {
     let alloc = rt.alloc();
-    let made = chain(alloc, document(alloc)?.bill(), 1234)?;
-    let checked = checked(alloc, 1234)?;
+    let bill = the_bill(alloc)?;
+    let made = chain(alloc, bill, FOURTH)?;
+    let checked = checked(alloc, bill, FOURTH)?;
     assert_eq!(rt; checked.len(), 4);
     assert_eq!(rt; meet(&made, &checked), Meeting::Equal);
     Ok(())
 }
 
-fn is_elsewhere(alloc: Global, me: PlatformCode, chain: &Chain) -> Result<bool, Fail> {
+fn is_elsewhere(alloc: Global, bill: Bill, at: At, chain: &Chain) -> Result<bool, Fail> {
     let none = Items::new(alloc);
-    let manifest = manifest(alloc, document(alloc)?.bill(), 1, 0)?;
-    let judgement = judge(alloc, &none, &roster(alloc)?, me, chain, &manifest)?;
+    let roster = roster(alloc, WIDE)?;
+    let manifest = manifest(alloc, bill.name, bill.name, &[])?;
+    let judgement = judge(alloc, &none, &roster, code(at)?, chain, &manifest)?;
     Ok(matches!(judgement, Judgement::Elsewhere))
 }
 
@@ -28,12 +33,15 @@ fn is_elsewhere(alloc: Global, me: PlatformCode, chain: &Chain) -> Result<bool, 
 #[test]
 fn chains_that_end_nowhere(rt: HostRuntime) -> Result<(), Fail> {
     let alloc = rt.alloc();
-    let bill = document(alloc)?.bill();
-    for digits in [0, 9, 19] {
-        let chain = chain(alloc, bill, digits)?;
-        assert!(rt; found(alloc, digits)?.is_err(), "{digits}");
+    let bill = the_bill(alloc)?;
+    for route in [NONE, FIRST_BY_UNKNOWN, SECOND_BY_UNKNOWN] {
+        let chain = chain(alloc, bill, route)?;
+        assert!(rt; found(alloc, bill, route)?.is_err(), "{route:?}");
         for entries in 0..2 {
-            assert!(rt; is_elsewhere(alloc, turn(entries)?, &chain)?, "{digits}");
+            assert!(rt;
+                is_elsewhere(alloc, bill, turn(entries), &chain)?,
+                "{route:?}"
+            );
         }
     }
     Ok(())

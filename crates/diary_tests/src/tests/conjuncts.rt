@@ -1,15 +1,16 @@
 //! For each promise of a safe family one that breaks it, and why no law reaches it: its survey finds a record that is
 //! lacking, or a diary isn't sound, or a document was signed on two platforms. A line and its end are there for each
 //! bill that was signed: they can't be broken.
-use super::families::{
-    Act, At, Bill, EntryId, Found, ISSUED, NOTHING, SETTLED, Step, Story, TAKEN, bill_with, code,
-    diary, family, lacks, link, shard, shown, transaction,
+use super::entries::{FIRST, FORK, Route, name};
+use super::families::{Found, ISSUED, NOTHING, SETTLED, Story, TAKEN, family, lacks, shard, shown};
+use super::making::{
+    Act, At, Bill, ISSUE, ISSUE_BY_EXPORTER, SIGN, SIGN_AT_BETA, TO_BANK, TO_IMPORTER, code,
+    the_bill, transactions,
 };
+use super::steps::{Step, diary};
 use bill_diary::{BillPlace, Diary, Frame, Record, is_taken, last_declined, may_act, place};
 use closed_family::{Family, Lack, survey};
-use ebl_base::{
-    ByteList, ChainLink, Checksum, Copied, Items, NoMemory, PlaceTag, Transaction, TransactionList,
-};
+use ebl_base::{ChainLink, Checksum, Copied, PlaceTag, Transaction, TransactionList};
 use std::alloc::Global;
 use std::process::Abort;
 use std::test::Fail;
@@ -19,10 +20,10 @@ const THREE: [At; 3] = [At::Alph, At::Beta, At::Gamm];
 
 // At ALPH: an entry was sent to BETA, and regained.
 const REGAINED: [Step; 4] = [
-    Step::Signed(Act::Sign),
-    Step::Acted(Act::Issue),
-    Step::Parted(EntryId::First),
-    Step::Regained(EntryId::First),
+    Step::Acted(SIGN),
+    Step::Acted(ISSUE),
+    Step::Parted(FIRST),
+    Step::Regained(FIRST),
 ];
 
 /// A bill, and a family in which it is the only one.
@@ -38,10 +39,10 @@ fn staged<'a>(
     beta: &'a [Step],
     gamm: &'a [Step],
 ) -> Result<Scenario, Fail> {
-    let bill = bill_with(alloc, b'1')?;
+    let bill = the_bill(alloc)?;
     let story = Story {
-        bill: &bill,
-        shard: shard(&bill),
+        bill,
+        shard: shard(bill),
         alph,
         beta,
         gamm,
@@ -57,11 +58,11 @@ impl Scenario {
     }
 
     fn lacks(&self, alloc: Global, at: At, what: Lack) -> Result<Found, Fail> {
-        lacks(alloc, at, what, &self.bill, EntryId::First)
+        lacks(alloc, at, what, self.bill, FIRST)
     }
 
-    fn name(&self, alloc: Global, id: EntryId) -> Result<Checksum, Fail> {
-        Ok(link(alloc, &self.bill, id)?.name)
+    fn name(&self, alloc: Global, route: Route) -> Result<Checksum, Fail> {
+        name(alloc, self.bill, route)
     }
 
     // The diary of the bill on a platform.
@@ -72,7 +73,7 @@ impl Scenario {
             .iter()
             .find(|m| m.platform == platform)
             .ok_or("a member")?;
-        let number = shard(&self.bill) as usize;
+        let number = shard(self.bill) as usize;
         Ok(member.diaries.as_slice().get(number).ok_or("a diary")?)
     }
 
@@ -135,13 +136,13 @@ fn only_name(chain: &[ChainLink]) -> Option<Checksum> {
 // The diary before the last step.
 fn before_last(alloc: Global, steps: &[Step]) -> Result<Diary, Fail> {
     let (_, front) = steps.split_last().ok_or("a step")?;
-    diary(alloc, &bill_with(alloc, b'1')?, front)
+    diary(alloc, the_bill(alloc)?, front)
 }
 
 // Where the bill stands before the last step.
 fn place_before_last(alloc: Global, steps: &[Step]) -> Result<BillPlace, Fail> {
     let front = before_last(alloc, steps)?;
-    let bill = bill_with(alloc, b'1')?;
+    let bill = the_bill(alloc)?;
     Ok(place(alloc, &front, bill.name)?)
 }
 
@@ -149,100 +150,161 @@ fn tag_before_last(alloc: Global, steps: &[Step]) -> Result<PlaceTag, Fail> {
     Ok(place_before_last(alloc, steps)?.tag())
 }
 
+// ---- what is asserted of a scenario
+
+// Where somebody may act: on ALPH, on BETA and on GAMM.
+fn assert_acts<R: Abort>(
+    rt: &R,
+    alloc: Global,
+    scene: &Scenario,
+    want: [bool; 3],
+) -> Result<(), Fail> {
+    assert_eq!(rt; scene.acts(alloc)?, want);
+    Ok(())
+}
+
+fn assert_found<R: Abort>(
+    rt: &R,
+    alloc: Global,
+    scene: &Scenario,
+    want: Found,
+) -> Result<(), Fail> {
+    assert_eq!(rt; scene.found(alloc)?, want);
+    Ok(())
+}
+
+// The survey finds that a platform lacks a record of the first entry.
+fn assert_lacks<R: Abort>(
+    rt: &R,
+    alloc: Global,
+    scene: &Scenario,
+    at: At,
+    what: Lack,
+) -> Result<(), Fail> {
+    assert_found(rt, alloc, scene, scene.lacks(alloc, at, what)?)
+}
+
+fn assert_place<R: Abort>(
+    rt: &R,
+    alloc: Global,
+    scene: &Scenario,
+    at: At,
+    want: PlaceTag,
+) -> Result<(), Fail> {
+    assert_eq!(rt; scene.place(alloc, at)?.tag(), want, "{at:?}");
+    Ok(())
+}
+
+// Where the bill stands before the last step.
+fn assert_before<R: Abort>(
+    rt: &R,
+    alloc: Global,
+    steps: &[Step],
+    want: PlaceTag,
+) -> Result<(), Fail> {
+    assert_eq!(rt; tag_before_last(alloc, steps)?, want, "{steps:?}");
+    Ok(())
+}
+
 // ---- nobody acts elsewhere, and the bill is held nowhere else
 
 // BETA took an entry with which ALPH never parted.
 #[test]
 fn two_may_act_where_nobody_parted(rt: HostRuntime) -> Result<(), Fail> {
-    let alloc = rt.alloc();
-    let scene = staged(alloc, &ISSUED, &TAKEN, &NOTHING)?;
-    assert_eq!(rt; scene.acts(alloc)?, [true, true, false]);
-    let want = scene.lacks(alloc, At::Alph, Lack::Parted)?;
-    assert_eq!(rt; scene.found(alloc)?, want);
-    Ok(())
+    let scene = staged(rt.alloc(), &ISSUED, &TAKEN, &NOTHING)?;
+    assert_acts(&rt, rt.alloc(), &scene, [true, true, false])?;
+    assert_lacks(&rt, rt.alloc(), &scene, At::Alph, Lack::Parted)
 }
 
 // BETA took an entry that ALPH regained.
 #[test]
 fn two_may_act_where_nobody_declined(rt: HostRuntime) -> Result<(), Fail> {
-    let alloc = rt.alloc();
-    let scene = staged(alloc, &REGAINED, &TAKEN, &NOTHING)?;
-    assert_eq!(rt; scene.acts(alloc)?, [true, true, false]);
-    let want = scene.lacks(alloc, At::Beta, Lack::Declined)?;
-    assert_eq!(rt; scene.found(alloc)?, want);
+    let scene = staged(rt.alloc(), &REGAINED, &TAKEN, &NOTHING)?;
+    assert_acts(&rt, rt.alloc(), &scene, [true, true, false])?;
+    assert_lacks(&rt, rt.alloc(), &scene, At::Beta, Lack::Declined)
+}
+
+fn signed_document(diary: &Diary) -> Result<&[u8], Fail> {
+    match diary.as_slice().first() {
+        Some(Frame::One(Record::Signed { document, .. })) => Ok(document.as_slice()),
+        _ => Err("signed".into()),
+    }
+}
+
+fn assert_signed_alike<R: Abort>(rt: &R, scene: &Scenario) -> Result<(), Fail> {
+    let here = signed_document(scene.diary(At::Alph)?)?;
+    let there = signed_document(scene.diary(At::Beta)?)?;
+    assert_eq!(rt; here, there);
     Ok(())
 }
 
-fn signed_document(diary: &Diary) -> Option<&ByteList> {
-    match diary.as_slice().first() {
-        Some(Frame::One(Record::Signed { document, .. })) => Some(document),
-        _ => None,
-    }
-}
+const SIGNED_AT_BETA: [Step; 1] = [Step::Acted(SIGN_AT_BETA)];
 
 // One document was signed on two platforms. Each diary is sound, and nothing is lacking.
 #[test]
 fn two_may_act_where_two_signed(rt: HostRuntime) -> Result<(), Fail> {
-    let alloc = rt.alloc();
-    let beta = [Step::Signed(Act::SignAtBeta)];
-    let scene = staged(alloc, &ISSUED, &beta, &NOTHING)?;
-    assert_eq!(rt; scene.acts(alloc)?, [true, true, false]);
-    assert_eq!(rt; scene.found(alloc)?, Found::Consistent);
-    let here = signed_document(scene.diary(At::Alph)?).ok_or("signed at ALPH")?;
-    let there = signed_document(scene.diary(At::Beta)?).ok_or("signed at BETA")?;
-    assert_eq!(rt; here.as_slice(), there.as_slice());
-    Ok(())
+    let scene = staged(rt.alloc(), &ISSUED, &SIGNED_AT_BETA, &NOTHING)?;
+    assert_acts(&rt, rt.alloc(), &scene, [true, true, false])?;
+    assert_found(&rt, rt.alloc(), &scene, Found::Consistent)?;
+    assert_signed_alike(&rt, &scene)
 }
 
 // ---- of two accepted chains one is a prefix of the other
 
-// BETA and GAMM hold the bill by chains that part at their first entries.
-fn forks<R: Abort>(rt: &R, alloc: Global, scene: &Scenario) -> Result<(), Fail> {
-    assert_eq!(rt; scene.acts(alloc)?, [false, true, true]);
-    let at_beta = scene.only_entry(alloc, At::Beta)?;
-    let at_gamm = scene.only_entry(alloc, At::Gamm)?;
-    assert_eq!(rt; at_beta, Some(scene.name(alloc, EntryId::First)?));
-    assert_eq!(rt; at_gamm, Some(scene.name(alloc, EntryId::Fork)?));
-    assert!(rt; at_beta != at_gamm);
+fn assert_only_entry<R: Abort>(
+    rt: &R,
+    alloc: Global,
+    scene: &Scenario,
+    at: At,
+    route: Route,
+) -> Result<(), Fail> {
+    let want = scene.name(alloc, route)?;
+    assert_eq!(rt; scene.only_entry(alloc, at)?, Some(want));
     Ok(())
 }
+
+// BETA and GAMM hold the bill by chains that part at their first entries.
+fn assert_fork<R: Abort>(rt: &R, alloc: Global, scene: &Scenario) -> Result<(), Fail> {
+    assert_acts(rt, alloc, scene, [false, true, true])?;
+    assert_only_entry(rt, alloc, scene, At::Beta, FIRST)?;
+    assert_only_entry(rt, alloc, scene, At::Gamm, FORK)?;
+    assert!(rt; scene.name(alloc, FIRST)? != scene.name(alloc, FORK)?);
+    Ok(())
+}
+
+const FORK_TAKEN: [Step; 1] = [Step::BegunTaken(FORK)];
+
+const PARTED_TWICE: [Step; 4] = [
+    Step::Acted(SIGN),
+    Step::Acted(ISSUE),
+    Step::Parted(FIRST),
+    Step::Parted(FORK),
+];
 
 // ALPH parted with the bill again while it was parting.
 #[test]
 fn a_fork_by_a_second_parted(rt: HostRuntime) -> Result<(), Fail> {
-    let alloc = rt.alloc();
-    let alph = [
-        Step::Signed(Act::Sign),
-        Step::Acted(Act::Issue),
-        Step::Parted(EntryId::First),
-        Step::Parted(EntryId::Fork),
-    ];
-    let gamm = [Step::BegunTaken(EntryId::Fork)];
-    let scene = staged(alloc, &alph, &TAKEN, &gamm)?;
-    forks(&rt, alloc, &scene)?;
-    assert_eq!(rt; scene.found(alloc)?, Found::Consistent);
-    assert_eq!(rt; tag_before_last(alloc, &alph)?, PlaceTag::Parting);
-    Ok(())
+    let scene = staged(rt.alloc(), &PARTED_TWICE, &TAKEN, &FORK_TAKEN)?;
+    assert_fork(&rt, rt.alloc(), &scene)?;
+    assert_found(&rt, rt.alloc(), &scene, Found::Consistent)?;
+    assert_before(&rt, rt.alloc(), &PARTED_TWICE, PlaceTag::Parting)
 }
+
+const PARTED_AGAIN: [Step; 5] = [
+    Step::Acted(SIGN),
+    Step::Acted(ISSUE),
+    Step::Parted(FIRST),
+    Step::Regained(FIRST),
+    Step::Parted(FORK),
+];
 
 // ALPH parted with the bill again after it had regained an entry that BETA didn't decline, but took.
 #[test]
 fn a_fork_where_nobody_declined(rt: HostRuntime) -> Result<(), Fail> {
-    let alloc = rt.alloc();
-    let alph = [
-        Step::Signed(Act::Sign),
-        Step::Acted(Act::Issue),
-        Step::Parted(EntryId::First),
-        Step::Regained(EntryId::First),
-        Step::Parted(EntryId::Fork),
-    ];
-    let gamm = [Step::BegunTaken(EntryId::Fork)];
-    let scene = staged(alloc, &alph, &TAKEN, &gamm)?;
-    forks(&rt, alloc, &scene)?;
-    let want = scene.lacks(alloc, At::Beta, Lack::Declined)?;
-    assert_eq!(rt; scene.found(alloc)?, want);
-    assert_eq!(rt; tag_before_last(alloc, &alph)?, PlaceTag::Held);
-    Ok(())
+    let scene = staged(rt.alloc(), &PARTED_AGAIN, &TAKEN, &FORK_TAKEN)?;
+    assert_fork(&rt, rt.alloc(), &scene)?;
+    assert_lacks(&rt, rt.alloc(), &scene, At::Beta, Lack::Declined)?;
+    assert_before(&rt, rt.alloc(), &PARTED_AGAIN, PlaceTag::Held)
 }
 
 // ---- at the end of the line the bill is held or parting
@@ -250,114 +312,129 @@ fn a_fork_where_nobody_declined(rt: HostRuntime) -> Result<(), Fail> {
 // ALPH let the bill go, and BETA didn't take it: nobody has it.
 #[test]
 fn nobody_holds_where_nobody_took(rt: HostRuntime) -> Result<(), Fail> {
-    let alloc = rt.alloc();
-    let scene = staged(alloc, &SETTLED, &NOTHING, &NOTHING)?;
-    for (at, want) in [
-        (At::Alph, PlaceTag::Gone),
-        (At::Beta, PlaceTag::Absent),
-        (At::Gamm, PlaceTag::Absent),
-    ] {
-        assert_eq!(rt; scene.place(alloc, at)?.tag(), want, "{at:?}");
-    }
-    let want = scene.lacks(alloc, At::Beta, Lack::Taken)?;
-    assert_eq!(rt; scene.found(alloc)?, want);
-    Ok(())
+    let scene = staged(rt.alloc(), &SETTLED, &NOTHING, &NOTHING)?;
+    assert_place(&rt, rt.alloc(), &scene, At::Alph, PlaceTag::Gone)?;
+    assert_place(&rt, rt.alloc(), &scene, At::Beta, PlaceTag::Absent)?;
+    assert_place(&rt, rt.alloc(), &scene, At::Gamm, PlaceTag::Absent)?;
+    assert_lacks(&rt, rt.alloc(), &scene, At::Beta, Lack::Taken)
 }
 
 // ---- the title there
 
+fn assert_no_title<R: Abort>(rt: &R, alloc: Global, scene: &Scenario) -> Result<(), Fail> {
+    let transactions = scene.transactions(alloc, At::Alph)?;
+    let has_none = fold(transactions.as_slice()).is_err();
+    assert!(rt; has_none);
+    Ok(())
+}
+
+const REFUSED: [Step; 2] = [Step::Acted(SIGN), Step::Acted(ISSUE_BY_EXPORTER)];
+
+const SIGNED_TWICE: [Step; 3] = [Step::Acted(SIGN), Step::Acted(ISSUE), Step::Acted(SIGN)];
+
+const WITHOUT_TITLE: [&[Step]; 2] = [&REFUSED, &SIGNED_TWICE];
+
 // A transaction that isn't taken, and a second Signed where the bill is held: there is no title.
 #[test]
 fn no_title_at_the_end(rt: HostRuntime) -> Result<(), Fail> {
-    let alloc = rt.alloc();
-    let refused = [Step::Signed(Act::Sign), Step::Acted(Act::IssueByExporter)];
-    let twice = [
-        Step::Signed(Act::Sign),
-        Step::Acted(Act::Issue),
-        Step::Signed(Act::Sign),
-    ];
-    let rows: [&[Step]; 2] = [&refused, &twice];
-    for alph in rows {
-        let scene = staged(alloc, alph, &NOTHING, &NOTHING)?;
-        assert_eq!(rt; scene.found(alloc)?, Found::Consistent);
-        assert_eq!(rt; scene.place(alloc, At::Alph)?.tag(), PlaceTag::Held);
-        let transactions = scene.transactions(alloc, At::Alph)?;
-        assert!(rt; fold(transactions.as_slice()).is_err(), "{alph:?}");
-        assert_eq!(rt; tag_before_last(alloc, alph)?, PlaceTag::Held);
+    for alph in &WITHOUT_TITLE {
+        let scene = staged(rt.alloc(), alph, &NOTHING, &NOTHING)?;
+        assert_found(&rt, rt.alloc(), &scene, Found::Consistent)?;
+        assert_place(&rt, rt.alloc(), &scene, At::Alph, PlaceTag::Held)?;
+        assert_no_title(&rt, rt.alloc(), &scene)?;
+        assert_before(&rt, rt.alloc(), alph, PlaceTag::Held)?;
     }
     Ok(())
 }
 
+// The title before the last step.
+fn title_before_last(alloc: Global, steps: &[Step]) -> Result<Title, Fail> {
+    let front = place_before_last(alloc, steps)?;
+    title_of(transactions_at(alloc, &front)?.as_slice())
+}
+
+// On which platform the possessor of the bill is, by the title where it is held.
+fn assert_possessor<R: Abort>(
+    rt: &R,
+    alloc: Global,
+    scene: &Scenario,
+    at: At,
+    want: At,
+) -> Result<(), Fail> {
+    let title = scene.title(alloc, at)?;
+    assert_eq!(rt; possessor(title).platform, code(want)?);
+    Ok(())
+}
+
+const MOVED: [Step; 3] = [
+    Step::Acted(SIGN),
+    Step::Acted(ISSUE),
+    Step::Acted(TO_IMPORTER),
+];
+
 // A transaction that moves, written down as one that stays: ALPH holds the bill, and its possessor is on BETA.
 #[test]
 fn the_possessor_is_elsewhere(rt: HostRuntime) -> Result<(), Fail> {
-    let alloc = rt.alloc();
-    let alph = [
-        Step::Signed(Act::Sign),
-        Step::Acted(Act::Issue),
-        Step::Acted(Act::ToImporter),
-    ];
-    let scene = staged(alloc, &alph, &NOTHING, &NOTHING)?;
-    assert_eq!(rt; scene.found(alloc)?, Found::Consistent);
-    assert_eq!(rt; scene.place(alloc, At::Alph)?.tag(), PlaceTag::Held);
-    let after = scene.title(alloc, At::Alph)?;
-    assert_eq!(rt; possessor(after).platform, code(At::Beta)?);
-    let front = place_before_last(alloc, &alph)?;
-    let before = title_of(transactions_at(alloc, &front)?.as_slice())?;
-    assert!(rt; moves(Some(before), after));
+    let scene = staged(rt.alloc(), &MOVED, &NOTHING, &NOTHING)?;
+    assert_found(&rt, rt.alloc(), &scene, Found::Consistent)?;
+    assert_place(&rt, rt.alloc(), &scene, At::Alph, PlaceTag::Held)?;
+    assert_possessor(&rt, rt.alloc(), &scene, At::Alph, At::Beta)?;
+    let before = title_before_last(rt.alloc(), &MOVED)?;
+    assert!(rt; moves(Some(before), scene.title(rt.alloc(), At::Alph)?));
     Ok(())
+}
+
+const ACTED_WHILE_PARTING: [Step; 4] = [
+    Step::Acted(SIGN),
+    Step::Acted(ISSUE),
+    Step::Parted(FIRST),
+    Step::Acted(TO_BANK),
+];
+
+// The title after these transactions.
+fn title_after(alloc: Global, acts: &[Act]) -> Result<Title, Fail> {
+    title_of(transactions(alloc, acts)?.as_slice())
 }
 
 // A transaction that was made while the bill was parting breaks no promise, but no chain has it: by ALPH's diary the
 // bank has possession, and by the chain that BETA took the importer.
 #[test]
 fn a_transaction_that_no_chain_has(rt: HostRuntime) -> Result<(), Fail> {
-    let alloc = rt.alloc();
-    let alph = [
-        Step::Signed(Act::Sign),
-        Step::Acted(Act::Issue),
-        Step::Parted(EntryId::First),
-        Step::Acted(Act::ToBank),
-    ];
-    let scene = staged(alloc, &alph, &TAKEN, &NOTHING)?;
-    assert_eq!(rt; scene.found(alloc)?, Found::Consistent);
-    assert_eq!(rt; tag_before_last(alloc, &alph)?, PlaceTag::Parting);
-    let importer = possessor(scene.title(alloc, At::Beta)?);
-    assert_eq!(rt; importer.platform, code(At::Beta)?);
-    let mut made = TransactionList::new(alloc);
-    for act in [Act::Sign, Act::Issue, Act::ToBank] {
-        made.push(transaction(act)?)?;
-    }
-    let bank = possessor(title_of(made.as_slice())?);
-    assert_eq!(rt; bank.platform, code(At::Alph)?);
+    let scene = staged(rt.alloc(), &ACTED_WHILE_PARTING, &TAKEN, &NOTHING)?;
+    assert_found(&rt, rt.alloc(), &scene, Found::Consistent)?;
+    assert_before(&rt, rt.alloc(), &ACTED_WHILE_PARTING, PlaceTag::Parting)?;
+    assert_possessor(&rt, rt.alloc(), &scene, At::Beta, At::Beta)?;
+    let title = title_after(rt.alloc(), &[SIGN, ISSUE, TO_BANK])?;
+    assert_eq!(rt; possessor(title).platform, code(At::Alph)?);
     Ok(())
 }
 
 // ---- each entry is taken once, and none is both taken and declined
 
-// GAMM took the entry that moves the bill to BETA.
-#[test]
-fn taken_on_two_platforms(rt: HostRuntime) -> Result<(), Fail> {
-    let alloc = rt.alloc();
-    let scene = staged(alloc, &SETTLED, &TAKEN, &TAKEN)?;
-    assert_eq!(rt; scene.found(alloc)?, Found::Consistent);
-    let entry = scene.name(alloc, EntryId::First)?;
-    assert!(rt; is_taken(scene.diary(At::Beta)?, entry));
-    assert!(rt; is_taken(scene.diary(At::Gamm)?, entry));
-    let destination = possessor(scene.title(alloc, At::Gamm)?).platform;
-    assert_eq!(rt; destination, code(At::Beta)?);
+// Asserts that the first entry was taken on a platform.
+fn assert_taken<R: Abort>(rt: &R, alloc: Global, scene: &Scenario, at: At) -> Result<(), Fail> {
+    let entry = scene.name(alloc, FIRST)?;
+    assert!(rt; is_taken(scene.diary(at)?, entry));
     Ok(())
 }
 
+// GAMM took the entry that moves the bill to BETA.
+#[test]
+fn taken_on_two_platforms(rt: HostRuntime) -> Result<(), Fail> {
+    let scene = staged(rt.alloc(), &SETTLED, &TAKEN, &TAKEN)?;
+    assert_found(&rt, rt.alloc(), &scene, Found::Consistent)?;
+    assert_taken(&rt, rt.alloc(), &scene, At::Beta)?;
+    assert_taken(&rt, rt.alloc(), &scene, At::Gamm)?;
+    assert_possessor(&rt, rt.alloc(), &scene, At::Gamm, At::Beta)
+}
+
 // How often an entry was taken.
-fn takings(alloc: Global, diary: &Diary, entry: Checksum) -> Result<usize, NoMemory> {
-    let mut found = Items::new(alloc);
-    for frame in diary.as_slice() {
-        if taken_by(frame) == Some(entry) {
-            found.push(entry)?;
-        }
-    }
-    Ok(found.len())
+fn takings(diary: &Diary, entry: Checksum) -> usize {
+    diary
+        .as_slice()
+        .iter()
+        .filter(|frame| taken_by(frame) == Some(entry))
+        .count()
 }
 
 // The entry that was taken with a frame.
@@ -372,44 +449,54 @@ fn taken_by(frame: &Frame) -> Option<Checksum> {
     }
 }
 
+const TAKEN_TWICE: [Step; 2] = [Step::BegunTaken(FIRST), Step::Taken(FIRST)];
+
 // BETA took an entry that it had taken.
 #[test]
 fn taken_twice(rt: HostRuntime) -> Result<(), Fail> {
-    let alloc = rt.alloc();
-    let beta = [
-        Step::BegunTaken(EntryId::First),
-        Step::Taken(EntryId::First),
-    ];
-    let scene = staged(alloc, &SETTLED, &beta, &NOTHING)?;
-    assert_eq!(rt; scene.found(alloc)?, Found::Consistent);
-    let entry = scene.name(alloc, EntryId::First)?;
-    assert_eq!(rt; takings(alloc, scene.diary(At::Beta)?, entry)?, 2);
-    assert!(rt; is_taken(&before_last(alloc, &beta)?, entry));
+    let scene = staged(rt.alloc(), &SETTLED, &TAKEN_TWICE, &NOTHING)?;
+    assert_found(&rt, rt.alloc(), &scene, Found::Consistent)?;
+    let entry = scene.name(rt.alloc(), FIRST)?;
+    assert_eq!(rt; takings(scene.diary(At::Beta)?, entry), 2);
+    assert!(rt; is_taken(&before_last(rt.alloc(), &TAKEN_TWICE)?, entry));
+    Ok(())
+}
+
+const DECLINED_LATER: [Step; 2] = [Step::BegunTaken(FIRST), Step::Declined(FIRST)];
+
+const TAKEN_LATER: [Step; 2] = [Step::Declined(FIRST), Step::BegunTaken(FIRST)];
+
+const BOTH: [&[Step]; 2] = [&DECLINED_LATER, &TAKEN_LATER];
+
+// Whether an entry was taken, and whether it was declined.
+fn answered(diary: &Diary, entry: Checksum) -> (bool, bool) {
+    (
+        is_taken(diary, entry),
+        last_declined(diary, entry).is_some(),
+    )
+}
+
+fn assert_both<R: Abort>(
+    rt: &R,
+    alloc: Global,
+    scene: &Scenario,
+    beta: &[Step],
+) -> Result<(), Fail> {
+    let entry = scene.name(alloc, FIRST)?;
+    let whole = answered(scene.diary(At::Beta)?, entry);
+    assert!(rt; whole == (true, true), "{beta:?}");
+    let front = answered(&before_last(alloc, beta)?, entry);
+    assert!(rt; front.0 || front.1, "{beta:?}");
     Ok(())
 }
 
 // BETA declined an entry that it had taken, and took one that it had declined.
 #[test]
 fn taken_and_declined(rt: HostRuntime) -> Result<(), Fail> {
-    let alloc = rt.alloc();
-    let later_declined = [
-        Step::BegunTaken(EntryId::First),
-        Step::Declined(EntryId::First),
-    ];
-    let later_taken = [
-        Step::Declined(EntryId::First),
-        Step::BegunTaken(EntryId::First),
-    ];
-    for beta in [later_declined, later_taken] {
-        let scene = staged(alloc, &SETTLED, &beta, &NOTHING)?;
-        assert_eq!(rt; scene.found(alloc)?, Found::Consistent);
-        let entry = scene.name(alloc, EntryId::First)?;
-        let diary = scene.diary(At::Beta)?;
-        assert!(rt; is_taken(diary, entry));
-        assert!(rt; last_declined(diary, entry).is_some());
-        let front = before_last(alloc, &beta)?;
-        let answered = is_taken(&front, entry) || last_declined(&front, entry).is_some();
-        assert!(rt; answered, "{beta:?}");
+    for beta in &BOTH {
+        let scene = staged(rt.alloc(), &SETTLED, beta, &NOTHING)?;
+        assert_found(&rt, rt.alloc(), &scene, Found::Consistent)?;
+        assert_both(&rt, rt.alloc(), &scene, beta)?;
     }
     Ok(())
 }

@@ -1,24 +1,18 @@
-//! Chains of a bill that goes to and fro between two platforms, signed by the test ring, with flaws at will.
-
-use canonical_json::{Json, is_lawful, read};
+//! Texts of chains of the bill, with flaws at will.
+use super::entries::turn;
+use super::making::{
+    Act, At, EXPORTER, IMPORTER, ISSUE, SIGN, another_bill, code, signed, signed_with, the_bill,
+    transaction,
+};
+use canonical_json::read;
 use chain_entry::encode;
 use document_checksum::checksum;
 use ebl_base::{
-    ByteList, Chain, Checksum, Entry, Kind, Moment, Party, PlatformCode, SignedText, TextList,
-    Transaction, TransactionList,
+    ByteList, Checksum, Entry, Kind, PlatformCode, SignedText, TextList, TransactionList,
 };
-use party_roster::Roster;
-use signed_envelope::{KeyRing, compose};
 use std::alloc::Global;
+use std::test::Fail;
 use test_signer::KeyedRing;
-use transfer_chain::{ChainRefusal, check};
-use transport_document::Document;
-
-const ROSTER: &[u8] =
-    br#"{"carriers":[{"code":"OCNL","party":"ALPH/CARRIER","provider":"NMFTA"}],"parties":["ALPH/CARRIER","ALPH/EXPORT","BETA/IMPORT","GAMM/AGENT"],"platforms":["ALPH","BETA","GAMM"]}"#;
-
-const DOCUMENT: &[u8] =
-    br#"{"carrierCode":"OCNL","carrierCodeListProvider":"NMFTA","isToOrder":true,"transportDocumentReference":"OCNL0000001","transportDocumentTypeCode":"BOL"}"#;
 
 /// What may be wrong with an entry.
 #[derive(Clone, Copy, Debug, PartialEq, Eq)]
@@ -47,8 +41,6 @@ pub(crate) enum Flaw {
     Inside,
     /// The last transaction leaves possession on the platform.
     Stays,
-    /// Another attempt, which is not wrong.
-    Attempt,
 }
 
 /// At most two flaws, with the places of their entries.
@@ -64,73 +56,48 @@ fn has(flaws: &Flaws, at: usize, flaw: Flaw) -> bool {
     flaws.iter().any(|(place, of)| *place == at && *of == flaw)
 }
 
-pub(crate) fn json(alloc: Global, text: &[u8]) -> Option<Json> {
-    read(alloc, text).ok()
-}
+const SIGN_BY_EXPORTER: Act = (Kind::Sign, EXPORTER, "");
 
-fn act(kind: Kind, actor: &str, recipient: Option<&str>) -> Option<Transaction> {
-    let recipient = match recipient {
-        Some(text) => Some(Party::from_text(text.as_bytes())?),
-        None => None,
-    };
-    Some(Transaction {
-        kind,
-        actor: Party::from_text(actor.as_bytes())?,
-        recipient,
-        time: Moment::try_new(1000)?,
-    })
-}
+const ISSUE_BY_EXPORTER: Act = (Kind::Issue, EXPORTER, EXPORTER);
 
 // The carrier signs and issues, at the first entry.
-fn begin(list: &mut TransactionList, flaws: &Flaws) -> Option<()> {
-    let carrier = "ALPH/CARRIER";
-    let export = "ALPH/EXPORT";
-    let signer = if has(flaws, 0, Flaw::Carrier) {
-        export
+fn begin(list: &mut TransactionList, flaws: &Flaws) -> Result<(), Fail> {
+    let by_exporter = has(flaws, 0, Flaw::Carrier);
+    list.push(transaction(if by_exporter { SIGN_BY_EXPORTER } else { SIGN })?)?;
+    let by_exporter = has(flaws, 0, Flaw::Fold);
+    list.push(transaction(if by_exporter {
+        ISSUE_BY_EXPORTER
     } else {
-        carrier
-    };
-    let issuer = if has(flaws, 0, Flaw::Fold) {
-        export
-    } else {
-        carrier
-    };
-    list.push(act(Kind::Sign, signer, None)?).ok()?;
-    list.push(act(Kind::Issue, issuer, Some(export))?).ok()
+        ISSUE
+    })?)?;
+    Ok(())
 }
 
-fn transactions(alloc: Global, at: usize, flaws: &Flaws) -> Option<TransactionList> {
+fn transactions(alloc: Global, at: usize, flaws: &Flaws) -> Result<TransactionList, Fail> {
     let mut list = TransactionList::new(alloc);
-    let (from, to) = if at % 2 == 0 {
-        ("ALPH/EXPORT", "BETA/IMPORT")
-    } else {
-        ("BETA/IMPORT", "ALPH/EXPORT")
-    };
-    let beside = if at % 2 == 0 {
-        "ALPH/BANK"
-    } else {
-        "BETA/STORE"
-    };
     if at == 0 {
         begin(&mut list, flaws)?;
     }
+    let (from, to, beside) = match turn(at) {
+        At::Alph => (EXPORTER, IMPORTER, "ALPH/STORE"),
+        _ => (IMPORTER, EXPORTER, "BETA/STORE"),
+    };
     if has(flaws, at, Flaw::Inside) {
-        list.push(act(Kind::Transfer, from, Some(to))?).ok()?;
-        list.push(act(Kind::Transfer, to, Some(from))?).ok()?;
+        list.push(transaction((Kind::Transfer, from, to))?)?;
+        list.push(transaction((Kind::Transfer, to, from))?)?;
     }
-    let actor = if has(flaws, at, Flaw::Fold) {
+    let by = if has(flaws, at, Flaw::Fold) {
         "GAMM/AGENT"
     } else {
         from
     };
-    let recipient = if has(flaws, at, Flaw::Stays) {
+    let to = if has(flaws, at, Flaw::Stays) {
         beside
     } else {
         to
     };
-    list.push(act(Kind::Transfer, actor, Some(recipient))?)
-        .ok()?;
-    Some(list)
+    list.push(transaction((Kind::Transfer, by, to))?)?;
+    Ok(list)
 }
 
 fn entry(
@@ -139,113 +106,80 @@ fn entry(
     previous: Option<Checksum>,
     at: usize,
     flaws: &Flaws,
-) -> Option<Entry> {
-    let another = checksum(b"another");
-    let turn: &[u8] = if at % 2 == 0 { b"ALPH" } else { b"BETA" };
-    Some(Entry {
-        platform: PlatformCode::try_new(if has(flaws, at, Flaw::Platform) {
-            b"GAMM"
+) -> Result<Entry, Fail> {
+    let has = |flaw: Flaw| has(flaws, at, flaw);
+    Ok(Entry {
+        platform: code(if has(Flaw::Platform) {
+            At::Gamm
         } else {
-            turn
+            turn(at)
         })?,
-        bill: if has(flaws, at, Flaw::Bill) {
-            another
+        bill: if has(Flaw::Bill) {
+            another_bill()
         } else {
             bill
         },
-        previous: if has(flaws, at, Flaw::Link) {
-            Some(another)
+        previous: if has(Flaw::Link) {
+            Some(another_bill())
         } else {
             previous
         },
-        attempt: if has(flaws, at, Flaw::Attempt) { 2 } else { 1 },
+        attempt: 1,
         transactions: transactions(alloc, at, flaws)?,
     })
 }
 
-fn sealed<G: KeyRing>(
-    alloc: Global,
-    ring: &mut G,
-    who: PlatformCode,
-    payload: &Json,
-) -> Option<SignedText> {
-    if !is_lawful(payload) {
-        return None;
-    }
-    compose(alloc, ring, who, payload, 16_384).ok()
-}
-
-fn signed<G: KeyRing>(
-    alloc: Global,
-    ring: &mut G,
-    who: PlatformCode,
-    entry: &Entry,
-) -> Option<SignedText> {
-    sealed(alloc, ring, who, &encode(alloc, entry).ok()?)
-}
-
 // A ring on which ALPH has the key that BETA has on the derived one.
-fn crossed() -> Option<KeyedRing> {
+fn crossed() -> Result<KeyedRing, Fail> {
     let mut key = [0; 64];
     for (i, byte) in checksum(b"EBL-TEST-KEY-BETA").0.iter().enumerate() {
         key[i] = *byte;
     }
-    Some(KeyedRing::one_key(PlatformCode::try_new(b"ALPH")?, key))
+    Ok(KeyedRing::one_key(code(At::Alph)?, key))
+}
+
+// An entry's text, signed by a platform.
+fn sealed(
+    alloc: Global,
+    ring: &mut KeyedRing,
+    who: PlatformCode,
+    entry: &Entry,
+) -> Result<SignedText, Fail> {
+    signed_with(alloc, ring, who, &encode(alloc, entry)?)
 }
 
 fn text(
     alloc: Global,
-    ring: &mut KeyedRing,
     bill: Checksum,
     previous: Option<Checksum>,
     at: usize,
     flaws: &Flaws,
-) -> Option<SignedText> {
+) -> Result<SignedText, Fail> {
     if has(flaws, at, Flaw::NotCompact) {
-        return Some(SignedText(ByteList::from_slice(alloc, b"x").ok()?));
+        return Ok(SignedText(ByteList::from_slice(alloc, b"x")?));
     }
     let entry = entry(alloc, bill, previous, at, flaws)?;
     if has(flaws, at, Flaw::NoEntry) {
-        return sealed(alloc, ring, entry.platform, &json(alloc, b"{}")?);
+        return signed(alloc, entry.platform, &read(alloc, b"{}")?);
     }
     if has(flaws, at, Flaw::WrongKey) {
-        return signed(alloc, &mut crossed()?, entry.platform, &entry);
+        return sealed(alloc, &mut crossed()?, entry.platform, &entry);
     }
-    let who = if has(flaws, at, Flaw::OtherSigner) {
-        PlatformCode::try_new(b"GAMM")?
-    } else {
-        entry.platform
-    };
-    signed(alloc, ring, who, &entry)
+    if has(flaws, at, Flaw::OtherSigner) {
+        return sealed(alloc, &mut KeyedRing::derived(), code(At::Gamm)?, &entry);
+    }
+    sealed(alloc, &mut KeyedRing::derived(), entry.platform, &entry)
 }
 
 /// So many texts of the bill, with these flaws.
-pub(crate) fn texts(alloc: Global, count: usize, flaws: &Flaws) -> Option<TextList> {
-    let document = Document::of_json(alloc, &json(alloc, DOCUMENT)?).ok()?;
-    let mut ring = KeyedRing::derived();
+pub(crate) fn texts(alloc: Global, count: usize, flaws: &Flaws) -> Result<TextList, Fail> {
+    let bill = the_bill(alloc)?.name;
     let mut list = TextList::new(alloc);
     let mut previous = None;
     for at in 0..count {
-        let text = text(alloc, &mut ring, document.bill(), previous, at, flaws)?;
+        let text = text(alloc, bill, previous, at, flaws)?;
         previous = Some(checksum(text.0.as_slice()));
-        list.push(text).ok()?;
+        list.push(text)?;
     }
-    Some(list)
-}
-
-/// What the check of these texts says.
-pub(crate) fn checked(alloc: Global, texts: &TextList) -> Option<Result<Chain, ChainRefusal>> {
-    let roster = Roster::read(alloc, &json(alloc, ROSTER)?).ok()?;
-    let document = Document::of_json(alloc, &json(alloc, DOCUMENT)?).ok()?;
-    Some(checked_by(alloc, &roster, &document, texts, &KeyedRing::derived()))
-}
-
-fn checked_by(
-    alloc: Global,
-    roster: &Roster,
-    document: &Document,
-    texts: &TextList,
-    ring: &KeyedRing,
-) -> Result<Chain, ChainRefusal> {
-    check(alloc, roster, ring, document, texts)
+    Ok(list)
 }

@@ -1,59 +1,51 @@
 //! Where chains end, and how they meet.
-use super::flaws::{Flaw, Flaws, GOOD, checked, one, texts};
-use ebl_base::{Chain, PlatformCode};
+use super::entries::{
+    FIRST, NONE, OTHER_FIRST_THIRD, OTHER_SECOND_THIRD, OTHER_THIRD, Route, SECOND, THIRD, checked,
+};
+use super::making::{At, code, the_bill};
+use ebl_base::Chain;
 use std::alloc::Global;
+use std::test::Fail;
 use transfer_chain::{Meeting, dest, meet};
 
-fn chain(alloc: Global, count: usize, flaws: &Flaws) -> Option<Chain> {
-    if count == 0 {
-        return Some(Chain::new(alloc));
+fn checked_or_empty(alloc: Global, route: Route) -> Result<Chain, Fail> {
+    if route.is_empty() {
+        return Ok(Chain::new(alloc));
     }
-    checked(alloc, &texts(alloc, count, flaws)?)?.ok()
+    checked(alloc, the_bill(alloc)?, route)
+}
+
+fn meeting(alloc: Global, first: Route, second: Route) -> Result<Meeting, Fail> {
+    let first = checked_or_empty(alloc, first)?;
+    let second = checked_or_empty(alloc, second)?;
+    Ok(meet(&first, &second))
+}
+
+const MEETINGS: [(Route, Route, Meeting); 8] = [
+    (NONE, NONE, Meeting::Equal),
+    (NONE, FIRST, Meeting::FirstIsPrefix),
+    (FIRST, SECOND, Meeting::FirstIsPrefix),
+    (THIRD, THIRD, Meeting::Equal),
+    (THIRD, FIRST, Meeting::SecondIsPrefix),
+    (THIRD, OTHER_FIRST_THIRD, Meeting::Parts(0)),
+    (THIRD, OTHER_SECOND_THIRD, Meeting::Parts(1)),
+    (THIRD, OTHER_THIRD, Meeting::Parts(2)),
+];
+
+#[test]
+fn how_chains_meet(rt: HostRuntime) -> Result<(), Fail> {
+    for (first, second, want) in &MEETINGS {
+        let seen = meeting(rt.alloc(), first, second)?;
+        assert_eq!(rt; seen, *want, "{first:?} and {second:?}");
+    }
+    Ok(())
 }
 
 #[test]
-fn how_chains_meet(rt: HostRuntime) {
-    let rows = [
-        (0, 0, Meeting::Equal),
-        (0, 1, Meeting::FirstIsPrefix),
-        (1, 2, Meeting::FirstIsPrefix),
-        (3, 3, Meeting::Equal),
-        (3, 1, Meeting::SecondIsPrefix),
-    ];
-    let alloc = rt.alloc();
-    for (first, second, want) in rows {
-        match (chain(alloc, first, &GOOD), chain(alloc, second, &GOOD)) {
-            (Some(a), Some(b)) => assert_eq!(rt; meet(&a, &b), want, "{first} and {second}"),
-            _ => assert!(rt; false, "{first} and {second}"),
-        }
+fn where_chains_end(rt: HostRuntime) -> Result<(), Fail> {
+    for (route, at) in [(FIRST, At::Beta), (SECOND, At::Alph), (THIRD, At::Beta)] {
+        let chain = checked_or_empty(rt.alloc(), route)?;
+        assert_eq!(rt; dest(&chain), Some(code(at)?), "{route:?}");
     }
-    for at in 0..3 {
-        match (
-            chain(alloc, 3, &GOOD),
-            chain(alloc, 3, &one(at, Flaw::Attempt)),
-        ) {
-            (Some(a), Some(b)) => assert_eq!(rt; meet(&a, &b), Meeting::Parts(at)),
-            _ => assert!(rt; false, "{at}"),
-        }
-    }
-}
-
-// Where the chain of so many entries ends.
-fn end(alloc: Global, count: usize) -> Option<PlatformCode> {
-    match checked(alloc, &texts(alloc, count, &GOOD)?)? {
-        Ok(chain) => dest(&chain),
-        Err(_) => None,
-    }
-}
-
-#[test]
-fn where_chains_end(rt: HostRuntime) {
-    let rows: [(usize, &[u8]); 3] = [(1, b"BETA"), (2, b"ALPH"), (3, b"BETA")];
-    for (count, code) in rows {
-        assert_eq!(rt;
-            end(rt.alloc(), count),
-            PlatformCode::try_new(code),
-            "{count}"
-        );
-    }
+    Ok(())
 }

@@ -1,10 +1,12 @@
 //! The texts in these families are those that the values beside them say, and a survey can read them.
-use super::families::{At, EntryId, begun, bill_with, code};
+use super::entries::SECOND;
+use super::making::{At, Bill, code, the_bill};
+use super::steps::begun;
 use bill_diary::Record;
 use canonical_json::write;
 use document_checksum::checksum;
-use ebl_base::ChainLink;
-use envelope_manifest::{Body, decode};
+use ebl_base::{ByteList, Chain, ChainLink, SignedText};
+use envelope_manifest::{Body, Manifest, decode};
 use signed_envelope::verify_text;
 use std::alloc::Global;
 use std::process::Abort;
@@ -27,37 +29,102 @@ fn is_its_text(alloc: Global, link: &ChainLink) -> Result<bool, Fail> {
     )
 }
 
-#[test]
-fn texts_of_a_begun(rt: HostRuntime) -> Result<(), Fail> {
-    let alloc = rt.alloc();
-    let bill = bill_with(alloc, b'1')?;
-    let Record::Begun {
-        chain,
-        manifest,
-        body,
-        ..
-    } = begun(alloc, &bill, EntryId::Back)?
-    else {
-        return Err("a Begun".into());
-    };
-    let came = Body::read(alloc, body.as_slice())?;
-    assert_eq!(rt; came.write(alloc)?.as_slice(), body.as_slice());
-    let document = write(alloc, &came.document)?;
+/// What a Begun holds beside its bill.
+#[derive(Drop)]
+struct BegunParts {
+    chain: Chain,
+    manifest: Manifest,
+    body: ByteList,
+}
+
+fn begun_parts(alloc: Global, bill: Bill) -> Result<BegunParts, Fail> {
+    match begun(alloc, bill, SECOND)? {
+        Record::Begun {
+            chain,
+            manifest,
+            body,
+            ..
+        } => Ok(BegunParts {
+            chain,
+            manifest,
+            body,
+        }),
+        _ => Err("a Begun".into()),
+    }
+}
+
+// The body is canonical, and its document is the bill's.
+fn assert_body<R: Abort>(
+    rt: &R,
+    alloc: Global,
+    parts: &Body,
+    body: &[u8],
+    bill: Bill,
+) -> Result<(), Fail> {
+    assert_eq!(rt; parts.write(alloc)?.as_slice(), body);
+    let document = write(alloc, &parts.document)?;
     assert_eq!(rt; checksum(document.as_slice()), bill.name);
-    let signed = came.manifest.0.as_slice();
+    Ok(())
+}
+
+// The manifest's text is BETA's, and says what the manifest does.
+fn assert_manifest<R: Abort>(
+    rt: &R,
+    alloc: Global,
+    text: &SignedText,
+    manifest: &Manifest,
+) -> Result<(), Fail> {
     let ring = KeyedRing::derived();
-    let payload = verify_text(alloc, &ring, signed, code(At::Beta)?, 16_384)?;
+    let payload = verify_text(alloc, &ring, text.0.as_slice(), code(At::Beta)?, 16_384)?;
     let listed = decode(alloc, &payload)?;
     assert_eq!(rt; (listed.bill, listed.last), (manifest.bill, manifest.last));
-    assert_eq!(rt; came.chain.len(), chain.len());
-    for (text, link) in came.chain.as_slice().iter().zip(chain.as_slice()) {
+    Ok(())
+}
+
+// The texts are those of the chain's entries.
+fn assert_texts<R: Abort>(
+    rt: &R,
+    alloc: Global,
+    texts: &[SignedText],
+    chain: &[ChainLink],
+) -> Result<(), Fail> {
+    assert_eq!(rt; texts.len(), chain.len());
+    for (text, link) in texts.iter().zip(chain) {
         assert_eq!(rt; text.0.as_slice(), link.text.0.as_slice());
         assert!(rt; is_its_text(alloc, link)?);
     }
-    let [first, last] = chain.as_slice() else {
-        return Err("two entries".into());
-    };
-    assert_eq!(rt; last.entry.previous, Some(first.name));
-    assert_eq!(rt; manifest.last, last.name);
     Ok(())
+}
+
+// There are two entries, the second one behind the first, and the manifest names it.
+fn assert_links<R: Abort>(rt: &R, chain: &[ChainLink], manifest: &Manifest) {
+    match chain {
+        [first, last] => {
+            assert_eq!(rt; last.entry.previous, Some(first.name));
+            assert_eq!(rt; manifest.last, last.name);
+        }
+        _ => panic!(rt; "two entries"),
+    }
+}
+
+fn assert_begun<R: Abort>(
+    rt: &R,
+    alloc: Global,
+    begun: &BegunParts,
+    parts: &Body,
+    bill: Bill,
+) -> Result<(), Fail> {
+    assert_body(rt, alloc, parts, begun.body.as_slice(), bill)?;
+    assert_manifest(rt, alloc, &parts.manifest, &begun.manifest)?;
+    assert_texts(rt, alloc, parts.chain.as_slice(), begun.chain.as_slice())?;
+    assert_links(rt, begun.chain.as_slice(), &begun.manifest);
+    Ok(())
+}
+
+#[test]
+fn texts_of_a_begun(rt: HostRuntime) -> Result<(), Fail> {
+    let bill = the_bill(rt.alloc())?;
+    let begun = begun_parts(rt.alloc(), bill)?;
+    let parts = Body::read(rt.alloc(), begun.body.as_slice())?;
+    assert_begun(&rt, rt.alloc(), &begun, &parts, bill)
 }

@@ -1,0 +1,208 @@
+//! Chains of a bill that goes to and fro between ALPH and BETA, each named by what its entries do. A chain's name is
+//! that of its last entry too.
+use super::making::{
+    Act, At, Bill, ENDORSE_TO_IMPORTER, EXPORTER, IMPORTER, ISSUE, SIGN, TO_AGENT, WIDE, code,
+    link_of, roster, transaction,
+};
+use ebl_base::{
+    Chain, ChainLink, Checksum, Copied, Entry, Kind, SignedText, TextList, TransactionList,
+};
+use std::alloc::Global;
+use std::test::Fail;
+use test_signer::KeyedRing;
+use transfer_chain::{ChainRefusal, check};
+
+/// What an entry does with the bill.
+#[derive(Clone, Copy, Debug, PartialEq, Eq)]
+pub(crate) enum Leg {
+    /// It hands the bill to the other platform.
+    Usual,
+    /// The same, as another attempt.
+    Other,
+    /// The same; the title is endorsed to the importer before. ALPH's first entry alone does so.
+    Endorsed,
+    /// It hands the bill to GAMM, as another attempt. ALPH alone does so.
+    ToAgent,
+    /// It hands the bill to a party of the other platform that the roster doesn't know.
+    ToUnknown,
+    /// A party that doesn't have the bill hands it on, which is refused.
+    ByUnknown,
+}
+
+/// The entries of a chain.
+pub(crate) type Route = &'static [Leg];
+
+/// The empty chain, which has no last entry.
+pub(crate) const NONE: Route = &[];
+
+pub(crate) const FIRST: Route = &[Leg::Usual];
+
+pub(crate) const SECOND: Route = &[Leg::Usual, Leg::Usual];
+
+pub(crate) const THIRD: Route = &[Leg::Usual, Leg::Usual, Leg::Usual];
+
+pub(crate) const FOURTH: Route = &[Leg::Usual, Leg::Usual, Leg::Usual, Leg::Usual];
+
+/// Chains that part from those at the first entry.
+pub(crate) const OTHER_FIRST: Route = &[Leg::Other];
+
+pub(crate) const OTHER_FIRST_SECOND: Route = &[Leg::Other, Leg::Usual];
+
+pub(crate) const OTHER_FIRST_THIRD: Route = &[Leg::Other, Leg::Usual, Leg::Usual];
+
+pub(crate) const OTHER_FIRST_FOURTH: Route = &[Leg::Other, Leg::Usual, Leg::Usual, Leg::Usual];
+
+/// At the second entry.
+pub(crate) const OTHER_SECOND: Route = &[Leg::Usual, Leg::Other];
+
+pub(crate) const OTHER_SECOND_THIRD: Route = &[Leg::Usual, Leg::Other, Leg::Usual];
+
+pub(crate) const OTHER_SECOND_FOURTH: Route = &[Leg::Usual, Leg::Other, Leg::Usual, Leg::Usual];
+
+/// At the third entry.
+pub(crate) const OTHER_THIRD: Route = &[Leg::Usual, Leg::Usual, Leg::Other];
+
+pub(crate) const OTHER_THIRD_FOURTH: Route = &[Leg::Usual, Leg::Usual, Leg::Other, Leg::Usual];
+
+/// Chains whose last entry hands the bill to GAMM, or endorses it.
+pub(crate) const FORK: Route = &[Leg::ToAgent];
+
+pub(crate) const ENDORSED: Route = &[Leg::Endorsed];
+
+pub(crate) const ENDORSED_SECOND: Route = &[Leg::Endorsed, Leg::Usual];
+
+/// Chains whose last entry hands the bill to an unknown party.
+pub(crate) const FIRST_TO_UNKNOWN: Route = &[Leg::ToUnknown];
+
+pub(crate) const SECOND_TO_UNKNOWN: Route = &[Leg::Usual, Leg::ToUnknown];
+
+pub(crate) const THIRD_TO_UNKNOWN: Route = &[Leg::Usual, Leg::Usual, Leg::ToUnknown];
+
+/// Chains whose last entry is refused.
+pub(crate) const FIRST_BY_UNKNOWN: Route = &[Leg::ByUnknown];
+
+pub(crate) const SECOND_BY_UNKNOWN: Route = &[Leg::Usual, Leg::ByUnknown];
+
+/// The platform whose turn it is after so many entries.
+pub(crate) fn turn(entries: usize) -> At {
+    if entries % 2 == 0 { At::Alph } else { At::Beta }
+}
+
+// The transfer of an entry after so many entries.
+fn transfer(entries: usize, leg: Leg) -> Act {
+    let (from, to, unknown) = match turn(entries) {
+        At::Alph => (EXPORTER, IMPORTER, "BETA/GHOST"),
+        _ => (IMPORTER, EXPORTER, "ALPH/GHOST"),
+    };
+    match leg {
+        Leg::ToAgent => TO_AGENT,
+        Leg::ToUnknown => (Kind::Transfer, from, unknown),
+        Leg::ByUnknown => (Kind::Transfer, unknown, to),
+        _ => (Kind::Transfer, from, to),
+    }
+}
+
+fn transactions(alloc: Global, entries: usize, leg: Leg) -> Result<TransactionList, Fail> {
+    let mut list = TransactionList::new(alloc);
+    if entries == 0 {
+        list.push(transaction(SIGN)?)?;
+        list.push(transaction(ISSUE)?)?;
+    }
+    if leg == Leg::Endorsed {
+        list.push(transaction(ENDORSE_TO_IMPORTER)?)?;
+    }
+    list.push(transaction(transfer(entries, leg))?)?;
+    Ok(list)
+}
+
+// Each platform's usual attempts are counted.
+fn attempt(entries: usize, leg: Leg) -> u32 {
+    let usual = if entries < 2 { 1 } else { 2 };
+    match leg {
+        Leg::Other | Leg::ToAgent => usual + 1,
+        _ => usual,
+    }
+}
+
+// An entry after a chain.
+fn link(alloc: Global, bill: Bill, before: &[ChainLink], leg: Leg) -> Result<ChainLink, Fail> {
+    let previous = match before.last() {
+        Some(link) => Some(link.name),
+        None => None,
+    };
+    let entry = Entry {
+        platform: code(turn(before.len()))?,
+        bill: bill.name,
+        previous,
+        attempt: attempt(before.len(), leg),
+        transactions: transactions(alloc, before.len(), leg)?,
+    };
+    link_of(alloc, entry)
+}
+
+pub(crate) fn chain(alloc: Global, bill: Bill, route: Route) -> Result<Chain, Fail> {
+    let mut chain = Chain::new(alloc);
+    for leg in route {
+        let link = link(alloc, bill, chain.as_slice(), *leg)?;
+        chain.push(link)?;
+    }
+    Ok(chain)
+}
+
+/// The last entry of a chain.
+pub(crate) fn last(alloc: Global, bill: Bill, route: Route) -> Result<ChainLink, Fail> {
+    let mut links = chain(alloc, bill, route)?.into_vec();
+    Ok(links.pop().ok_or("an entry")?)
+}
+
+/// The name of the last entry of a chain.
+pub(crate) fn name(alloc: Global, bill: Bill, route: Route) -> Result<Checksum, Fail> {
+    Ok(last(alloc, bill, route)?.name)
+}
+
+/// Whether a text is that of the last entry of a chain: none, of the empty one.
+pub(crate) fn is_text(
+    alloc: Global,
+    bill: Bill,
+    text: &Option<SignedText>,
+    route: Route,
+) -> Result<bool, Fail> {
+    match text {
+        Some(text) => Ok(last(alloc, bill, route)?.text.0.as_slice() == text.0.as_slice()),
+        None => Ok(route.is_empty()),
+    }
+}
+
+pub(crate) fn texts(alloc: Global, chain: &Chain) -> Result<TextList, Fail> {
+    let mut texts = TextList::new(alloc);
+    for link in chain.as_slice() {
+        texts.push(link.text.copy(alloc)?)?;
+    }
+    Ok(texts)
+}
+
+/// What the check of a chain's texts says.
+pub(crate) fn found(
+    alloc: Global,
+    bill: Bill,
+    route: Route,
+) -> Result<Result<Chain, ChainRefusal>, Fail> {
+    let texts = texts(alloc, &chain(alloc, bill, route)?)?;
+    found_of(alloc, bill, &texts)
+}
+
+/// What the check of these texts says.
+pub(crate) fn found_of(
+    alloc: Global,
+    bill: Bill,
+    texts: &TextList,
+) -> Result<Result<Chain, ChainRefusal>, Fail> {
+    let roster = roster(alloc, WIDE)?;
+    let document = bill.document(alloc)?;
+    Ok(check(alloc, &roster, &KeyedRing::derived(), &document, texts))
+}
+
+/// A chain that is found good from its texts.
+pub(crate) fn checked(alloc: Global, bill: Bill, route: Route) -> Result<Chain, Fail> {
+    Ok(found(alloc, bill, route)??)
+}

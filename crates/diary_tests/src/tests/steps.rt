@@ -1,0 +1,262 @@
+//! What platforms write down of a bill, and the diaries of it.
+use super::entries::{Route, chain, last, name, texts};
+use super::making::{Act, Bill, another_bill, signed, transaction};
+use bill_diary::{Diary, Frame, Record};
+use document_checksum::checksum;
+use ebl_base::{
+    ByteList, CharList, Checksum, Code, Evidence, Items, Kind, PlatformCode, Reason, SignedText,
+};
+use envelope_manifest::{Body, Manifest, Piece, encode as encode_manifest};
+use std::alloc::Global;
+use std::test::Fail;
+
+/// An additional document of the tests.
+#[derive(Clone, Copy, Debug, PartialEq, Eq)]
+pub(crate) enum Paper {
+    Packing,
+    Weights,
+}
+
+/// What is written down next; an entry is the last one of a chain.
+#[derive(Clone, Copy, Debug)]
+pub(crate) enum Step {
+    /// A Signed where the act is a SIGN.
+    Acted(Act),
+    Attached(Paper),
+    Parted(Route),
+    Settled(Route),
+    Regained(Route),
+    Begun(Route),
+    BegunTaken(Route),
+    Stored(Paper),
+    StoredOfAnotherBill(Paper),
+    Taken(Route),
+    TakenOfAnotherBill(Route),
+    /// Since the chains part; the evidence is the entry.
+    Disputed(Route),
+    DisputedOfAnotherBill(Route),
+    /// Since the roster doesn't know the party; without evidence.
+    Declined(Route),
+}
+
+// ---- documents
+
+fn bytes_of(paper: Paper) -> &'static [u8] {
+    match paper {
+        Paper::Packing => b"packing list",
+        Paper::Weights => b"weights",
+    }
+}
+
+pub(crate) fn paper_name(paper: Paper) -> Checksum {
+    checksum(bytes_of(paper))
+}
+
+/// A document of this size and this checksum, whatever its bytes.
+pub(crate) fn piece(alloc: Global, size: u32, checksum: Checksum) -> Piece {
+    Piece {
+        name: CharList::new(alloc),
+        media: CharList::new(alloc),
+        size,
+        checksum,
+    }
+}
+
+fn piece_of(alloc: Global, paper: Paper) -> Piece {
+    let size = match paper {
+        Paper::Packing => 12,
+        Paper::Weights => 7,
+    };
+    piece(alloc, size, paper_name(paper))
+}
+
+/// The manifest of a chain that ends in this entry, with these documents.
+pub(crate) fn manifest(
+    alloc: Global,
+    bill: Checksum,
+    last: Checksum,
+    papers: &[Paper],
+) -> Result<Manifest, Fail> {
+    let mut documents = Items::new(alloc);
+    for paper in papers {
+        documents.push(piece_of(alloc, *paper))?;
+    }
+    Ok(Manifest {
+        bill,
+        last,
+        documents,
+    })
+}
+
+fn manifest_text(
+    alloc: Global,
+    who: PlatformCode,
+    manifest: &Manifest,
+) -> Result<SignedText, Fail> {
+    signed(alloc, who, &encode_manifest(alloc, manifest)?)
+}
+
+// ---- records
+
+fn acted(alloc: Global, bill: Bill, act: Act) -> Result<Record, Fail> {
+    let transaction = transaction(act)?;
+    if transaction.kind == Kind::Sign {
+        return Ok(Record::Signed {
+            bill: bill.name,
+            document: bill.text(alloc)?,
+            transaction,
+        });
+    }
+    Ok(Record::Acted {
+        bill: bill.name,
+        transaction,
+    })
+}
+
+fn attached(alloc: Global, bill: Bill, paper: Paper) -> Result<Record, Fail> {
+    Ok(Record::Attached {
+        bill: bill.name,
+        piece: piece_of(alloc, paper),
+        bytes: ByteList::from_slice(alloc, bytes_of(paper))?,
+    })
+}
+
+fn stored(alloc: Global, of: Checksum, entry: Checksum, paper: Paper) -> Result<Record, Fail> {
+    Ok(Record::Stored {
+        bill: of,
+        entry,
+        checksum: paper_name(paper),
+        bytes: ByteList::from_slice(alloc, bytes_of(paper))?,
+    })
+}
+
+fn parted(alloc: Global, bill: Bill, route: Route) -> Result<Record, Fail> {
+    let link = last(alloc, bill, route)?;
+    let manifest = manifest(alloc, bill.name, link.name, &[])?;
+    let manifest_text = manifest_text(alloc, link.entry.platform, &manifest)?;
+    Ok(Record::Parted {
+        bill: bill.name,
+        link,
+        manifest,
+        manifest_text,
+    })
+}
+
+// The body of an envelope with a chain that ends in an entry.
+fn body(alloc: Global, bill: Bill, route: Route, manifest: SignedText) -> Result<ByteList, Fail> {
+    let body = Body {
+        document: bill.json(alloc)?,
+        manifest,
+        chain: texts(alloc, &chain(alloc, bill, route)?)?,
+    };
+    Ok(body.write(alloc)?)
+}
+
+pub(crate) fn begun(alloc: Global, bill: Bill, route: Route) -> Result<Record, Fail> {
+    let last = last(alloc, bill, route)?;
+    let manifest = manifest(alloc, bill.name, last.name, &[])?;
+    let text = manifest_text(alloc, last.entry.platform, &manifest)?;
+    Ok(Record::Begun {
+        bill: bill.name,
+        chain: chain(alloc, bill, route)?,
+        manifest,
+        body: body(alloc, bill, route, text)?,
+    })
+}
+
+fn settled(alloc: Global, bill: Bill, route: Route) -> Result<Record, Fail> {
+    Ok(Record::Settled {
+        bill: bill.name,
+        entry: name(alloc, bill, route)?,
+    })
+}
+
+fn regained(alloc: Global, bill: Bill, route: Route) -> Result<Record, Fail> {
+    Ok(Record::Regained {
+        bill: bill.name,
+        entry: name(alloc, bill, route)?,
+    })
+}
+
+fn taken(alloc: Global, of: Checksum, bill: Bill, route: Route) -> Result<Record, Fail> {
+    Ok(Record::Taken {
+        bill: of,
+        entry: name(alloc, bill, route)?,
+    })
+}
+
+fn disputed(alloc: Global, of: Checksum, bill: Bill, route: Route) -> Result<Record, Fail> {
+    let link = last(alloc, bill, route)?;
+    Ok(Record::Declined {
+        bill: of,
+        entry: link.name,
+        code: Code::DisputedEnvelope,
+        reason: Reason::Parts,
+        evidence: Evidence {
+            own: None,
+            theirs: Some(link.text),
+        },
+    })
+}
+
+fn declined(alloc: Global, bill: Bill, route: Route) -> Result<Record, Fail> {
+    Ok(Record::Declined {
+        bill: bill.name,
+        entry: name(alloc, bill, route)?,
+        code: Code::BadEnvelope,
+        reason: Reason::Party,
+        evidence: Evidence {
+            own: None,
+            theirs: None,
+        },
+    })
+}
+
+fn record(alloc: Global, bill: Bill, step: Step) -> Result<Record, Fail> {
+    match step {
+        Step::Acted(act) => acted(alloc, bill, act),
+        Step::Attached(paper) => attached(alloc, bill, paper),
+        Step::Parted(route) => parted(alloc, bill, route),
+        Step::Settled(route) => settled(alloc, bill, route),
+        Step::Regained(route) => regained(alloc, bill, route),
+        Step::Begun(route) | Step::BegunTaken(route) => begun(alloc, bill, route),
+        Step::Stored(paper) => stored(alloc, bill.name, bill.name, paper),
+        Step::StoredOfAnotherBill(paper) => stored(alloc, another_bill(), bill.name, paper),
+        Step::Taken(route) => taken(alloc, bill.name, bill, route),
+        Step::TakenOfAnotherBill(route) => taken(alloc, another_bill(), bill, route),
+        Step::Disputed(route) => disputed(alloc, bill.name, bill, route),
+        Step::DisputedOfAnotherBill(route) => disputed(alloc, another_bill(), bill, route),
+        Step::Declined(route) => declined(alloc, bill, route),
+    }
+}
+
+/// What is written down at once.
+pub(crate) fn frame(alloc: Global, bill: Bill, step: Step) -> Result<Frame, Fail> {
+    let record = record(alloc, bill, step)?;
+    match step {
+        Step::BegunTaken(_) => Ok(Frame::BegunTaken(record)),
+        _ => Ok(Frame::One(record)),
+    }
+}
+
+// ---- diaries
+
+/// A diary goes on.
+pub(crate) fn write_down(
+    alloc: Global,
+    diary: &mut Diary,
+    bill: Bill,
+    steps: &[Step],
+) -> Result<(), Fail> {
+    for step in steps {
+        diary.push(frame(alloc, bill, *step)?)?;
+    }
+    Ok(())
+}
+
+/// The diary of these steps.
+pub(crate) fn diary(alloc: Global, bill: Bill, steps: &[Step]) -> Result<Diary, Fail> {
+    let mut diary = Items::new(alloc);
+    write_down(alloc, &mut diary, bill, steps)?;
+    Ok(diary)
+}
