@@ -1,46 +1,38 @@
--- What a request that was taken makes of the world.
-use Rattle.std.proofs.Common.{ℕ, ◌≡◌, ◌≢◌, ◌⊎◌, inl, inr, ◌≤◌, Bool, true, false, List, [], ◌++◌, length, Option, None, Result, Ok, Err, refl, sym, ap, subst, ◌∙◌, arith}
-use Rattle.std.specs.Prelude.{IfOk, OnErr, OnOk, option_map}
-use Rattle.std.specs.Option.{option_to_list, option_or}
+-- What becomes of the world where a request was taken.
+use Rattle.std.proofs.Common.{ℕ, ◌≡◌, ◌⊎◌, inl, inr, ◌≤◌, Bool, List, [], ◌∷◌, ◌++◌, length, Result, Ok, Err, refl, sym, ap, subst, ◌∙◌, arith}
+use Rattle.std.specs.Prelude.{IfOk, OnErr, OnOk}
+use Rattle.std.specs.Option.{option_to_list}
 use Rattle.std.proofs.lemmas.List.{append-nil, length-append}
 use Rattle.ebl_base.specs.declared.checksum.Checksum.{Checksum}
 use Rattle.ebl_base.specs.declared.moment.Moment.{Moment}
+use Rattle.ebl_base.specs.declared.platform_code.PlatformCode.{PlatformCode}
 use Rattle.holder_commands.specs.Command.{signs, acts, attaches}
+use Rattle.party_roster.specs.RosterRecord.{RosterRecord}
 use Rattle.platform_requests.specs.Request.{RequestRecord, commands, starts, puts, finishes, start_replies, finish_replies, resends, asks}
 use Rattle.platform_requests.specs.Shard.{shard_of}
 use Rattle.platform_requests.specs.declared.message.Message.{Message}
 use Rattle.platform_requests.specs.declared.outcome.Outcome.{Outcome}
 use Rattle.platform_requests.specs.declared.reply.Reply.{Reply}
 use Rattle.platform_requests.specs.declared.reply.Reply.TheVariants as replies
-use Rattle.platform_machine.specs.Complete.{is_failure}
-use Rattle.platform_machine.specs.Machine.{MayBeAsked}
-use Rattle.world_script.specs.Event.{EventRecord}
 use Rattle.answer_lines.specs.Lines.{IsWritable}
 use Rattle.answer_lines.specs.declared.answer.Answer.{Answer}
 use Rattle.answer_lines.specs.declared.answer.Answer.TheVariants.{Replied}
-use Rattle.answer_lines.specs.declared.parcel.Content.{Content}
 use Rattle.answer_lines.specs.declared.parcel.Parcel.{Parcel}
 use Rattle.platform_world.specs.declared.fate.Fate.{Fate}
-use Rattle.platform_world.specs.declared.fate.FateEnd.TheVariants.{Whole, SignFault}
+use Rattle.platform_world.specs.declared.fate.FateEnd.{FateEnd}
+use Rattle.platform_world.specs.declared.fate.FateEnd.TheVariants.{Short, Stuck, Whole}
 use Rattle.platform_world.specs.declared.parcels.ReplyPath.{ReplyPath}
 use Rattle.platform_world.specs.Happening.{Asking, Happening}
 use Rattle.platform_world.specs.Happening as happening
-use Rattle.platform_world.specs.Machine.{MachineRecord}
-use Rattle.party_roster.specs.RosterRecord.{RosterRecord}
-use Rattle.platform_world.specs.Platforms.{PlatformsRecord, TakesAt, states_of}
-use Rattle.platform_world.specs.Run.{line_after}
-use Rattle.platform_world.specs.State.{HasHappened, HasHappenedWhole, IsAnsweredWhole, IsCutShort, IsFollowed, IsSteppedWhole, MayAsk, WorldState, bill_by, is_sign, world_of}
-use Rattle.platform_world.specs.Step.{Happens, IsAt, IsPathOf, bills_signed, kind_of, parcels_of, reply_content, reply_parcel, request_bill, sends}
-use Rattle.platform_world.specs.World.{PlatformState, ShardState, WorldRecord, with_shard}
-use Rattle.platform_machine.specs.Step.{with_frame}
-use Rattle.platform_machine.specs.declared.step.Step.{Step}
+use Rattle.platform_world.specs.Machine.{Counts, MachineRecord, disk_times, ring_times}
+use Rattle.platform_world.specs.Platforms.{EachRose, PlatformsRecord, TakesAt, failures_at, index_of, states_of, times_at, times_if}
+use Rattle.platform_world.specs.Shard.{EndsAs, TakesAs}
+use Rattle.platform_world.specs.State.{HasFate, HasHappened, IsCut, IsFollowed, WorldState, bill_by, is_sign, world_of}
+use Rattle.platform_world.specs.Start.{AreReadAgain}
+use Rattle.platform_world.specs.Step.{Happens, IsAt, IsPathOf, StartsAgain, bills_signed, disk_failed_at, parcels_of, ring_failed_at, sends, start_answer}
+use Rattle.platform_world.specs.World.{PlatformState, ShardState, WorldRecord}
+use Rattle.platform_world.proofs.Counts.{asked_disk, asked_ring, none_rose, rose_as, rose_later}
 use Rattle.platform_world.proofs.Paths.{path_leads}
-
-abbrev whole : Fate
-whole = record { end = Whole; kept = [] }
-
-abbrev sign_fault : Fate
-sign_fault = record { end = SignFault; kept = [] }
 
 -- the world with these platforms, and what a reply with its messages sends and signs
 abbrev world_with : WorldRecord → Asking → List PlatformState → Reply → List Message → WorldRecord
@@ -51,137 +43,30 @@ world_with w a platforms reply own = record {
   signed = w.signed ++ bills_signed a.request reply;
 }
 
--- the platforms after a step of a shard
-abbrev stepped : WorldRecord → Asking → ShardState → Step → List PlatformState
-stepped w a shard step =
-    with_shard a.at (shard_of a.request) (record shard { diary = with_frame shard.diary step.frame }) w.platforms
+-- ---- where memory runs out, the reply says so
 
--- a request that was taken at its moment happened whole
-happened : (w : WorldRecord) (a : Asking) (now : Moment) (out : Outcome) (after : List PlatformState)
-    → IsAt a.now now → (t : TakesAt w.roster w.platforms a.at (shard_of a.request) now a.request out after)
-    → MayBeAsked t.shard.diary now a.request
-    → Happens w (happening.asks a) whole (Replied out.reply) (world_with w a after out.reply out.messages)
-happened w a now out after moment t may = inl (
-  (refl, refl),
-  record {
-    shard = t.shard;
-    is_asked = t.is_asked;
-    not_loose = t.not_loose;
-    now = now;
-    moment = moment;
-    may = may;
-    step = t.step;
-    steps = t.steps;
-    answer_is = ap (λ (r : Reply). Replied r) t.reply_is;
-    after_is = ap (λ (ps : List PlatformState). world_with w a ps out.reply out.messages) t.after_is
-        ∙ ap (λ (r : Reply). world_with w a (stepped w a t.shard t.step) r out.messages) t.reply_is
-        ∙ ap (λ (own : List Message). world_with w a (stepped w a t.shard t.step) t.step.reply own) t.messages_are;
-  },
-)
+short_ends : (roster : RosterRecord) (p : PlatformCode) (found : ShardState) (now : Moment) (request : RequestRecord)
+    (end : FateEnd) (out : Outcome) (after : ShardState) → end ≡ Short
+    → EndsAs roster p found now request end out after → out.reply ≡ replies.NoMemory
+short_ends roster p found now request end out after short ends =
+    let so : EndsAs roster p found now request Short out after =
+    subst (λ (e : FateEnd). EndsAs roster p found now request e out after) short ends in
+    ap (λ (o : Outcome). o.reply) so.0
 
--- ---- where the ring fails to sign
-
-unsigned : (request : RequestRecord) → bills_signed request replies.Sign ≡ []
-unsigned (commands party (signs document)) = refl
-unsigned (commands party (acts bill kind recipient)) = refl
-unsigned (commands party (attaches bill name media bytes)) = refl
-unsigned (starts body) = refl
-unsigned (puts reference checksum bytes) = refl
-unsigned (finishes reference) = refl
-unsigned (start_replies bill bytes) = refl
-unsigned (finish_replies bill bytes) = refl
-unsigned (resends bill) = refl
-unsigned (asks bill) = refl
-
-unsent : (request : RequestRecord) → reply_content (kind_of request) replies.Sign ≡ None
-unsent (commands party command) = refl
-unsent (starts body) = refl
-unsent (puts reference checksum bytes) = refl
-unsent (finishes reference) = refl
-unsent (start_replies bill bytes) = refl
-unsent (finish_replies bill bytes) = refl
-unsent (resends bill) = refl
-unsent (asks bill) = refl
-
--- nothing is sent and signed
-silent : (w : WorldRecord) (a : Asking) → world_with w a w.platforms replies.Sign [] ≡ w
-silent w a =
-    ap (λ (content : Option Content). record {
-      roster = w.roster;
-      platforms = w.platforms;
-      sent = w.sent
-          ++ option_to_list (option_map (reply_parcel a.at a.sender (option_or (request_bill a.request) None)) content);
-      signed = w.signed ++ bills_signed a.request replies.Sign;
-    }) (unsent a.request)
-    ∙ ap (λ (sent : List Parcel). record {
-      roster = w.roster;
-      platforms = w.platforms;
-      sent = sent;
-      signed = w.signed ++ bills_signed a.request replies.Sign;
-    }) (append-nil w.sent)
-    ∙ ap (λ (signed : List Checksum). record {
-      roster = w.roster;
-      platforms = w.platforms;
-      sent = w.sent;
-      signed = w.signed ++ signed;
-    }) (unsigned a.request)
-    ∙ ap (λ (signed : List Checksum). record {
-      roster = w.roster;
-      platforms = w.platforms;
-      sent = w.sent;
-      signed = signed;
-    }) (append-nil w.signed)
-
-failed : (w : WorldRecord) (a : Asking) (out : Outcome) (after : List PlatformState)
-    → out.reply ≡ replies.Sign → out.messages ≡ [] → after ≡ w.platforms
-    → Happens w (happening.asks a) sign_fault (Replied out.reply) (world_with w a after out.reply out.messages)
-failed w a out after sign none same =
-    inr (
-      (refl, refl),
-      (
-        ap (λ (r : Reply). Replied r) sign,
-        ap (λ (ps : List PlatformState). world_with w a ps out.reply out.messages) same
-            ∙ ap (λ (r : Reply). world_with w a w.platforms r out.messages) sign
-            ∙ ap (λ (own : List Message). world_with w a w.platforms replies.Sign own) none
-            ∙ silent w a,
-      ),
-    )
-
--- ---- either
-
--- what happened, and that it was taken whole, unless the ring failed to sign
-record Happened (w : WorldRecord) (a : Asking) (out : Outcome) (after : List PlatformState) : Type 0 where
-  fate : Fate
-  happens : Happens w (happening.asks a) fate (Replied out.reply) (world_with w a after out.reply out.messages)
-  ends : (fate.end ≡ Whole) ⊎ (out.reply ≡ replies.Sign)
-
--- what was asked happens, where memory doesn't run out
-happens_so : (w : WorldRecord) (a : Asking) (now : Moment) (out : Outcome) (after : List PlatformState)
-    → IsAt a.now now → MayAsk w a → out.reply ≢ replies.NoMemory
-    → (is_failure out.reply ≡ false → TakesAt w.roster w.platforms a.at (shard_of a.request) now a.request out after)
-    → (is_failure out.reply ≡ true → after ≡ w.platforms)
-    → (is_failure out.reply ≡ true → out.messages ≡ [])
-    → (is_failure out.reply ≡ true → (out.reply ≡ replies.Sign) ⊎ (out.reply ≡ replies.NoMemory))
-    → Happened w a out after
-happens_so w a now out after moment may some takes kept none why = on_kind (is_failure out.reply) refl
+short_out : (roster : RosterRecord) (p : PlatformCode) (i : ℕ) (shard : ShardState) (now : Moment)
+    (request : RequestRecord) (fate : Fate) (out : Outcome) (later : ShardState)
+    → TakesAs roster p i shard now request fate out later → fate.end ≡ Short → out.reply ≡ replies.NoMemory
+short_out roster p i shard now request fate out later (inl unread) short = on_cause unread.cause
   where
-    on_kind : (fails : Bool) → is_failure out.reply ≡ fails → Happened w a out after
-    on_kind false is =
-        let t = takes is in
-        record {
-          fate = whole;
-          happens = happened w a now out after moment t (may.may now t.shard moment t.is_asked);
-          ends = inl refl;
-        }
-    on_kind true is = on_cause (why is)
-      where
-        on_cause : (out.reply ≡ replies.Sign) ⊎ (out.reply ≡ replies.NoMemory) → Happened w a out after
-        on_cause (inl sign) = record {
-          fate = sign_fault;
-          happens = failed w a out after sign (none is) (kept is);
-          ends = inr sign;
-        }
-        on_cause (inr memory) = absurd (some memory)
+    said : out.reply ≡ unread.reply
+    said = ap (λ (o : Outcome). o.reply) unread.refused.0
+
+    on_cause : ((fate.end ≡ Stuck i) × (unread.reply ≡ replies.Disk)) ⊎ ((fate.end ≡ Short) × (unread.reply ≡ replies.NoMemory))
+        → out.reply ≡ replies.NoMemory
+    on_cause (inl (stuck, disk)) = absurd (let clash = sym stuck ∙ short in cc clash)
+    on_cause (inr (is, memory)) = said ∙ memory
+short_out roster p i shard now request fate out later (inr t) short =
+    short_ends roster p t.found now request fate.end out later short t.ends
 
 -- ---- bills
 
@@ -226,13 +111,13 @@ listed w platforms sent signed =
     record { roster = w.roster; platforms = platforms; sent = sent; signed = signed }
 
 -- the world that was followed to is that with what the reply sends and signs
-followed_to : {M : Type 0} (seen : M → MachineRecord) (w between after : WorldState M) (a : Asking) (out : Outcome)
+followed_to : {M R : Type 0} (seen : M → MachineRecord) (w between after : WorldState M R) (a : Asking) (out : Outcome)
     (path : ReplyPath) (signing : Bool) → IsPathOf a path → signing ≡ is_sign a.request
     → between.sent ≡ w.sent → between.signed ≡ w.signed
     → between.platforms.roster ≡ w.platforms.roster → after.platforms ≡ between.platforms
     → IsFollowed between path signing out after
     → world_with (world_of seen w) a (world_of seen between).platforms out.reply out.messages ≡ world_of seen after
-followed_to {M = M} seen w between after a out path signing is_path is_signing same_sent same_signed same_roster
+followed_to {M = M} {R = R} seen w between after a out path signing is_path is_signing same_sent same_signed same_roster
     same_platforms follows =
     let parcels_are = path_leads a path out.reply out.messages is_path in
     let bills_are = ap (λ (b : Bool). option_to_list (bill_by b out.reply)) is_signing ∙ by_sign a.request out.reply in
@@ -251,57 +136,14 @@ followed_to {M = M} seen w between after a out path signing is_path is_signing s
       signed = w.signed ++ bills_signed a.request out.reply;
     }) (sym sent_is)
     ∙ ap (λ (xs : List Checksum). listed (world_of seen w) (world_of seen between).platforms after.sent xs) (sym signed_is)
-    ∙ ap (λ (ps : PlatformsRecord M). listed (world_of seen w) (states_of seen ps) after.sent after.signed)
+    ∙ ap (λ (ps : PlatformsRecord M R). listed (world_of seen w) (states_of seen ps) after.sent after.signed)
     (sym same_platforms)
     ∙ ap (λ (roster : RosterRecord). record {
       roster = roster;
       platforms = states_of seen after.platforms;
       sent = after.sent;
       signed = after.signed;
-    }) (sym same_roster ∙ ap (λ (ps : PlatformsRecord M). ps.roster) (sym same_platforms))
-
--- ---- where memory runs out
-
--- where a request was followed or memory ran out, nothing was taken, or all of it
-cut_short : {M : Type 0} (seen : M → MachineRecord) (w between after : WorldState M) (a : Asking) (now : Moment)
-    (out : Outcome) (fails : Bool) → IsAt a.now now → MayAsk (world_of seen w) a
-    → (fails ≡ false → TakesAt w.platforms.roster (world_of seen w).platforms a.at (shard_of a.request) now
-    a.request out (world_of seen between).platforms)
-    → (fails ≡ true → (world_of seen between).platforms ≡ (world_of seen w).platforms)
-    → after.platforms ≡ between.platforms
-    → IsCutShort (world_of seen w) (happening.asks a) (world_of seen after)
-cut_short {M = M} seen w between after a now out true moment may takes kept same =
-    inl (ap (λ (ps : PlatformsRecord M). states_of seen ps) same ∙ kept refl)
-cut_short {M = M} seen w between after a now out false moment may takes kept same =
-    let t = takes refl in
-    inr (
-      Replied out.reply,
-      world_with (world_of seen w) a (world_of seen between).platforms out.reply out.messages,
-      record {
-        fate = whole;
-        steps = happened (world_of seen w) a now out (world_of seen between).platforms moment t
-            (may.may now t.shard moment t.is_asked);
-        whole = refl;
-      },
-      ap (λ (ps : PlatformsRecord M). states_of seen ps) same,
-    )
-
--- so where something happened
-pub short_of_happened : (w : WorldRecord) (h : Happening) (answer : Answer) (after : WorldRecord)
-    → HasHappened w h answer after → IsCutShort w h after
-short_of_happened w (happening.answers said) answer after so =
-    inl (ap (λ (v : WorldRecord). v.platforms) so.steps.2)
-short_of_happened w (happening.asks a) answer after so = on_fate so.steps
-  where
-    on_fate : Happens w (happening.asks a) so.fate answer after → IsCutShort w (happening.asks a) after
-    on_fate (inl (is, takes)) =
-        inr (answer, after, record { fate = so.fate; steps = inl (is, takes); whole = is.0 }, refl)
-    on_fate (inr (is, fails)) = inl (ap (λ (v : WorldRecord). v.platforms) fails.1)
-
--- whatever a call gave, what holds holds where it failed
-pub on_err_so : {T E : Type 0} {Q : Type 0} (result : Result T E) → Q → OnErr result Q
-on_err_so (Ok x) holds = tt
-on_err_so (Err e) holds = holds
+    }) (sym same_roster ∙ ap (λ (ps : PlatformsRecord M R). ps.roster) (sym same_platforms))
 
 -- ---- a request as a whole
 
@@ -309,83 +151,236 @@ longer : (xs ys zs : List Parcel) → zs ≡ xs ++ ys → length xs ≤ length z
 longer xs ys zs is =
     let size = ap (λ (ps : List Parcel). length ps) is ∙ length-append xs ys in omega (arith, size)
 
--- whatever came of it: it happened, whole unless the ring failed to sign; or memory ran out
-pub record Asked {M E : Type 0} (seen : M → MachineRecord) (w after : WorldState M) (a : Asking) (out : Outcome)
+-- whatever came of it: it happened by its fate; or memory ran out
+pub record Asked {M R E : Type 0} (seen : M → MachineRecord) (faults : Counts M) (w after : WorldState M R) (a : Asking)
     (result : Result Answer E) : Type 0 where
-  pub ok : IfOk result (λ answer. HasHappened (world_of seen w) (happening.asks a) answer (world_of seen after))
-  pub whole : IfOk result (λ answer. (out.reply ≡ replies.Sign)
-      ⊎ HasHappenedWhole (world_of seen w) (happening.asks a) answer (world_of seen after))
-  pub short : OnErr result (IsCutShort (world_of seen w) (happening.asks a) (world_of seen after))
+  pub ok : IfOk result (λ answer. HasHappened seen faults w (happening.asks a) answer after)
+  pub short : OnErr result (IsCut seen faults w (happening.asks a) after)
   pub writable : IfOk result IsWritable
   pub grown : IfOk result (λ _. length w.sent ≤ length after.sent)
 
-pub asked_so : {M E : Type 0} (seen : M → MachineRecord) (w between after : WorldState M) (a : Asking)
-    (now : Moment) (out : Outcome) (path : ReplyPath) (signing : Bool) (result : Result Answer E)
-    → IsAt a.now now → MayAsk (world_of seen w) a → IsPathOf a path → signing ≡ is_sign a.request
-    → between.sent ≡ w.sent → between.signed ≡ w.signed
-    → (is_failure out.reply ≡ false → TakesAt w.platforms.roster (world_of seen w).platforms a.at (shard_of a.request) now
-    a.request out (world_of seen between).platforms)
-    → (is_failure out.reply ≡ true → (world_of seen between).platforms ≡ (world_of seen w).platforms)
-    → (is_failure out.reply ≡ true → out.messages ≡ [])
-    → (is_failure out.reply ≡ true → (out.reply ≡ replies.Sign) ⊎ (out.reply ≡ replies.NoMemory))
-    → IsWritable (Replied out.reply)
-    → between.platforms.roster ≡ w.platforms.roster
-    → after.platforms ≡ between.platforms
-    → IfOk result (λ answer. answer ≡ Replied out.reply)
-    → OnOk result (IsFollowed between path signing out after)
-    → Asked seen w after a out result
-asked_so seen w between after a now out path signing (Ok answer) moment may is_path is_signing same_sent same_signed
-    takes kept none why writable same_roster same_platforms answer_is follows =
-    let so = happens_so (world_of seen w) a now out (world_of seen between).platforms moment may follows.some_reply
-    takes kept none why in
-    let world_is = followed_to seen w between after a out path signing is_path is_signing same_sent same_signed
-    same_roster same_platforms follows in
-    let steps : Happens (world_of seen w) (happening.asks a) so.fate answer (world_of seen after) =
-    subst (λ (said : Answer). Happens (world_of seen w) (happening.asks a) so.fate said (world_of seen after))
-    (sym answer_is)
-    (subst (Happens (world_of seen w) (happening.asks a) so.fate (Replied out.reply)) world_is so.happens) in
-    record {
-      ok = record { fate = so.fate; steps = steps };
-      whole = on_end so.fate steps so.ends;
-      short = tt;
-      writable = subst IsWritable (sym answer_is) writable;
-      grown = longer w.sent (sends path.from path.sender path.kind path.brought out.reply out.messages) after.sent
-          (follows.sent ∙ ap (λ (xs : List Parcel).
-          xs ++ sends path.from path.sender path.kind path.brought out.reply out.messages) same_sent);
-    }
-  where
-    on_end : (fate : Fate) → Happens (world_of seen w) (happening.asks a) fate answer (world_of seen after)
-        → (fate.end ≡ Whole) ⊎ (out.reply ≡ replies.Sign)
-        → (out.reply ≡ replies.Sign)
-        ⊎ HasHappenedWhole (world_of seen w) (happening.asks a) answer (world_of seen after)
-    on_end fate steps (inl is) = inr (record { fate = fate; steps = steps; whole = is })
-    on_end fate steps (inr sign) = inl sign
-asked_so seen w between after a now out path signing (Err e) moment may is_path is_signing same_sent same_signed
-    takes kept none why writable same_roster same_platforms answer_is follows = record {
-      ok = tt;
-      whole = tt;
-      short = cut_short seen w between after a now out (is_failure out.reply) moment may takes kept same_platforms;
-      writable = tt;
-      grown = tt;
-    }
+module _ {M R : Type 0} (seen : M → MachineRecord) (faults : Counts M) (w between after : WorldState M R) (a : Asking)
+    (now : Moment) (fate : Fate) (out : Outcome) (moment : IsAt a.now now)
+    (t : TakesAt w.platforms.roster (world_of seen w).platforms a.at (shard_of a.request) now a.request fate out
+    (world_of seen between).platforms)
+    (disks : EachRose faults.disk (times_if (disk_times fate.end) (index_of a.at (shard_of a.request) w.platforms.roster.platforms))
+    w.platforms.shards between.platforms.shards)
+    (rings : EachRose faults.ring (times_if (ring_times fate.end) (index_of a.at (shard_of a.request) w.platforms.roster.platforms))
+    w.platforms.shards between.platforms.shards)
+    (same_platforms : after.platforms ≡ between.platforms) where
+  happened_to : (answer : Answer) (to : WorldRecord) → answer ≡ Replied out.reply
+      → world_with (world_of seen w) a (world_of seen between).platforms out.reply out.messages ≡ to
+      → Happens (world_of seen w) (happening.asks a) fate answer to
+  happened_to answer to said world_is = record {
+    shard = t.shard;
+    is_asked = t.is_asked;
+    now = now;
+    moment = moment;
+    out = out;
+    later = t.later;
+    takes = t.takes;
+    answer_is = said;
+    after_is = sym world_is
+        ∙ ap (λ (ps : List PlatformState). world_with (world_of seen w) a ps out.reply out.messages) t.after_is;
+  }
 
--- what happened whole, unless the ring failed, did so, unless its count rose
-pub whole_by_count : {E R : Type 0} (w : WorldRecord) (h : Happening) (after : WorldRecord) (out : Outcome)
-    (result : Result Answer E) → (out.reply ≡ replies.Sign → R)
-    → IfOk result (λ answer. (out.reply ≡ replies.Sign) ⊎ HasHappenedWhole w h answer after)
-    → IfOk result (λ answer. R ⊎ HasHappenedWhole w h answer after)
-whole_by_count w h after out (Ok answer) rose (inl sign) = inl (rose sign)
-whole_by_count w h after out (Ok answer) rose (inr so) = inr so
-whole_by_count w h after out (Err e) rose so = tt
+  same_shards : between.platforms.shards ≡ after.platforms.shards
+  same_shards = ap (λ (ps : PlatformsRecord M R). ps.shards) (sym same_platforms)
 
--- what is answered at once changes nothing
-pub answered_so : (w : WorldRecord) (said : Answer) → HasHappenedWhole w (happening.answers said) said w
-answered_so w said = record { fate = whole; steps = ((refl, refl), refl, refl); whole = refl }
+  cut_so : after.fates ≡ w.fates ++ fate ∷ [] → IsCut seen faults w (happening.asks a) after
+  cut_so fates = record {
+    more = fate ∷ [];
+    fates_are = fates;
+    left = (
+      refl,
+      Replied out.reply,
+      world_with (world_of seen w) a (world_of seen between).platforms out.reply out.messages,
+      happened_to (Replied out.reply)
+          (world_with (world_of seen w) a (world_of seen between).platforms out.reply out.messages) refl refl,
+      ap (λ (ps : PlatformsRecord M R). states_of seen ps) same_platforms,
+    );
+    disks = subst (EachRose faults.disk (λ (k : ℕ). 0) w.platforms.shards) same_shards
+        (rose_later faults.disk (times_if (disk_times fate.end)
+        (index_of a.at (shard_of a.request) w.platforms.roster.platforms)) w.platforms.shards between.platforms.shards
+        disks);
+    rings = subst (EachRose faults.ring (λ (k : ℕ). 0) w.platforms.shards) same_shards
+        (rose_later faults.ring (times_if (ring_times fate.end)
+        (index_of a.at (shard_of a.request) w.platforms.roster.platforms)) w.platforms.shards between.platforms.shards
+        rings);
+  }
 
--- an event that is taken whole, unless a count rose, is answered so
-pub whole_by_line : {R : Type 0} (w : WorldRecord) (n : ℕ) (event : EventRecord) (answer : Answer) (line : List ℕ)
-    (after : WorldRecord) → line ≡ line_after n w answer after → R ⊎ IsSteppedWhole w event answer after
-    → R ⊎ IsAnsweredWhole w n event line after
-whole_by_line w n event answer line after is (inl rose) = inl rose
-whole_by_line w n event answer line after is (inr stepped) =
-    inr (record { answer = answer; stepped = stepped; line_is = is })
+  fate_so : (answer : Answer) → answer ≡ Replied out.reply
+      → world_with (world_of seen w) a (world_of seen between).platforms out.reply out.messages ≡ world_of seen after
+      → HasFate seen faults w (happening.asks a) fate answer after
+  fate_so answer said world_is = record {
+    happens = happened_to answer (world_of seen after) said world_is;
+    disks = subst
+        (EachRose faults.disk (times_at w.platforms.roster.platforms (disk_failed_at (happening.asks a) fate.end))
+        w.platforms.shards) same_shards
+        (rose_as faults.disk (times_if (disk_times fate.end)
+        (index_of a.at (shard_of a.request) w.platforms.roster.platforms))
+        (times_at w.platforms.roster.platforms (disk_failed_at (happening.asks a) fate.end)) w.platforms.shards
+        between.platforms.shards (asked_disk w.platforms.roster.platforms a fate.end) disks);
+    rings = subst
+        (EachRose faults.ring (times_at w.platforms.roster.platforms (ring_failed_at (happening.asks a) fate.end))
+        w.platforms.shards) same_shards
+        (rose_as faults.ring (times_if (ring_times fate.end)
+        (index_of a.at (shard_of a.request) w.platforms.roster.platforms))
+        (times_at w.platforms.roster.platforms (ring_failed_at (happening.asks a) fate.end)) w.platforms.shards
+        between.platforms.shards (asked_ring w.platforms.roster.platforms a fate.end) rings);
+  }
+
+  pub asked_so : {E : Type 0} (path : ReplyPath) (signing : Bool) (result : Result Answer E)
+      → IsPathOf a path → signing ≡ is_sign a.request
+      → between.sent ≡ w.sent → between.signed ≡ w.signed
+      → IsWritable (Replied out.reply)
+      → between.platforms.roster ≡ w.platforms.roster
+      → after.fates ≡ w.fates ++ fate ∷ []
+      → IfOk result (λ answer. answer ≡ Replied out.reply)
+      → OnOk result (IsFollowed between path signing out after)
+      → Asked seen faults w after a result
+  asked_so path signing (Ok answer) is_path is_signing same_sent same_signed writable same_roster fates said follows =
+      let world_is = followed_to seen w between after a out path signing is_path is_signing same_sent same_signed
+      same_roster same_platforms follows in
+      record {
+        ok = record {
+          fate = fate;
+          not_short = λ short. follows.some_reply
+              (short_out w.platforms.roster a.at (shard_of a.request) t.shard now a.request fate out t.later t.takes short);
+          has_fate = fate_so answer said world_is;
+          fates_are = fates;
+        };
+        short = tt;
+        writable = subst IsWritable (sym said) writable;
+        grown = longer w.sent (sends path.from path.sender path.kind path.brought out.reply out.messages) after.sent
+            (follows.sent ∙ ap (λ (xs : List Parcel).
+            xs ++ sends path.from path.sender path.kind path.brought out.reply out.messages) same_sent);
+      }
+  asked_so path signing (Err e) is_path is_signing same_sent same_signed writable same_roster fates said follows =
+      record { ok = tt; short = cut_so fates; writable = tt; grown = tt }
+
+-- ---- where nothing was asked
+
+-- memory ran out before anything happened
+pub cut_before : {M R : Type 0} (seen : M → MachineRecord) (faults : Counts M) (w : WorldState M R) (h : Happening)
+    → IsCut seen faults w h w
+cut_before seen faults w h = record {
+  more = [];
+  fates_are = sym (append-nil w.fates);
+  left = refl;
+  disks = none_rose faults.disk w.platforms.shards;
+  rings = none_rose faults.ring w.platforms.shards;
+}
+
+-- what happened is cut short, where its line couldn't be made
+pub cut_behind : {M R : Type 0} (seen : M → MachineRecord) (faults : Counts M) (w : WorldState M R) (h : Happening)
+    (answer : Answer) (after : WorldState M R) → HasHappened seen faults w h answer after → IsCut seen faults w h after
+cut_behind seen faults w h answer after so = record {
+  more = so.fate ∷ [];
+  fates_are = so.fates_are;
+  left = (refl, answer, world_of seen after, so.has_fate.happens, refl);
+  disks = rose_later faults.disk (times_at w.platforms.roster.platforms (disk_failed_at h so.fate.end))
+      w.platforms.shards after.platforms.shards so.has_fate.disks;
+  rings = rose_later faults.ring (times_at w.platforms.roster.platforms (ring_failed_at h so.fate.end))
+      w.platforms.shards after.platforms.shards so.has_fate.rings;
+}
+
+-- ---- what is answered at once
+
+same_world : {M R : Type 0} (seen : M → MachineRecord) (w after : WorldState M R) → after.platforms ≡ w.platforms
+    → after.sent ≡ w.sent → after.signed ≡ w.signed → world_of seen after ≡ world_of seen w
+same_world seen w after platforms sent signed = λ j. record {
+  roster = (platforms j).roster;
+  platforms = states_of seen (platforms j);
+  sent = sent j;
+  signed = signed j;
+}
+
+pub answered_so : {M R : Type 0} (seen : M → MachineRecord) (faults : Counts M) (w after : WorldState M R) (said : Answer)
+    (fate : Fate) → fate.end ≡ Whole → fate.kept ≡ [] → after.platforms ≡ w.platforms → after.sent ≡ w.sent
+    → after.signed ≡ w.signed → after.fates ≡ w.fates ++ fate ∷ []
+    → HasHappened seen faults w (happening.answers said) said after
+answered_so {M = M} {R = R} seen faults w after said fate end kept platforms sent signed fates = record {
+  fate = fate;
+  not_short = λ short. let clash : Whole ≡ Short = sym end ∙ short in cc clash;
+  has_fate = record {
+    happens = ((end, kept), refl, same_world seen w after platforms sent signed);
+    disks = subst (λ (ps : PlatformsRecord M R). EachRose faults.disk (λ (k : ℕ). 0) w.platforms.shards ps.shards)
+        (sym platforms) (none_rose faults.disk w.platforms.shards);
+    rings = subst (λ (ps : PlatformsRecord M R). EachRose faults.ring (λ (k : ℕ). 0) w.platforms.shards ps.shards)
+        (sym platforms) (none_rose faults.ring w.platforms.shards);
+  };
+  fates_are = fates;
+}
+
+-- ---- a platform that starts again
+
+module _ {M R : Type 0} (seen : M → MachineRecord) (faults : Counts M) (w after : WorldState M R) (p : PlatformCode)
+    (fate : Fate)
+    (reads : AreReadAgain p 0 16 (world_of seen w).platforms fate.end fate.kept (world_of seen after).platforms)
+    (disks : EachRose faults.disk (failures_at w.platforms.roster.platforms p fate.end) w.platforms.shards
+    after.platforms.shards)
+    (rings : EachRose faults.ring (λ (k : ℕ). 0) w.platforms.shards after.platforms.shards)
+    (same_roster : after.platforms.roster ≡ w.platforms.roster) (same_sent : after.sent ≡ w.sent)
+    (same_signed : after.signed ≡ w.signed) (fates : after.fates ≡ w.fates ++ fate ∷ []) where
+  started : StartsAgain (world_of seen w) p fate (start_answer fate.end) (world_of seen after)
+  started = record {
+    platforms = (world_of seen after).platforms;
+    reads = reads;
+    answer_is = refl;
+    after_is = λ j. record {
+      roster = same_roster j;
+      platforms = (world_of seen after).platforms;
+      sent = same_sent j;
+      signed = same_signed j;
+    };
+  }
+
+  rings_so : EachRose faults.ring (times_at w.platforms.roster.platforms (ring_failed_at (happening.starts_again p) fate.end))
+      w.platforms.shards after.platforms.shards
+  rings_so = rings
+
+  pub started_so : (answer : Answer) → answer ≡ start_answer fate.end → (fate.end ≡ Short → ⊥)
+      → HasHappened seen faults w (happening.starts_again p) answer after
+  started_so answer said ended = record {
+    fate = fate;
+    not_short = ended;
+    has_fate = record {
+      happens = subst (λ (x : Answer). StartsAgain (world_of seen w) p fate x (world_of seen after)) (sym said) started;
+      disks = disks;
+      rings = rings_so;
+    };
+    fates_are = fates;
+  }
+
+  pub started_cut : IsCut seen faults w (happening.starts_again p) after
+  started_cut = record {
+    more = fate ∷ [];
+    fates_are = fates;
+    left = (refl, start_answer fate.end, world_of seen after, started, refl);
+    disks = rose_later faults.disk (failures_at w.platforms.roster.platforms p fate.end) w.platforms.shards
+        after.platforms.shards disks;
+    rings = rings;
+  }
+
+-- whatever a call gave, what holds holds where it failed
+pub on_err_so : {T E : Type 0} {Q : Type 0} (result : Result T E) → Q → OnErr result Q
+on_err_so (Ok x) holds = tt
+on_err_so (Err e) holds = holds
+
+pub on_err : {T E : Type 0} {P Q : Type 0} (result : Result T E) → (P → Q) → OnErr result P → OnErr result Q
+on_err (Ok x) follows given = tt
+on_err (Err e) follows given = follows given
+
+-- nothing happened, and memory ran out
+pub cut_same : {M R : Type 0} (seen : M → MachineRecord) (faults : Counts M) (w after : WorldState M R) (h : Happening)
+    → after ≡ w → IsCut seen faults w h after
+cut_same seen faults w after h same =
+    subst (λ (v : WorldState _ _). IsCut seen faults w h v) (sym same) (cut_before seen faults w h)
+
+-- where there is an answer to a platform's start, memory didn't run out
+pub on_started : {E : Type 0} (end : FateEnd) (result : Result Answer E) (Q : Answer → Type 0)
+    → IfOk result (λ answer. answer ≡ start_answer end) → (end ≡ Short → OnOk result ⊥)
+    → ((answer : Answer) → answer ≡ start_answer end → (end ≡ Short → ⊥) → Q answer) → IfOk result Q
+on_started end (Ok answer) Q said ended holds = holds answer said ended
+on_started end (Err e) Q said ended holds = tt

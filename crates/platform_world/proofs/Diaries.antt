@@ -1,11 +1,10 @@
 -- The diaries of a bill's shards are what its histories come from.
-use Rattle.std.proofs.Common.{◌≡◌, ℕ, zero, suc, ◌+◌, ◌*◌, ◌<◌, Bool, true, false, cond, List, [], ◌∷◌, ◌++◌, Option, Some, None, take, drop, map, refl, sym, ap, subst, ◌∙◌, arith}
+use Rattle.std.proofs.Common.{◌≡◌, ℕ, ◌+◌, ◌*◌, ◌<◌, Bool, true, false, cond, List, [], ◌∷◌, ◌++◌, Option, Some, None, take, drop, map, refl, sym, ap, ◌∙◌, arith}
 use Rattle.std.proofs.Math.Bool.{not}
-use Rattle.std.specs.Prelude.{All, filter, find, is_some, option_map, slice_get}
+use Rattle.std.specs.Prelude.{filter, find, is_some, option_map, slice_get}
 use Rattle.std.specs.Option.{option_map_or}
 use Rattle.std.proofs.lemmas.Option.{slice_get-map}
-use Rattle.std.proofs.lemmas.List.{append_assoc, drop-drop, map-append}
-use Rattle.std.proofs.lemmas.List.Elements.{All-drop, All-head, All-map, All-tail, All-take}
+use Rattle.std.proofs.lemmas.List.{append_assoc, append-nil, drop-drop, map-append}
 use Rattle.ebl_base.specs.PlatformCode.{code_eq}
 use Rattle.ebl_base.specs.declared.checksum.Checksum.{Checksum}
 use Rattle.ebl_base.specs.declared.platform_code.PlatformCode.{PlatformCode}
@@ -136,67 +135,73 @@ one_more_given i place ps shards ds d s small here there same so_far =
     ∙ ap (λ (xs : List ShardDiary). map given_diary ds ++ xs) (sym (one_left i place d.platform ps shards s small here there))
     ∙ so_far
 
--- ---- no shard is loose
+-- ---- settled platforms
 
-abbrev IsSettled : ShardState → Type 0
-IsSettled s = s.loose ≡ None
+abbrev pub settled_of : Checksum → List PlatformState → List PlatformCode
+settled_of bill states = map (λ (s : PlatformState). s.platform) (filter (is_settled bill) states)
 
-settled_test : (o : Option ShardState) → ((s : ShardState) → o ≡ Some s → s.loose ≡ None)
-    → option_map_or (λ (s : ShardState). not (is_some s.loose)) o true ≡ true
-settled_test None none = refl
-settled_test (Some s) none = ap (λ (l : Option (Option Frame)). not (is_some l)) (none s refl)
+-- those that are still to be looked at
+abbrev pub settled_from : Checksum → ℕ → List PlatformCode → List ShardState → List PlatformCode
+settled_from bill place ps shards = settled_of bill (grouped (drop place ps) (drop (16 * place) shards))
 
-settled_there : (xs : List ShardState) (k : ℕ) (s : ShardState) → All IsSettled xs → slice_get xs k ≡ Some s
-    → s.loose ≡ None
-settled_there [] k s all is = cc is
-settled_there (x ∷ xs) zero s all is =
-    let same : x ≡ s = cc is in subst IsSettled same (All-head IsSettled x xs all)
-settled_there (x ∷ xs) (suc k) s all is = settled_there xs k s (All-tail IsSettled x xs all) is
-
--- where no shard is loose, each platform is settled
-pub all_settled : (bill : Checksum) (ps : List PlatformCode) (shards : List ShardState) → All IsSettled shards
-    → map (λ (s : PlatformState). s.platform) (filter (is_settled bill) (grouped ps shards)) ≡ ps
-all_settled bill [] shards all = refl
-all_settled bill (p ∷ ps) shards all =
-    on_test (is_settled bill (record { platform = p; shards = take 16 shards }))
-    (settled_test (slice_get (take 16 shards) (shard_of_bill bill))
-    (λ s. settled_there (take 16 shards) (shard_of_bill bill) s (All-take IsSettled 16 shards all)))
-    (all_settled bill ps (drop 16 shards) (All-drop IsSettled 16 shards all))
+settled_first : (bill : Checksum) (state : PlatformState) (states : List PlatformState)
+    → settled_of bill (state ∷ states)
+    ≡ cond (is_settled bill state) (state.platform ∷ settled_of bill states) (settled_of bill states)
+settled_first bill state states = on_test (is_settled bill state)
   where
-    on_test : (test : Bool) → test ≡ true
-        → map (λ (s : PlatformState). s.platform) (filter (is_settled bill) (grouped ps (drop 16 shards))) ≡ ps
-        → map (λ (s : PlatformState). s.platform)
-        (cond test (record { platform = p; shards = take 16 shards } ∷ filter (is_settled bill) (grouped ps (drop 16 shards)))
-        (filter (is_settled bill) (grouped ps (drop 16 shards)))) ≡ p ∷ ps
-    on_test true is further = ap (λ (qs : List PlatformCode). p ∷ qs) further
-    on_test false is further = cc is
+    on_test : (b : Bool) → map (λ (s : PlatformState). s.platform) (cond b (state ∷ filter (is_settled bill) states) (filter (is_settled bill) states))
+        ≡ cond b (state.platform ∷ settled_of bill states) (settled_of bill states)
+    on_test true = refl
+    on_test false = refl
 
-pub never_loose : {M : Type 0} (seen : M → MachineRecord) (shards : List M)
-    → All IsSettled (map (λ (m : M). shard_state (seen m)) shards)
-never_loose seen shards = All-map IsSettled (λ m. shard_state (seen m)) shards (λ k d small. refl)
+-- one platform at a time, by whether its shard of the bill is loose
+pub one_more_settled : (bill : Checksum) (place : ℕ) (p : PlatformCode) (ps : List PlatformCode) (shards : List ShardState)
+    (s : ShardState) → shard_of_bill bill < 16 → drop place ps ≡ p ∷ drop (place + 1) ps
+    → slice_get shards (16 * place + shard_of_bill bill) ≡ Some s
+    → settled_from bill place ps shards
+    ≡ cond (not (is_some s.loose)) (p ∷ settled_from bill (place + 1) ps shards) (settled_from bill (place + 1) ps shards)
+one_more_settled bill place p ps shards s small here there =
+    let rest = drop (16 * place) shards in
+    let next : 16 * place + 16 ≡ 16 * (place + 1) = omega arith in
+    let more = drop-drop 16 (16 * place) shards ∙ ap (λ (k : ℕ). drop k shards) next in
+    ap (λ (qs : List PlatformCode). settled_of bill (grouped qs rest)) here
+    ∙ settled_first bill (record { platform = p; shards = take 16 rest }) (grouped (drop (place + 1) ps) (drop 16 rest))
+    ∙ ap (λ (o : Option ShardState).
+    cond (option_map_or (λ (x : ShardState). not (is_some x.loose)) o true)
+    (p ∷ settled_of bill (grouped (drop (place + 1) ps) (drop 16 rest)))
+    (settled_of bill (grouped (drop (place + 1) ps) (drop 16 rest))))
+    (slice_get-take 16 rest (shard_of_bill bill) small ∙ slice_get-drop (16 * place) shards (shard_of_bill bill) ∙ there)
+    ∙ ap (λ (xs : List ShardState).
+    cond (not (is_some s.loose)) (p ∷ settled_of bill (grouped (drop (place + 1) ps) xs))
+    (settled_of bill (grouped (drop (place + 1) ps) xs))) more
+
+pub settled_step : (loose : Bool) (old rest : List PlatformCode) (p : PlatformCode)
+    → (old ++ cond loose [] (p ∷ [])) ++ rest ≡ old ++ cond (not loose) (p ∷ rest) rest
+settled_step true old rest p = ap (λ (xs : List PlatformCode). xs ++ rest) (append-nil old)
+settled_step false old rest p = append_assoc old (p ∷ []) rest
 
 -- ---- the line of a bill
 
--- the line by the diaries that are given is that of the world
-pub line_of_world : {M : Type 0} (seen : M → MachineRecord) (w : WorldState M) (n : ℕ) (bill : Checksum)
-    (ds : List PlatformDiary) (line : List ℕ)
+-- the line by the diaries and the settled platforms that are given is that of the world
+pub line_of_world : {M R : Type 0} (seen : M → MachineRecord) (w : WorldState M R) (n : ℕ) (bill : Checksum)
+    (ds : List PlatformDiary) (settled : List PlatformCode) (line : List ℕ)
     → platforms_in ds ≡ w.platforms.roster.platforms
     → histories_in bill ds ≡ histories_of bill (map member_of (states_of seen w.platforms))
-    → line ≡ bill_line n (histories_in bill ds) (platforms_in ds) w.platforms.roster.platforms
+    → settled ≡ settled_of bill (states_of seen w.platforms)
+    → line ≡ bill_line n (histories_in bill ds) (platforms_in ds) settled
     → line ≡ bill_line_in (world_of seen w) n bill
-line_of_world {M = M} seen w n bill ds line platforms histories is =
+line_of_world {M = M} seen w n bill ds settled line platforms histories settled_is is =
     let ps = w.platforms.roster.platforms in
     let shards = map (λ (m : M). shard_state (seen m)) w.platforms.shards in
     is
-    ∙ ap (λ (at : Histories). bill_line n at (platforms_in ds) ps) histories
-    ∙ ap (λ (qs : List PlatformCode). bill_line n (histories_of bill (family_of (world_of seen w))) qs ps)
+    ∙ ap (λ (at : Histories). bill_line n at (platforms_in ds) settled) histories
+    ∙ ap (λ (qs : List PlatformCode). bill_line n (histories_of bill (family_of (world_of seen w))) qs settled)
     (platforms ∙ sym (platforms_grouped ps shards))
     ∙ ap (λ (qs : List PlatformCode).
-    bill_line n (histories_of bill (family_of (world_of seen w))) (platforms_of (world_of seen w)) qs)
-    (sym (all_settled bill ps shards (never_loose seen w.platforms.shards)))
+    bill_line n (histories_of bill (family_of (world_of seen w))) (platforms_of (world_of seen w)) qs) settled_is
 
 -- so is how the bill stands
-pub standing_of_world : {M : Type 0} (seen : M → MachineRecord) (w : WorldState M) (bill : Checksum)
+pub standing_of_world : {M R : Type 0} (seen : M → MachineRecord) (w : WorldState M R) (bill : Checksum)
     (ds : List PlatformDiary) (standing : Standing)
     → platforms_in ds ≡ w.platforms.roster.platforms
     → histories_in bill ds ≡ histories_of bill (map member_of (states_of seen w.platforms))

@@ -29,7 +29,6 @@ use Rattle.bill_chain.specs.Chain.{destination, platform_with, transactions_of}
 use Rattle.platform_requests.specs.Request.{RequestRecord, commands, starts, puts, finishes, start_replies, finish_replies, resends, asks}
 use Rattle.platform_requests.specs.declared.message.Message.{Message}
 use Rattle.platform_requests.specs.declared.message.Message.TheVariants as messages
-use Rattle.platform_requests.specs.declared.outcome.Outcome.{Outcome}
 use Rattle.bill_diary.specs.declared.record.Record.{Record}
 use Rattle.bill_diary.specs.declared.record.Record.TheVariants.{Signed, Acted, Attached, Parted, Settled, Regained, Begun, Stored, Taken, Declined}
 use Rattle.bill_diary.specs.declared.frame.Frame.{Frame}
@@ -56,7 +55,6 @@ use Rattle.platform_machine.specs.Machine.{Steps, StepsAtResend}
 use Rattle.platform_machine.specs.Receiving.{StepsAtFinish, StepsAtPut, StepsAtStart}
 use Rattle.platform_machine.specs.Step.{with_frame}
 use Rattle.platform_machine.specs.Transfer.{IsUnderWay, SendsStart, TransferRecord, put_of, reference_at, uploads_of}
-use Rattle.transfer_core.specs.Shard.{IsStepped}
 use Rattle.platform_world.specs.Machine.{AreForListed, receiver_of}
 
 -- ---- where an entry goes that parts
@@ -171,7 +169,7 @@ under_way_to_listed roster keys me diary bill t legal under =
 abbrev IsForListed : RosterRecord → Message → Type 0
 IsForListed roster m = has_platform roster (receiver_of m) ≡ true
 
-none_listed : (roster : RosterRecord) (sent : List Message) → sent ≡ [] → AreForListed roster sent
+pub none_listed : (roster : RosterRecord) (sent : List Message) → sent ≡ [] → AreForListed roster sent
 none_listed roster sent none = subst (AreForListed roster) (sym none) (All-nil (IsForListed roster))
 
 one_listed : (roster : RosterRecord) (m : Message) → IsForListed roster m → AreForListed roster (m ∷ [])
@@ -313,24 +311,3 @@ module _ (roster : RosterRecord) (keys : Keys) (me : PlatformCode) (diary : List
   steps_listed now (finish_replies bill bytes) steps = answer_listed bill bytes steps
   steps_listed now (resends bill) steps = resend_listed bill steps
   steps_listed now (asks bill) steps = none_listed roster step.messages steps.messages_are
-
--- the messages of a shard's outcome, if it has any
-pub outcome_listed : (roster : RosterRecord) (keys : Keys) (me : PlatformCode) (before after : List Frame)
-    (now : Moment) (request : RequestRecord) (out : Outcome) (fails : Bool) → IsLegal roster keys me after
-    → (fails ≡ false → IsStepped roster keys me before now request out after) → (fails ≡ true → out.messages ≡ [])
-    → AreForListed roster out.messages
-outcome_listed roster keys me before after now request out false legal stepped silent =
-    let (frame, steps, grown) = stepped refl in
-    steps_listed roster keys me before (record { frame = frame; reply = out.reply; messages = out.messages })
-    (subst (IsLegal roster keys me) grown legal) now request steps
-outcome_listed roster keys me before after now request out true legal stepped silent =
-    none_listed roster out.messages (silent refl)
-
--- under the platform, the roster and the keys that it had before
-pub legal_same : (me other : PlatformCode) (roster roster_after : RosterRecord) (keys keys_after : Keys)
-    (diary : List Frame) → other ≡ me → roster_after ≡ roster → keys_after ≡ keys
-    → IsLegal roster_after keys_after other diary → IsLegal roster keys me diary
-legal_same me other roster roster_after keys keys_after diary same_me same_roster same_keys legal =
-    subst (λ (p : PlatformCode). IsLegal roster keys p diary) same_me
-    (subst (λ (k : Keys). IsLegal roster k other diary) same_keys
-    (subst (λ (r : RosterRecord). IsLegal r keys_after other diary) same_roster legal))

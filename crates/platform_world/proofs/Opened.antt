@@ -1,5 +1,5 @@
 -- The world of fresh shards is the opening of its roster.
-use Rattle.std.proofs.Common.{◌≡◌, List, [], ◌∷◌, drop, map, take, refl, ap, ◌∙◌}
+use Rattle.std.proofs.Common.{◌≡◌, List, [], ◌∷◌, Option, drop, map, take, refl, ap, ◌∙◌}
 use Rattle.std.specs.Prelude.{None}
 use Rattle.std.proofs.lemmas.List.{drop-map, take-map}
 use Rattle.std.proofs.lemmas.List.Elements.{All-head, All-tail}
@@ -17,10 +17,12 @@ opened_shards : {M : Type 0} (seen : M → MachineRecord) (shards : List M) → 
     → map (λ (m : M). shard_state (seen m)) shards ≡ map opened_shard (map (λ (m : M). (seen m).keys) shards)
 opened_shards seen [] fresh = refl
 opened_shards {M = M} seen (m ∷ ms) fresh =
-    let IsEmpty : M → Type 0 = λ x. (seen x).diary ≡ [] in
+    let IsEmpty : M → Type 0 = λ x. ((seen x).diary ≡ []) × ((seen x).loose ≡ None) in
+    let (empty, none) = All-head IsEmpty m ms fresh in
     ap (λ (d : List Frame).
-    record { keys = (seen m).keys; diary = d; loose = None } ∷ map (λ (x : M). shard_state (seen x)) ms)
-    (All-head IsEmpty m ms fresh)
+    record { keys = (seen m).keys; diary = d; loose = (seen m).loose } ∷ map (λ (x : M). shard_state (seen x)) ms) empty
+    ∙ ap (λ (l : Option (Option Frame)).
+    record { keys = (seen m).keys; diary = []; loose = l } ∷ map (λ (x : M). shard_state (seen x)) ms) none
     ∙ ap (λ (xs : List ShardState). opened_shard (seen m).keys ∷ xs)
     (opened_shards seen ms (All-tail IsEmpty m ms fresh))
 
@@ -38,7 +40,7 @@ grouped_opened (p ∷ ps) rings =
     record { platform = p; shards = map opened_shard (take 16 rings) } ∷ states)
     (grouped_opened ps (drop 16 rings))
 
-pub fresh_opening : {M : Type 0} (seen : M → MachineRecord) (w : WorldState M) → AreFresh seen w.platforms.shards
+pub fresh_opening : {M R : Type 0} (seen : M → MachineRecord) (w : WorldState M R) → AreFresh seen w.platforms.shards
     → w.sent ≡ [] → w.signed ≡ []
     → world_of seen w ≡ opening w.platforms.roster (map (λ (m : M). (seen m).keys) w.platforms.shards)
 fresh_opening {M = M} seen w fresh sent signed =

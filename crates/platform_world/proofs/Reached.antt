@@ -45,10 +45,15 @@ use Rattle.platform_world.specs.declared.parcels.ReplyPath.{ReplyPath}
 use Rattle.platform_world.specs.Happening.{Asking, Happening, asked, asks, at_command, at_delivery, at_foreign, at_show, bill_named, delivered_to, numbered, on_bill, request_in}
 use Rattle.platform_world.specs.Machine.{AreForListed, MachineRecord, receiver_of, shard_state}
 use Rattle.platform_world.specs.Platforms.{PlatformsRecord, TakesAt, grouped, states_of}
+use Rattle.platform_world.specs.Shard.{EndsAs, IsResolved, TakesAs, loosened}
+use Rattle.platform_world.specs.Start.{AreLoosened, AreReadAgain, IsLoosenedAt}
+use Rattle.platform_world.specs.declared.fate.Fate.{Fate}
+use Rattle.platform_world.specs.declared.fate.FateEnd.{FateEnd}
+use Rattle.platform_world.specs.declared.fate.FateEnd.TheVariants.{Whole, SignFault, Failed, Stuck, Short}
 use Rattle.platform_world.specs.Script.{IsNested, names_listed}
-use Rattle.platform_world.specs.State.{AreFresh, IsBetweenListed, IsPathBetweenListed, IsReached, MayAsk, MayTake, WorldState, world_of}
+use Rattle.platform_world.specs.State.{AreFresh, frame_count, IsBetweenListed, IsPathBetweenListed, IsReached, MayAsk, MayTake, WorldState, world_of}
 use Rattle.platform_world.specs.Step.{IsAt, message_parcel, reply_bill, reply_content, reply_parcel, sends}
-use Rattle.platform_world.specs.World.{PlatformState, ShardState, WorldRecord, shard_at, with_shard}
+use Rattle.platform_world.specs.World.{PlatformState, ShardState, WorldRecord, loose_frame, shard_at, with_shard}
 use Rattle.platform_world.proofs.Attempts.{attempts_within}
 
 -- what holds of all items holds of the one at a place
@@ -111,46 +116,137 @@ put_or_before p i new (state ∷ states) q k s is =
     on_put true found further = on_here (code_eq state.platform q) found
     on_put false found further = on_later (code_eq state.platform q) found further
 
--- each diary has at most so many frames
+-- each shard has at most so many frames, its loose frame included
 abbrev AreWithin : List PlatformState → ℕ → Type 0
-AreWithin states n = (p : PlatformCode) (i : ℕ) (s : ShardState) → shard_at p i states ≡ Some s → length s.diary ≤ n
+AreWithin states n = (p : PlatformCode) (i : ℕ) (s : ShardState) → shard_at p i states ≡ Some s → frame_count s ≤ n
 
-within_more : (states : List PlatformState) (n : ℕ) → AreWithin states n → AreWithin states (n + 1)
-within_more states n within p i s is = let few = within p i s is in omega (arith, few)
+-- what a frame more counts
+with_one : (diary : List Frame) (frame : Option Frame)
+    → length (with_frame diary frame) ≡ length diary + length (option_to_list frame)
+with_one diary frame = length-append diary (option_to_list frame)
 
-one_frame_more : (diary : List Frame) (frame : Option Frame) (n : ℕ) → length diary ≤ n
-    → length (with_frame diary frame) ≤ n + 1
-one_frame_more diary None n few = let size = length-append diary [] in omega (arith, size, few)
-one_frame_more diary (Some frame) n few = let size = length-append diary (frame ∷ []) in omega (arith, size, few)
+one_at_most : (frame : Option Frame) → length (option_to_list frame) ≤ 1
+one_at_most None = omega arith
+one_at_most (Some frame) = omega arith
 
-within_taken : (roster : RosterRecord) (before : List PlatformState) (p : PlatformCode) (i : ℕ) (now : Moment)
-    (request : RequestRecord) (out : Outcome) (after : List PlatformState) (n : ℕ) → AreWithin before n
-    → TakesAt roster before p i now request out after → AreWithin after (n + 1)
-within_taken roster before p i now request out after n within t q k s is =
-    on_place (put_or_before p i put before q k s (ap (shard_at q k) (sym t.after_is) ∙ is))
+-- what is loose is found out, and none is loose any more
+resolved_count : (shard : ShardState) (kept : Bool) (found : ShardState) → IsResolved shard kept found
+    → (frame_count found ≤ frame_count shard) × (found.loose ≡ None)
+resolved_count shard true found (frame, was, is) =
+    let loose : loose_frame shard ≡ Some frame = ap (option_and_then (λ (f : Option Frame). f)) was in
+    let one : length (option_to_list (loose_frame shard)) ≡ 1 =
+    ap (λ (f : Option Frame). length (option_to_list f)) loose in
+    let size = length-append shard.diary (frame ∷ []) in
+    let now : frame_count found ≡ length (shard.diary ++ frame ∷ []) + 0 = ap frame_count is in
+    (omega (arith, size, now, one), ap (λ (s : ShardState). s.loose) is)
+resolved_count shard false found is =
+    let now : frame_count found ≡ length shard.diary + 0 = ap frame_count is in
+    (omega (arith, now), ap (λ (s : ShardState). s.loose) is)
+
+-- a shard whose diary has a frame more, and nothing that is loose more than that
+written_count : (diary : List Frame) (frame : Option Frame) (loose : Option (Option Frame)) → loose ≡ None
+    → length (with_frame diary frame) + length (option_to_list (option_and_then (λ (f : Option Frame). f) loose))
+    ≤ length diary + 1
+written_count diary frame loose none =
+    let size = with_one diary frame in
+    let one = one_at_most frame in
+    let no : length (option_to_list (option_and_then (λ (f : Option Frame). f) loose)) ≡ 0 =
+    ap (λ (l : Option (Option Frame)). length (option_to_list (option_and_then (λ (f : Option Frame). f) l))) none in
+    omega (arith, size, one, no)
+
+ended_count : (roster : RosterRecord) (p : PlatformCode) (found : ShardState) (now : Moment) (request : RequestRecord)
+    (end : FateEnd) (out : Outcome) (after : ShardState) → found.loose ≡ None
+    → EndsAs roster p found now request end out after → frame_count after ≤ frame_count found + 1
+ended_count roster p found now request Whole out after none (inl t) =
+    let now_is = ap frame_count t.after_is in
+    let few = written_count found.diary t.step.frame found.loose none in
+    omega (arith, now_is, few)
+ended_count roster p found now request Whole out after none (inr full) =
+    let same = ap frame_count full.after_is in omega (arith, same)
+ended_count roster p found now request SignFault out after none (out_is, after_is) =
+    let same = ap frame_count after_is in omega (arith, same)
+ended_count roster p found now request Failed out after none t =
+    let now_is : frame_count after ≡ length found.diary + 1 = ap frame_count t.after_is in omega (arith, now_is)
+ended_count roster p found now request (Stuck i) out after none no_way = absurd no_way
+ended_count roster p found now request Short out after none (out_is, after_is) =
+    let same = ap frame_count after_is in omega (arith, same)
+
+taken_count : (roster : RosterRecord) (p : PlatformCode) (i : ℕ) (shard : ShardState) (now : Moment)
+    (request : RequestRecord) (fate : Fate) (out : Outcome) (later : ShardState)
+    → TakesAs roster p i shard now request fate out later → frame_count later ≤ frame_count shard + 1
+taken_count roster p i shard now request fate out later (inl unread) =
+    let same = ap frame_count unread.refused.1 in omega (arith, same)
+taken_count roster p i shard now request fate out later (inr t) =
+    let found = resolved_count shard t.kept t.found t.resolved in
+    let few = ended_count roster p t.found now request fate.end out later found.1 t.ends in
+    let fewer = found.0 in
+    omega (arith, few, fewer)
+
+-- another shard with at most so many
+within_put : (before : List PlatformState) (p : PlatformCode) (i : ℕ) (put : ShardState) (after : List PlatformState)
+    (n m : ℕ) → AreWithin before n → after ≡ with_shard p i put before → frame_count put ≤ m → n ≤ m → AreWithin after m
+within_put before p i put after n m within after_is few more q k s is =
+    on_place (put_or_before p i put before q k s (ap (shard_at q k) (sym after_is) ∙ is))
   where
-    put : ShardState
-    put = record t.shard { diary = with_frame t.shard.diary t.step.frame }
+    on_place : (s ≡ put) ⊎ (shard_at q k before ≡ Some s) → frame_count s ≤ m
+    on_place (inl same) = subst (λ (x : ShardState). frame_count x ≤ m) (sym same) few
+    on_place (inr there) = let fewer = within q k s there in omega (arith, fewer, more)
 
-    on_place : (s ≡ put) ⊎ (shard_at q k before ≡ Some s) → length s.diary ≤ n + 1
-    on_place (inl same) =
-        subst (λ (x : ShardState). length x.diary ≤ n + 1) (sym same)
-        (one_frame_more t.shard.diary t.step.frame n (within p i t.shard t.is_asked))
-    on_place (inr there) = let few = within q k s there in omega (arith, few)
+-- a shard was asked
+pub within_taken : (roster : RosterRecord) (before : List PlatformState) (p : PlatformCode) (i : ℕ) (now : Moment)
+    (request : RequestRecord) (fate : Fate) (out : Outcome) (after : List PlatformState) (n : ℕ) → AreWithin before n
+    → TakesAt roster before p i now request fate out after → AreWithin after (n + 1)
+within_taken roster before p i now request fate out after n within t =
+    let was = within p i t.shard t.is_asked in
+    let few = taken_count roster p i t.shard now request fate out t.later t.takes in
+    within_put before p i t.later after n (n + 1) within t.after_is (omega (arith, was, few)) (omega arith)
 
--- whether the request was taken or not
-pub within_asked : (roster : RosterRecord) (before : List PlatformState) (p : PlatformCode) (i : ℕ) (now : Moment)
-    (request : RequestRecord) (out : Outcome) (after : List PlatformState) (n : ℕ) (fails : Bool) → AreWithin before n
-    → (fails ≡ false → TakesAt roster before p i now request out after) → (fails ≡ true → after ≡ before)
-    → AreWithin after (n + 1)
-within_asked roster before p i now request out after n false within takes kept =
-    within_taken roster before p i now request out after n within (takes refl)
-within_asked roster before p i now request out after n true within takes kept =
-    subst (λ (states : List PlatformState). AreWithin states (n + 1)) (sym (kept refl)) (within_more before n within)
+-- a platform started again
+within_loosened : (p : PlatformCode) (i : ℕ) (before after : List PlatformState) (n : ℕ) → AreWithin before n
+    → IsLoosenedAt p i before after → AreWithin after n
+within_loosened p i before after n within t =
+    within_put before p i (loosened t.shard) after n n within t.after_is (within p i t.shard t.is_there) (omega arith)
+
+within_all_loosened : (p : PlatformCode) (i k : ℕ) (before after : List PlatformState) (n : ℕ) → AreWithin before n
+    → AreLoosened p i k before after → AreWithin after n
+within_all_loosened p i zero before after n within is =
+    subst (λ (states : List PlatformState). AreWithin states n) (sym is) within
+within_all_loosened p i (suc k) before after n within (between, first, rest) =
+    within_all_loosened p (i + 1) k between after n (within_loosened p i before between n within first) rest
+
+pub within_started : (p : PlatformCode) (i k : ℕ) (before : List PlatformState) (end : FateEnd) (kept : List ℕ)
+    (after : List PlatformState) (n : ℕ) → AreWithin before n → AreReadAgain p i k before end kept after
+    → AreWithin after n
+within_started p i zero before end kept after n within (whole, none, is) =
+    subst (λ (states : List PlatformState). AreWithin states n) (sym is) within
+within_started p i (suc k) before end kept after n within (inl cut) = on_cause cut.cause
+  where
+    on_cause : ((end ≡ Stuck i) × AreLoosened p i (suc k) before after) ⊎ ((end ≡ Short) × IsLoosenedAt p i before after)
+        → AreWithin after n
+    on_cause (inl (stuck, are)) = within_all_loosened p i (suc k) before after n within are
+    on_cause (inr (short, is)) = within_loosened p i before after n within is
+within_started p i (suc k) before end kept after n within (inr (here, between, behind, read, kept_is, goes)) =
+    let was = within p i read.shard read.is_there in
+    let few = (resolved_count read.shard here read.found read.resolved).0 in
+    within_started p (i + 1) k between end behind after n
+    (within_put before p i read.found between n n within read.after_is (omega (arith, was, few)) (omega arith)) goes
+
+-- what is found has at most as many
+found_within : (s : ShardState) (kept : Bool) (found : ShardState) (n : ℕ) → IsResolved s kept found
+    → frame_count s ≤ n → length found.diary ≤ n
+found_within s kept found n resolved few =
+    let fewer = (resolved_count s kept found resolved).0 in omega (arith, few, fewer)
 
 -- where nothing was written
 abbrev IsEmpty : ShardState → Type 0
-IsEmpty s = s.diary ≡ []
+IsEmpty s = (s.diary ≡ []) × (s.loose ≡ None)
+
+none_counted : (s : ShardState) → IsEmpty s → frame_count s ≡ 0
+none_counted s (empty, none) =
+    let no_diary : length s.diary ≡ 0 = ap (λ (d : List Frame). length d) empty in
+    let no_loose : length (option_to_list (loose_frame s)) ≡ 0 =
+    ap (λ (l : Option (Option Frame)). length (option_to_list (option_and_then (λ (f : Option Frame). f) l))) none in
+    omega (arith, no_diary, no_loose)
 
 empty_within : (ps : List PlatformCode) (shards : List ShardState) → All IsEmpty shards → AreWithin (grouped ps shards) 0
 empty_within [] shards empty p i s is = cc is
@@ -161,16 +257,16 @@ empty_within (q ∷ qs) shards empty p i s is =
         → option_and_then (λ (x : PlatformState). slice_get x.shards i)
         (cond test (Some (record { platform = q; shards = take 16 shards }))
         (find (λ (x : PlatformState). code_eq x.platform p) (grouped qs (drop 16 shards)))) ≡ Some s
-        → (shard_at p i (grouped qs (drop 16 shards)) ≡ Some s → length s.diary ≤ 0) → length s.diary ≤ 0
+        → (shard_at p i (grouped qs (drop 16 shards)) ≡ Some s → frame_count s ≤ 0) → frame_count s ≤ 0
     on_test true found further =
-        subst (λ (d : List Frame). length d ≤ 0)
-        (sym (at_place IsEmpty (take 16 shards) i s (All-take IsEmpty 16 shards empty) found)) (omega arith)
+        let none = none_counted s (at_place IsEmpty (take 16 shards) i s (All-take IsEmpty 16 shards empty) found) in
+        omega (arith, none)
     on_test false found further = further found
 
-pub fresh_reached : {M : Type 0} (seen : M → MachineRecord) (w : WorldState M) → AreFresh seen w.platforms.shards
-    → w.sent ≡ [] → w.signed ≡ [] → w.events ≡ 0 → IsReached (world_of seen w) w.events
-fresh_reached seen w fresh sent signed events = record {
-  written = subst (AreWithin (states_of seen w.platforms)) (sym events)
+pub fresh_reached : {M R : Type 0} (seen : M → MachineRecord) (w : WorldState M R) → AreFresh seen w.platforms.shards
+    → w.sent ≡ [] → w.signed ≡ [] → w.fates ≡ [] → IsReached (world_of seen w) (length w.fates)
+fresh_reached seen w fresh sent signed fates = record {
+  written = subst (AreWithin (states_of seen w.platforms)) (sym (ap (λ (fs : List Fate). length fs) fates))
       (empty_within w.platforms.roster.platforms (map (λ m. shard_state (seen m)) w.platforms.shards)
       (All-map IsEmpty (λ m. shard_state (seen m)) w.platforms.shards fresh));
   between = subst (All (IsBetweenListed w.platforms.roster)) (sym sent) (All-nil (IsBetweenListed w.platforms.roster));
@@ -220,21 +316,25 @@ sends_between roster path reply own between are =
 
 -- ---- what stays so
 
--- a shard was asked
-pub reached_asked : {M : Type 0} (seen : M → MachineRecord) (w : WorldState M) (platforms : PlatformsRecord M)
-    (p : PlatformCode) (i : ℕ) (now : Moment) (request : RequestRecord) (out : Outcome) (fails : Bool)
-    → IsReached (world_of seen w) w.events → platforms.roster ≡ w.platforms.roster
-    → (fails ≡ false → TakesAt w.platforms.roster (states_of seen w.platforms) p i now request out
-    (states_of seen platforms))
-    → (fails ≡ true → states_of seen platforms ≡ states_of seen w.platforms)
-    → IsReached (world_of seen (record { platforms = platforms; sent = w.sent; signed = w.signed; events = w.events + 1 }))
-    (w.events + 1)
-reached_asked seen w platforms p i now request out fails reached same takes kept = record {
-  written = within_asked w.platforms.roster (states_of seen w.platforms) p i now request out (states_of seen platforms)
-      w.events fails reached.written takes kept;
+-- other platforms with at most so many frames, a fate more or not
+pub reached_by : {M R : Type 0} (seen : M → MachineRecord) (w : WorldState M R) (platforms : PlatformsRecord M R)
+    (fates : List Fate) → IsReached (world_of seen w) (length w.fates) → platforms.roster ≡ w.platforms.roster
+    → AreWithin (states_of seen platforms) (length fates)
+    → IsReached (world_of seen (record { platforms = platforms; sent = w.sent; signed = w.signed; fates = fates }))
+    (length fates)
+reached_by seen w platforms fates reached same within = record {
+  written = within;
   between = subst (λ (r : RosterRecord). All (IsBetweenListed r) w.sent) (sym same) reached.between;
   named = reached.named;
 }
+
+-- a fate more
+pub fates_more : (fates after : List Fate) (fate : Fate) → after ≡ fates ++ fate ∷ [] → length after ≡ length fates + 1
+fates_more fates after fate is =
+    ap (λ (fs : List Fate). length fs) is ∙ length-append fates (fate ∷ [])
+
+pub within_one_more : (states : List PlatformState) (n m : ℕ) → AreWithin states n → n ≤ m → AreWithin states m
+within_one_more states n m within more p i s is = let few = within p i s is in omega (arith, few, more)
 
 -- what was sent, and the bills that were signed, are these
 abbrev with_lists : WorldRecord → List Parcel → List Checksum → WorldRecord
@@ -289,12 +389,17 @@ module _ (w : WorldRecord) (n : ℕ) (reached : IsReached w n) (few : n < 429496
   -- a request to a listed platform that may be any bytes
   asked_may : (at : PlatformCode) (now : Option Moment) (request : RequestRecord) (a : Asking)
       → has_platform w.roster at ≡ true
-      → ((time : Moment) (s : ShardState) → IsAt now time → shard_at at (shard_of request) w.platforms ≡ Some s
-      → MayBeAsked s.diary time request)
+      → ((time : Moment) (found : ShardState) → IsAt now time → length found.diary ≤ n
+      → MayBeAsked found.diary time request)
       → asked at now request ≡ asks a → MayAsk w a
   asked_may at now request a listed may is =
       let same : record { at = at; now = now; request = request; sender = None } ≡ a = cc is in
-      subst (MayAsk w) same (record { listed = listed; sender = tt; may = may })
+      subst (MayAsk w) same (record {
+        listed = listed;
+        sender = tt;
+        may = λ time s found kept at_it there resolved.
+            may time found at_it (found_within s kept found n resolved (reached.written at (shard_of request) s there));
+      })
 
   -- one for a bill that the script names
   on_name : (o : Option Checksum) (happens : Checksum → Happening) (a : Asking) → on_bill o happens ≡ asks a
@@ -304,29 +409,29 @@ module _ (w : WorldRecord) (n : ℕ) (reached : IsReached w n) (few : n < 429496
 
   command_may : (at : PlatformCode) (party : Party) (now : Moment) (command : CommandRecord) (a : Asking)
       → has_platform w.roster at ≡ true → IsParty party → IsMoment now → IsCommand command → Nests command
-      → ((s : ShardState) → length s.diary ≤ n → HasAttempts command (newest_first s.diary))
+      → ((found : ShardState) → length found.diary ≤ n → HasAttempts command (newest_first found.diary))
       → asked at (Some now) (requests.commands party command) ≡ asks a → MayAsk w a
   command_may at party now command a listed by time form nests attempts is =
       asked_may at (Some now) (requests.commands party command) a listed
-      (λ moment s at_it there. (
+      (λ moment found at_it within. (
         record { by = by; form = form; nests = nests; time = subst IsMoment (sym at_it) time },
-        attempts s (reached.written at (shard_of (requests.commands party command)) s there),
+        attempts found within,
       )) is
 
   deed_may : (at : PlatformCode) (party : Party) (now : Moment) (deed : DeedRecord) (a : Asking)
       → has_platform w.roster at ≡ true → IsParty party → IsMoment now → IsDeed deed
       → IsNested (events.commands at party now deed) → at_command w.signed at party now deed ≡ asks a → MayAsk w a
   deed_may at party now (events.signs document) a listed by time form nests is =
-      command_may at party now (commands.signs document) a listed by time form nests (λ s within. tt) is
+      command_may at party now (commands.signs document) a listed by time form nests (λ found within. tt) is
   deed_may at party now (events.acts bill kind recipient) a listed by time form nests is =
       let (name, named, goes) = on_name (bill_named w.signed bill) _ a is in
       command_may at party now (commands.acts name kind recipient) a listed by time
       (named_checksum w.signed bill name reached.named form.0 named, begins_none kind form.1, form.2) tt
-      (λ s within. let attempts = attempts_within s.diary name in omega (arith, attempts, within, few)) goes
+      (λ found within. let attempts = attempts_within found.diary name in omega (arith, attempts, within, few)) goes
   deed_may at party now (events.attaches bill name media bytes) a listed by time form nests is =
       let (checksum, named, goes) = on_name (bill_named w.signed bill) _ a is in
       command_may at party now (commands.attaches checksum name media bytes) a listed by time
-      (named_checksum w.signed bill checksum reached.named form.0 named, form.1, form.2, form.3) tt (λ s within. tt) goes
+      (named_checksum w.signed bill checksum reached.named form.0 named, form.1, form.2, form.3) tt (λ found within. tt) goes
 
   -- what was delivered may be any bytes
   content_may : (diary : List Frame) (time : Moment) (bill : Checksum) (content : Content)
@@ -351,7 +456,7 @@ module _ (w : WorldRecord) (n : ℕ) (reached : IsReached w n) (few : n < 429496
       subst (MayAsk w) same (record {
         listed = listed;
         sender = between.from;
-        may = λ time s at_it there. content_may s.diary time parcel.bill parcel.content;
+        may = λ time s found kept at_it there resolved. content_may found.diary time parcel.bill parcel.content;
       })
 
   goes_to : (at to : Option PlatformCode) → option_map_or (has_platform w.roster) at true ≡ true
@@ -370,16 +475,16 @@ module _ (w : WorldRecord) (n : ℕ) (reached : IsReached w n) (few : n < 429496
   -- bytes from outside
   foreign_may : (at : PlatformCode) (bytes : ForeignRecord) (a : Asking) → has_platform w.roster at ≡ true
       → at_foreign w.signed at bytes ≡ asks a → MayAsk w a
-  foreign_may at (events.starts body) a listed is = asked_may at None _ a listed (λ time s at_it there. tt) is
+  foreign_may at (events.starts body) a listed is = asked_may at None _ a listed (λ time found at_it within. tt) is
   foreign_may at (events.puts reference checksum bytes) a listed is =
-      asked_may at None _ a listed (λ time s at_it there. tt) is
-  foreign_may at (events.finishes reference) a listed is = asked_may at None _ a listed (λ time s at_it there. tt) is
+      asked_may at None _ a listed (λ time found at_it within. tt) is
+  foreign_may at (events.finishes reference) a listed is = asked_may at None _ a listed (λ time found at_it within. tt) is
   foreign_may at (events.start_replies bill text) a listed is =
       let (name, named, goes) = on_name (bill_named w.signed bill) _ a is in
-      asked_may at None (requests.start_replies name text) a listed (λ time s at_it there. tt) goes
+      asked_may at None (requests.start_replies name text) a listed (λ time found at_it within. tt) goes
   foreign_may at (events.finish_replies bill text) a listed is =
       let (name, named, goes) = on_name (bill_named w.signed bill) _ a is in
-      asked_may at None (requests.finish_replies name text) a listed (λ time s at_it there. tt) goes
+      asked_may at None (requests.finish_replies name text) a listed (λ time found at_it within. tt) goes
 
   -- an event of a line may be taken
   pub may_take : (event : EventRecord) → IsEvent event → IsNested event → names_listed w.roster event ≡ true
@@ -391,10 +496,10 @@ module _ (w : WorldRecord) (n : ℕ) (reached : IsReached w n) (few : n < 429496
   may_take (events.restarts at) form nests listed a is = cc is
   may_take (events.resends at bill) form nests listed a is =
       let (name, named, goes) = on_name (bill_named w.signed bill) _ a is in
-      asked_may at None (requests.resends name) a listed (λ time s at_it there. tt) goes
+      asked_may at None (requests.resends name) a listed (λ time found at_it within. tt) goes
   may_take (events.asks at bill) form nests listed a is =
       let (name, named, goes) = on_name (bill_named w.signed bill) _ a is in
-      asked_may at None (requests.asks name) a listed (λ time s at_it there. tt) goes
+      asked_may at None (requests.asks name) a listed (λ time found at_it within. tt) goes
   may_take (events.receives at bytes) form nests listed a is = foreign_may at bytes a listed is
   may_take (events.shows number) form nests listed a is = shows_nothing (numbered number w.sent) is
     where

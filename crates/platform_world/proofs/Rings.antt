@@ -1,7 +1,7 @@
 -- Rings of keys, sixteen for each platform: whose shard each goes to, and that further ones stay unused.
-use Rattle.std.proofs.Common.{◌≡◌, ℕ, ◌+◌, ◌-◌, ◌*◌, ◌/◌, ◌<◌, inl, inr, zero, suc, List, [], ◌∷◌, ◌++◌, length, map, take, drop, get_or, refl, ap, sym, ◌∙◌, arith}
+use Rattle.std.proofs.Common.{◌≡◌, ℕ, ◌+◌, ◌-◌, ◌*◌, ◌/◌, ◌<◌, inl, inr, zero, suc, List, [], ◌∷◌, length, map, take, drop, get_or, refl, ap, sym, ◌∙◌, arith}
 use Rattle.std.specs.Prelude.{Some, replicate, slice_get}
-use Rattle.std.proofs.lemmas.List.{get_or-append_right, get_or-replicate, get_or_append_left, length-replicate, length_push, map-append, drop-take, take-map, take-take, take_all}
+use Rattle.std.proofs.lemmas.List.{get_or-append_right, get_or-replicate, get_or_append_left, length-replicate, drop-take, take-map, take-take, take_all}
 use Rattle.std.proofs.lemmas.Bool.{cases_lt}
 use Rattle.ebl_base.specs.declared.platform_code.PlatformCode.{PlatformCode}
 use Rattle.signed_envelope.specs.KeyRing.{Keys}
@@ -40,42 +40,6 @@ pub code-there : (ps : List PlatformCode) (n : ℕ) (d : PlatformCode) → n < 1
     → slice_get (codes_of ps) n ≡ Some (get_or ps (n / 16) d)
 code-there ps n d h =
     at-place (codes_of ps) n d (omega (arith, h, codes-length ps)) ∙ ap (λ (p : PlatformCode). Some p) (code-at ps n d h)
-
-take-one : {X : Type 0} (xs : List X) (n : ℕ) (x : X) → slice_get xs n ≡ Some x → take (n + 1) xs ≡ take n xs ++ x ∷ []
-take-one [] n x there = cc there
-take-one (y ∷ ys) zero x there =
-    let same : y ≡ x = cc there in
-    ap (λ (z : _). z ∷ []) same
-take-one (y ∷ ys) (suc n) x there =
-    let next : suc n + 1 ≡ suc (n + 1) = omega arith in
-    ap (λ (k : ℕ). take k (y ∷ ys)) next ∙ ap (λ (l : List _). y ∷ l) (take-one ys n x there)
-
--- one shard more
-module _ {S Ring : Type 0} (shards after : List S) (s : S) (yielded : List Ring) (ring : Ring) (pushed : after ≡ shards ++ s ∷ []) where
-  pub of-more : (me : S → PlatformCode) (codes : List PlatformCode) (p : PlatformCode)
-      → map me shards ≡ take (length yielded) codes → me s ≡ p → slice_get codes (length yielded) ≡ Some p
-      → map me after ≡ take (length (yielded ++ ring ∷ [])) codes
-  of-more me codes p are is there =
-      ap (map me) pushed ∙ map-append me shards (s ∷ []) ∙ ap (λ (ps : List PlatformCode). ps ++ me s ∷ []) are
-      ∙ ap (λ (q : PlatformCode). take (length yielded) codes ++ q ∷ []) is ∙ sym (take-one codes (length yielded) p there)
-      ∙ ap (λ (n : ℕ). take n codes) (sym (length_push yielded ring))
-
-  pub by-more : (by : S → RosterRecord) (roster : RosterRecord) (codes : List PlatformCode) (p : PlatformCode)
-      → map by shards ≡ map (λ (q : PlatformCode). roster) (take (length yielded) codes) → by s ≡ roster
-      → slice_get codes (length yielded) ≡ Some p
-      → map by after ≡ map (λ (q : PlatformCode). roster) (take (length (yielded ++ ring ∷ [])) codes)
-  by-more by roster codes p are is there =
-      ap (map by) pushed ∙ map-append by shards (s ∷ []) ∙ ap (λ (rs : List RosterRecord). rs ++ by s ∷ []) are
-      ∙ ap (λ (r : RosterRecord). map (λ (q : PlatformCode). roster) (take (length yielded) codes) ++ r ∷ []) is
-      ∙ sym (map-append (λ (q : PlatformCode). roster) (take (length yielded) codes) (p ∷ []))
-      ∙ ap (map (λ (q : PlatformCode). roster)) (sym (take-one codes (length yielded) p there))
-      ∙ ap (λ (n : ℕ). map (λ (q : PlatformCode). roster) (take n codes)) (sym (length_push yielded ring))
-
-  pub keys-more : (keys_of : S → Keys) (keys : Ring → Keys) → map keys_of shards ≡ map keys yielded → keys_of s ≡ keys ring
-      → map keys_of after ≡ map keys (yielded ++ ring ∷ [])
-  keys-more keys_of keys are is =
-      ap (map keys_of) pushed ∙ map-append keys_of shards (s ∷ []) ∙ ap (λ (ks : List Keys). ks ++ keys_of s ∷ []) are
-      ∙ ap (λ (k : Keys). map keys yielded ++ k ∷ []) is ∙ sym (map-append keys yielded (ring ∷ []))
 
 -- all of them
 codes-all : (ps : List PlatformCode) (n : ℕ) → n ≡ 16 * length ps → take n (codes_of ps) ≡ codes_of ps

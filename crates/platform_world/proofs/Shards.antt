@@ -1,11 +1,12 @@
 -- The shards of all platforms in one list: each is for its platform and the roster, and one of them takes a request.
-use Rattle.std.proofs.Common.{◌≡◌, ℕ, zero, suc, ◌+◌, ◌*◌, ◌<◌, ◌||◌, Bool, true, false, cond, List, [], ◌∷◌, ◌++◌, Some, None, length, map, refl, ap, sym, subst, ◌∙◌, arith}
+use Rattle.std.proofs.Common.{◌≡◌, ℕ, zero, suc, ◌+◌, ◌*◌, ◌<◌, ◌≤◌, ◌||◌, Bool, true, false, cond, List, [], ◌∷◌, ◌++◌, Some, drop, length, map, take, refl, ap, sym, subst, ◌∙◌, arith}
 use Rattle.std.specs.Prelude.{option_map, replicate, slice_get, slice_set}
 use Rattle.std.specs.Set.{is_member}
 use Rattle.std.proofs.Math.Seq.{map-set_same}
-use Rattle.std.proofs.lemmas.List.{length-append, length-map, length-replicate, map-set}
+use Rattle.std.proofs.lemmas.List.{length-append, length-drop, length-map, length-replicate, map-set, take-append-drop}
+use Rattle.std.proofs.lemmas.List.Elements.{All-cons, All-head, All-tail}
 use Rattle.std.proofs.lemmas.Option.{get_or_from_slice_get, slice_get-map}
-use Rattle.ebl_base.specs.Faults.{Rose}
+use Rattle.ebl_base.specs.Faults.{RoseBy}
 use Rattle.ebl_base.specs.PlatformCode.{code_eq}
 use Rattle.ebl_base.specs.declared.moment.Moment.{Moment}
 use Rattle.ebl_base.specs.declared.platform_code.PlatformCode.{PlatformCode}
@@ -13,10 +14,13 @@ use Rattle.ebl_base.proofs.SameLemmas.{code_eq-Decides}
 use Rattle.party_roster.specs.RosterRecord.{RosterRecord, has_platform}
 use Rattle.platform_requests.specs.Request.{RequestRecord}
 use Rattle.platform_requests.specs.declared.outcome.Outcome.{Outcome}
-use Rattle.platform_machine.specs.Machine.{Steps}
-use Rattle.platform_world.specs.Machine.{IsTaken, MachineRecord, shard_state}
-use Rattle.platform_world.specs.Platforms.{AreShardsOf, PlatformsRecord, RoseAt, TakesAt, codes_of, grouped, index_of, place_of, states_of}
-use Rattle.platform_world.specs.World.{ShardState, shard_at}
+use Rattle.platform_world.specs.Machine.{IsSameMachine, MachineRecord, shard_state}
+use Rattle.platform_world.specs.Platforms.{AllTell, AreShardsOf, EachRose, PlatformsRecord, TakesAt, codes_of, grouped, index_of, place_of, states_of, times_if}
+use Rattle.platform_world.specs.Shard.{IsResolved, TakesAs, loosened}
+use Rattle.platform_world.specs.Start.{IsLoosenedAt, IsReadAt}
+use Rattle.platform_world.specs.World.{ShardState, shard_at, shards_in, with_shard}
+use Rattle.platform_world.specs.declared.fate.Fate.{Fate}
+use Rattle.platform_world.proofs.Counts.{by_later, rose_later, rose_set}
 use Rattle.platform_world.proofs.Grouped.{shard_at-grouped, with_shard-grouped}
 
 -- ---- how many there are
@@ -119,145 +123,191 @@ module _ (roster : RosterRecord) (machines : List MachineRecord) (are : AreShard
         (by ∙ ap (λ (x : MachineRecord). x.roster) (sym (get_or_from_slice_get machines k m m there))) ∙ are.by;
   }
 
-set_there : {X : Type 0} (xs : List X) (k : ℕ) (x y : X) → slice_get xs k ≡ Some x
-    → slice_get (slice_set xs k y) k ≡ Some y
-set_there [] k x y there = absurd (let none : None ≡ Some x = there in cc)
-set_there (z ∷ zs) zero x y there = refl
-set_there (z ∷ zs) (suc k) x y there = set_there zs k x y there
+-- ---- one of them is changed
 
--- ---- one of them takes a request
+-- how many there are
+pub shard_count : {M : Type 0} (seen : M → MachineRecord) (roster : RosterRecord) (shards : List M)
+    → AreShardsOf roster (map seen shards) → length shards ≡ 16 * length roster.platforms
+shard_count seen roster shards are = sym (length-map shards seen) ∙ count roster (map seen shards) are
 
-module _ {M : Type 0} (seen : M → MachineRecord) where
-  state : M → ShardState
-  state m = shard_state (seen m)
-
+module _ {M R : Type 0} (seen : M → MachineRecord) where
   -- the shard of a listed platform is within the list
-  pub within : (roster : RosterRecord) (shards : List M) (v : PlatformsRecord M) (p : PlatformCode) (i n : ℕ)
-      → record { roster = roster; shards = shards } ≡ v → AreShardsOf roster (map seen shards)
-      → has_platform v.roster p ≡ true → i < 16 → n ≡ place_of p roster.platforms → 16 * n + i < length shards
-  within roster shards v p i n view are listed small n_is =
-      let there : is_member code_eq roster.platforms p ≡ true =
-      subst (λ (x : PlatformsRecord M). has_platform x.roster p ≡ true) (sym view) listed in
-      let before : place_of p roster.platforms < length roster.platforms = listed-place p roster.platforms there in
-      let all : length shards ≡ 16 * length roster.platforms =
-      sym (length-map shards seen) ∙ count roster (map seen shards) are in
-      omega (arith, n_is, before, all, small)
+  pub within : (s : PlatformsRecord M R) (p : PlatformCode) (i : ℕ) → AreShardsOf s.roster (map seen s.shards)
+      → has_platform s.roster p ≡ true → i < 16 → index_of p i s.roster.platforms < length s.shards
+  within s p i are listed small =
+      let before : place_of p s.roster.platforms < length s.roster.platforms =
+      listed-place p s.roster.platforms listed in
+      let all = shard_count seen s.roster s.shards are in
+      omega (arith, before, all, small)
 
-  pub place_within : (roster : RosterRecord) (shards : List M) (v : PlatformsRecord M) (p : PlatformCode)
-      → record { roster = roster; shards = shards } ≡ v → has_platform v.roster p ≡ true
-      → place_of p roster.platforms < length roster.platforms
-  place_within roster shards v p view listed =
-      listed-place p roster.platforms
-      (subst (λ (x : PlatformsRecord M). has_platform x.roster p ≡ true) (sym view) listed)
+  module _ (s : PlatformsRecord M R) (p : PlatformCode) (i : ℕ) (m : M) (are : AreShardsOf s.roster (map seen s.shards))
+      (listed : has_platform s.roster p ≡ true) (small : i < 16)
+      (there : slice_get s.shards (index_of p i s.roster.platforms) ≡ Some m) where
+    is_listed : place_of p s.roster.platforms < length s.roster.platforms
+    is_listed = listed-place p s.roster.platforms listed
 
-  pub kept_seen : (roster : RosterRecord) (shards : List M) (k : ℕ) (m m1 : M) → AreShardsOf roster (map seen shards)
-      → slice_get shards k ≡ Some m → (seen m1).me ≡ (seen m).me → (seen m1).roster ≡ (seen m).roster
-      → AreShardsOf roster (map seen (slice_set shards k m1))
-  kept_seen roster shards k m m1 are there me by =
-      subst (AreShardsOf roster) (sym (map-set seen shards k m1))
-      (kept roster (map seen shards) are k (seen m) (seen m1)
-      (slice_get-map seen shards k ∙ ap (option_map seen) there) me by)
+    seen_there : slice_get (map seen s.shards) (index_of p i s.roster.platforms) ≡ Some (seen m)
+    seen_there = slice_get-map seen s.shards (index_of p i s.roster.platforms) ∙ ap (option_map seen) there
 
-  pub unchanged : (roster : RosterRecord) (shards : List M) (k : ℕ) (m m1 : M)
-      → slice_get shards k ≡ Some m → seen m1 ≡ seen m
-      → states_of seen (record { roster = roster; shards = slice_set shards k m1 })
-      ≡ states_of seen (record { roster = roster; shards = shards })
-  unchanged roster shards k m m1 there same =
-      ap (grouped roster.platforms)
-      (map-set_same (λ (x : M). shard_state (seen x)) shards k m1 m
-      (ap shard_state (same ∙ ap seen (sym (get_or_from_slice_get shards k m m there)))))
+    pub me_is : (seen m).me ≡ p
+    me_is = me-at s.roster (map seen s.shards) are p i (seen m) small is_listed seen_there
 
-  pub took : (roster : RosterRecord) (shards : List M) (p : PlatformCode) (i : ℕ) (m m1 : M) (now : Moment)
-      (request : RequestRecord) (out : Outcome)
-      → AreShardsOf roster (map seen shards) → i < 16 → place_of p roster.platforms < length roster.platforms
-      → slice_get shards (index_of p i roster.platforms) ≡ Some m → IsTaken (seen m) now request out (seen m1)
-      → TakesAt roster (states_of seen (record { roster = roster; shards = shards })) p i now request out
-      (states_of seen (record { roster = roster; shards = slice_set shards (index_of p i roster.platforms) m1 }))
-  took roster shards p i m m1 now request out are small listed there taken =
-      let ps = roster.platforms in
-      let k = index_of p i ps in
-      let see : M → ShardState = λ x. shard_state (seen x) in
-      let seen_there : slice_get (map seen shards) k ≡ Some (seen m) =
-      slice_get-map seen shards k ∙ ap (option_map seen) there in
-      record {
-        shard = shard_state (seen m);
-        is_asked = shard_at-grouped p i ps (map see shards) small listed
-            ∙ slice_get-map see shards k ∙ ap (option_map see) there;
-        not_loose = refl;
-        step = taken.step;
-        steps = subst
-            (λ (r : RosterRecord). Steps r (seen m).keys p (seen m).diary now request taken.step)
-            (roster-at roster (map seen shards) are p i (seen m) small listed seen_there)
-            (subst
-            (λ (q : PlatformCode). Steps (seen m).roster (seen m).keys q (seen m).diary now request taken.step)
-            (me-at roster (map seen shards) are p i (seen m) small listed seen_there) taken.steps);
-        reply_is = taken.reply_is;
-        messages_are = taken.messages_are;
-        after_is = ap (grouped ps) (map-set see shards k m1)
-            ∙ ap (λ (s : ShardState). grouped ps (slice_set (map see shards) k s)) (ap shard_state taken.after_is)
-            ∙ sym (with_shard-grouped p i _ ps (map see shards) small listed);
-      }
+    pub roster_is : (seen m).roster ≡ s.roster
+    roster_is = roster-at s.roster (map seen s.shards) are p i (seen m) small is_listed seen_there
 
-  -- a shard that is in the list is there by its platform and its number
-  pub asked_there : (roster : RosterRecord) (shards : List M) (v : PlatformsRecord M) (p : PlatformCode) (i n : ℕ) (m : M)
-      → record { roster = roster; shards = shards } ≡ v → has_platform v.roster p ≡ true → i < 16
-      → n ≡ place_of p roster.platforms → slice_get shards (16 * n + i) ≡ Some m
-      → shard_at p i (states_of seen v) ≡ Some (shard_state (seen m))
-  asked_there roster shards v p i n m view listed small n_is there =
-      let ps = roster.platforms in
-      let see : M → ShardState = λ x. shard_state (seen x) in
-      let k_is : 16 * n + i ≡ index_of p i ps = ap (λ (x : ℕ). 16 * x + i) n_is in
-      subst (λ (x : PlatformsRecord M). shard_at p i (states_of seen x) ≡ Some (shard_state (seen m))) view
-      (shard_at-grouped p i ps (map see shards) small (place_within roster shards v p view listed)
-      ∙ ap (slice_get (map see shards)) (sym k_is)
-      ∙ slice_get-map see shards (16 * n + i) ∙ ap (option_map see) there)
+    -- it is there by its platform and its number
+    pub at_place : shard_at p i (states_of seen s) ≡ Some (shard_state (seen m))
+    at_place =
+        shard_at-grouped p i s.roster.platforms (map (λ (x : M). shard_state (seen x)) s.shards) small is_listed
+        ∙ slice_get-map (λ (x : M). shard_state (seen x)) s.shards (index_of p i s.roster.platforms) ∙ ap (option_map (λ (x : M). shard_state (seen x))) there
 
-  -- it is the roster's
-  pub roster_seen : (roster : RosterRecord) (shards : List M) (v : PlatformsRecord M) (p : PlatformCode) (i n : ℕ) (m : M)
-      → record { roster = roster; shards = shards } ≡ v → AreShardsOf roster (map seen shards)
-      → has_platform v.roster p ≡ true → i < 16 → n ≡ place_of p roster.platforms
-      → slice_get shards (16 * n + i) ≡ Some m → (seen m).roster ≡ v.roster
-  roster_seen roster shards v p i n m view are listed small n_is there =
-      let k_is : 16 * n + i ≡ index_of p i roster.platforms = ap (λ (x : ℕ). 16 * x + i) n_is in
-      roster-at roster (map seen shards) are p i (seen m) small (place_within roster shards v p view listed)
-      (ap (slice_get (map seen shards)) (sym k_is) ∙ slice_get-map seen shards (16 * n + i) ∙ ap (option_map seen) there)
-      ∙ ap (λ (x : PlatformsRecord M). x.roster) view
+    -- another one in its place
+    pub put : (m1 : M) (spare : List R)
+        → states_of seen (record {
+          roster = s.roster;
+          shards = slice_set s.shards (index_of p i s.roster.platforms) m1;
+          spare = spare;
+        })
+        ≡ with_shard p i (shard_state (seen m1)) (states_of seen s)
+    put m1 spare =
+        ap (grouped s.roster.platforms) (map-set (λ (x : M). shard_state (seen x)) s.shards (index_of p i s.roster.platforms) m1)
+        ∙ sym (with_shard-grouped p i (shard_state (seen m1)) s.roster.platforms (map (λ (x : M). shard_state (seen x)) s.shards) small is_listed)
 
-  -- its count of faults rose
-  pub rose_in : (faults : M → ℕ) (roster : RosterRecord) (shards : List M) (v : PlatformsRecord M) (p : PlatformCode)
-      (i n : ℕ) (m m1 : M) → record { roster = roster; shards = shards } ≡ v → n ≡ place_of p roster.platforms
-      → slice_get shards (16 * n + i) ≡ Some m → Rose (faults m) (faults m1)
-      → RoseAt faults (index_of p i v.roster.platforms) v.shards (slice_set shards (16 * n + i) m1)
-  rose_in faults roster shards v p i n m m1 view n_is there rose =
-      let k_is : 16 * n + i ≡ index_of p i roster.platforms = ap (λ (x : ℕ). 16 * x + i) n_is in
-      subst (λ (x : PlatformsRecord M).
-      RoseAt faults (index_of p i x.roster.platforms) x.shards (slice_set shards (16 * n + i) m1)) view
-      (subst (λ (k : ℕ). RoseAt faults k shards (slice_set shards (16 * n + i) m1)) k_is
-      (record { old = m; new = m1; was = there; is = set_there shards (16 * n + i) m m1 there; rose = rose }))
+    pub kept_seen : (m1 : M) → IsSameMachine (seen m) (seen m1)
+        → AreShardsOf s.roster (map seen (slice_set s.shards (index_of p i s.roster.platforms) m1))
+    kept_seen m1 same =
+        subst (AreShardsOf s.roster) (sym (map-set seen s.shards (index_of p i s.roster.platforms) m1))
+        (kept s.roster (map seen s.shards) are (index_of p i s.roster.platforms) (seen m) (seen m1) seen_there same.me
+        same.roster)
+
+-- ---- disks that tell
+
+tells_at : {M : Type 0} (tells : M → Bool) (shards : List M) (k : ℕ) (m : M) → AllTell tells shards
+    → slice_get shards k ≡ Some m → tells m ≡ true
+tells_at tells [] k m all is = cc is
+tells_at tells (x ∷ xs) zero m all is =
+    let same : x ≡ m = cc is in
+    subst (λ (y : _). tells y ≡ true) same (All-head (λ y. tells y ≡ true) x xs all)
+tells_at tells (x ∷ xs) (suc k) m all is = tells_at tells xs k m (All-tail (λ y. tells y ≡ true) x xs all) is
+
+pub told_there : {M : Type 0} (tells : M → Bool) (shards : List M) (k : ℕ) (m : M) → AllTell tells shards
+    → slice_get shards k ≡ Some m → tells m ≡ true
+told_there = tells_at
+
+pub told_set : {M : Type 0} (tells : M → Bool) (shards : List M) (k : ℕ) (m : M) → AllTell tells shards
+    → tells m ≡ true → AllTell tells (slice_set shards k m)
+told_set tells [] k m all told = all
+told_set tells (x ∷ xs) zero m all told =
+    All-cons (λ y. tells y ≡ true) m xs told (All-tail (λ y. tells y ≡ true) x xs all)
+told_set tells (x ∷ xs) (suc k) m all told =
+    All-cons (λ y. tells y ≡ true) x (slice_set xs k m) (All-head (λ y. tells y ≡ true) x xs all)
+    (told_set tells xs k m (All-tail (λ y. tells y ≡ true) x xs all) told)
+
+-- one among them
+pub told_in : {M : Type 0} (tells : M → Bool) (front : List M) (m : M) (behind : List M)
+    → AllTell tells (front ++ m ∷ behind) → tells m ≡ true
+told_in tells [] m behind all = All-head (λ y. tells y ≡ true) m behind all
+told_in tells (x ∷ front) m behind all =
+    told_in tells front m behind (All-tail (λ y. tells y ≡ true) x (front ++ m ∷ behind) all)
+
+-- ---- all of them in one list
+
+pub shards_grouped : (ps : List PlatformCode) (shards : List ShardState) → length shards ≡ 16 * length ps
+    → shards_in (grouped ps shards) ≡ shards
+shards_grouped [] [] is = refl
+shards_grouped [] (x ∷ xs) is = absurd (omega (arith, is))
+shards_grouped (p ∷ ps) shards is =
+    let rest : length (drop 16 shards) ≡ 16 * length ps = omega (arith, is, length-drop 16 shards) in
+    ap (λ (xs : List ShardState). take 16 shards ++ xs) (shards_grouped ps (drop 16 shards) rest)
+    ∙ take-append-drop 16 shards
+
+-- ---- as the code keeps them
+
+module _ {M R : Type 0} (seen : M → MachineRecord) (s v : PlatformsRecord M R) (view : s ≡ v) (p : PlatformCode) (i k : ℕ)
+    (m : M) (are : AreShardsOf s.roster (map seen s.shards)) (listed : has_platform v.roster p ≡ true) (small : i < 16)
+    (k_is : k ≡ index_of p i v.roster.platforms) (there : slice_get s.shards k ≡ Some m) where
+  listed_so : has_platform s.roster p ≡ true
+  listed_so = ap (λ (x : PlatformsRecord M R). has_platform x.roster p) view ∙ listed
+
+  index_so : k ≡ index_of p i s.roster.platforms
+  index_so = k_is ∙ ap (λ (x : PlatformsRecord M R). index_of p i x.roster.platforms) (sym view)
+
+  there_so : slice_get s.shards (index_of p i s.roster.platforms) ≡ Some m
+  there_so = ap (slice_get s.shards) (sym index_so) ∙ there
+
+  pub me_in : (seen m).me ≡ p
+  me_in = me_is seen s p i m are listed_so small there_so
+
+  pub roster_in : (seen m).roster ≡ v.roster
+  roster_in = roster_is seen s p i m are listed_so small there_so ∙ ap (λ (x : PlatformsRecord M R). x.roster) view
+
+  pub asked_in : shard_at p i (states_of seen v) ≡ Some (shard_state (seen m))
+  asked_in =
+      ap (λ (x : PlatformsRecord M R). shard_at p i (states_of seen x)) (sym view)
+      ∙ at_place seen s p i m are listed_so small there_so
+
+  pub put_in : (m1 : M) (spare : List R)
+      → states_of seen (record { roster = s.roster; shards = slice_set s.shards k m1; spare = spare })
+      ≡ with_shard p i (shard_state (seen m1)) (states_of seen v)
+  put_in m1 spare =
+      ap (λ (n : ℕ). states_of seen (record { roster = s.roster; shards = slice_set s.shards n m1; spare = spare })) index_so
+      ∙ put seen s p i m are listed_so small there_so m1 spare
+      ∙ ap (λ (x : PlatformsRecord M R). with_shard p i (shard_state (seen m1)) (states_of seen x)) view
+
+  pub kept_in : (m1 : M) → IsSameMachine (seen m) (seen m1) → AreShardsOf s.roster (map seen (slice_set s.shards k m1))
+  kept_in m1 same =
+      subst (λ (n : ℕ). AreShardsOf s.roster (map seen (slice_set s.shards n m1))) (sym index_so)
+      (kept_seen seen s p i m are listed_so small there_so m1 same)
+
+  pub rose_in : (faults : M → ℕ) (m1 : M) (t : ℕ) → RoseBy (faults m) t (faults m1)
+      → EachRose faults (times_if t (index_of p i v.roster.platforms)) v.shards (slice_set s.shards k m1)
+  rose_in faults m1 t rose =
+      subst (λ (x : PlatformsRecord M R). EachRose faults (times_if t (index_of p i v.roster.platforms)) x.shards
+      (slice_set s.shards k m1)) view
+      (subst (λ (n : ℕ). EachRose faults (times_if t n) s.shards (slice_set s.shards k m1)) k_is
+      (rose_set faults s.shards k m m1 t there rose))
+
+  pub later_in : (faults : M → ℕ) (m1 : M) → faults m ≤ faults m1
+      → EachRose faults (λ (j : ℕ). 0) v.shards (slice_set s.shards k m1)
+  later_in faults m1 later =
+      rose_later faults (times_if 0 (index_of p i v.roster.platforms)) v.shards (slice_set s.shards k m1)
+      (rose_in faults m1 0 (by_later (faults m) (faults m1) later))
 
   -- it takes a request
-  pub took_in : (roster : RosterRecord) (shards : List M) (v : PlatformsRecord M) (p : PlatformCode) (i n : ℕ) (m m1 : M)
-      (now : Moment) (request : RequestRecord) (out : Outcome)
-      → record { roster = roster; shards = shards } ≡ v → AreShardsOf roster (map seen shards)
-      → has_platform v.roster p ≡ true → i < 16 → n ≡ place_of p roster.platforms
-      → slice_get shards (16 * n + i) ≡ Some m → IsTaken (seen m) now request out (seen m1)
-      → TakesAt v.roster (states_of seen v) p i now request out
-      (states_of seen (record { roster = roster; shards = slice_set shards (16 * n + i) m1 }))
-  took_in roster shards v p i n m m1 now request out view are listed small n_is there taken =
-      let ps = roster.platforms in
-      let k_is : 16 * n + i ≡ index_of p i ps = ap (λ (x : ℕ). 16 * x + i) n_is in
-      let at_place : slice_get shards (index_of p i ps) ≡ Some m = ap (slice_get shards) (sym k_is) ∙ there in
-      subst (λ (x : PlatformsRecord M). TakesAt x.roster (states_of seen x) p i now request out
-      (states_of seen (record { roster = roster; shards = slice_set shards (16 * n + i) m1 }))) view
-      (subst (λ (k : ℕ). TakesAt roster (states_of seen (record { roster = roster; shards = shards })) p i now request out
-      (states_of seen (record { roster = roster; shards = slice_set shards k m1 }))) (sym k_is)
-      (took roster shards p i m m1 now request out are small (place_within roster shards v p view listed) at_place taken))
+  pub taken_in : (m1 : M) (spare : List R) (now : Moment) (request : RequestRecord) (fate : Fate) (out : Outcome)
+      → TakesAs (seen m).roster (seen m).me i (shard_state (seen m)) now request fate out (shard_state (seen m1))
+      → TakesAt v.roster (states_of seen v) p i now request fate out
+      (states_of seen (record { roster = s.roster; shards = slice_set s.shards k m1; spare = spare }))
+  taken_in m1 spare now request fate out takes = record {
+    shard = shard_state (seen m);
+    is_asked = asked_in;
+    later = shard_state (seen m1);
+    takes = subst (λ (r : RosterRecord). TakesAs r p i (shard_state (seen m)) now request fate out (shard_state (seen m1)))
+        roster_in
+        (subst (λ (q : PlatformCode). TakesAs (seen m).roster q i (shard_state (seen m)) now request fate out
+        (shard_state (seen m1))) me_in takes);
+    after_is = put_in m1 spare;
+  }
 
--- whatever came of it, a shard stays its platform's and the roster's
-pub stays : (before after : MachineRecord) (now : Moment) (request : RequestRecord) (out : Outcome) (failed : Bool)
-    → (failed ≡ false → IsTaken before now request out after) → (failed ≡ true → after ≡ before)
-    → (after.me ≡ before.me) × (after.roster ≡ before.roster)
-stays before after now request out true taken same =
-    (ap (λ (m : MachineRecord). m.me) (same refl), ap (λ (m : MachineRecord). m.roster) (same refl))
-stays before after now request out false taken same =
-    (ap (λ (m : MachineRecord). m.me) (taken refl).after_is, ap (λ (m : MachineRecord). m.roster) (taken refl).after_is)
+  -- it is read again
+  pub read_in : (m1 : M) (spare : List R) (here : Bool)
+      → IsResolved (shard_state (seen m)) here (shard_state (seen m1))
+      → IsReadAt p i (states_of seen v) here
+      (states_of seen (record { roster = s.roster; shards = slice_set s.shards k m1; spare = spare }))
+  read_in m1 spare here resolved = record {
+    shard = shard_state (seen m);
+    is_there = asked_in;
+    found = shard_state (seen m1);
+    resolved = resolved;
+    after_is = put_in m1 spare;
+  }
+
+  -- it is loose from now on
+  pub loose_in : (m1 : M) (spare : List R) → shard_state (seen m1) ≡ loosened (shard_state (seen m))
+      → IsLoosenedAt p i (states_of seen v)
+      (states_of seen (record { roster = s.roster; shards = slice_set s.shards k m1; spare = spare }))
+  loose_in m1 spare loose = record {
+    shard = shard_state (seen m);
+    is_there = asked_in;
+    after_is = put_in m1 spare ∙ ap (λ (x : ShardState). with_shard p i x (states_of seen v)) loose;
+  }

@@ -1,5 +1,5 @@
 -- What a shard's step replies can be written: the texts of evidence in an answer are compact.
-use Rattle.std.proofs.Common.{◌≡◌, inl, inr, ℕ, true, false, Bool, List, Option, None, Ok, Err, refl, sym, subst}
+use Rattle.std.proofs.Common.{◌≡◌, inl, inr, ℕ, true, false, List, Option, None, Ok, Err, sym, subst}
 use Rattle.ebl_base.specs.declared.checksum.Checksum.{Checksum}
 use Rattle.ebl_base.specs.declared.moment.Moment.{Moment}
 use Rattle.ebl_base.specs.declared.platform_code.PlatformCode.{PlatformCode}
@@ -11,7 +11,6 @@ use Rattle.pint_responses.specs.Response.{IsOptionalEvidence, IsSealable}
 use Rattle.pint_responses.specs.declared.response.Response.{Response}
 use Rattle.platform_requests.specs.Request.{RequestRecord, commands, starts, puts, finishes, start_replies, finish_replies, resends, asks}
 use Rattle.platform_requests.specs.declared.message.Message.{Message}
-use Rattle.platform_requests.specs.declared.outcome.Outcome.{Outcome}
 use Rattle.platform_requests.specs.declared.reply.Reply.{Reply}
 use Rattle.platform_requests.specs.declared.reply.Reply.TheVariants as replies
 use Rattle.bill_diary.specs.Sound.{IsSound}
@@ -36,7 +35,6 @@ use Rattle.platform_machine.specs.Step.{IsDone}
 use Rattle.platform_machine.proofs.SealLemmas.{sealable_at_finish, sealable_at_start}
 use Rattle.answer_lines.specs.Lines.{IsWritable}
 use Rattle.answer_lines.specs.declared.answer.Answer.TheVariants.{Replied}
-use Rattle.transfer_core.specs.Shard.{IsStepped}
 
 -- the reply can be written
 abbrev IsFine : Reply → Type 0
@@ -157,7 +155,7 @@ resend_fine diary bill step (inr (sent, resent, done)) = done_fine bill diary No
 -- ---- all requests
 
 -- the reply of each step over a sound diary can be written
-steps_write : (roster : RosterRecord) (keys : Keys) (me : PlatformCode) (diary : List Frame) (now : Moment)
+pub steps_write : (roster : RosterRecord) (keys : Keys) (me : PlatformCode) (diary : List Frame) (now : Moment)
     (request : RequestRecord) (step : Step) → IsSound me diary → Steps roster keys me diary now request step
     → IsFine step.reply
 steps_write roster keys me diary now (commands party command) step sound steps =
@@ -178,7 +176,7 @@ not_true : {X : Type 0} → false ≡ true → X
 not_true no_way = absurd (let e : false ≡ true = no_way in cc)
 
 -- a failure can be written
-failure_writes : (reply : Reply) → is_failure reply ≡ true → IsFine reply
+pub failure_writes : (reply : Reply) → is_failure reply ≡ true → IsFine reply
 failure_writes (replies.Done view) no_way = tt
 failure_writes (replies.Started reference missing) no_way = tt
 failure_writes replies.Stored no_way = tt
@@ -199,17 +197,3 @@ failure_writes replies.Full is = tt
 failure_writes replies.Disk is = tt
 failure_writes (replies.Damaged place) is = tt
 failure_writes replies.NoMemory is = tt
-
--- so is the reply of each outcome of a shard
-pub outcome_writes : (roster : RosterRecord) (keys : Keys) (me : PlatformCode) (before after : List Frame) (now : Moment)
-    (request : RequestRecord) (out : Outcome) → IsSound me before
-    → (is_failure out.reply ≡ false → IsStepped roster keys me before now request out after)
-    → IsWritable (Replied out.reply)
-outcome_writes roster keys me before after now request out sound stepped = on_kind (is_failure out.reply) refl
-  where
-    on_kind : (failed : Bool) → is_failure out.reply ≡ failed → IsFine out.reply
-    on_kind false is =
-        let (frame, steps, grown) = stepped is in
-        steps_write roster keys me before now request
-        (record { frame = frame; reply = out.reply; messages = out.messages }) sound steps
-    on_kind true is = failure_writes out.reply is

@@ -15,7 +15,7 @@ use Rattle.world_script.specs.declared.deed.BillName.TheVariants.{Name, Number}
 use Rattle.world_script.specs.Event.{DeedRecord, ForeignRecord, EventRecord}
 use Rattle.world_script.specs.Event as events
 use Rattle.answer_lines.specs.declared.answer.Answer.{Answer}
-use Rattle.answer_lines.specs.declared.answer.Answer.TheVariants.{Opened, NoBill, NoMessage, Shown}
+use Rattle.answer_lines.specs.declared.answer.Answer.TheVariants.{NoBill, NoMessage, Shown}
 use Rattle.answer_lines.specs.declared.parcel.Parcel.{Parcel}
 use Rattle.answer_lines.specs.declared.parcel.Content.{Content}
 use Rattle.answer_lines.specs.declared.parcel.Content.TheVariants as contents
@@ -23,7 +23,7 @@ use Rattle.platform_requests.specs.Request.{request_view}
 use Rattle.platform_world.specs.declared.happening.Asking as asking
 use Rattle.platform_world.specs.declared.happening.Sender.{Sender}
 use Rattle.platform_world.specs.declared.happening.Happening as code
-use Rattle.platform_world.specs.declared.happening.Happening.TheVariants.{Answered, Asked}
+use Rattle.platform_world.specs.declared.happening.Happening.TheVariants.{Answered, Asked, StartsAgain}
 
 -- a request to a platform; a command has a moment, and what was delivered a sender, who gets the reply
 pub record Asking : Type 0 where
@@ -37,6 +37,8 @@ pub data Happening : Type 0 where
   answers : Answer → Happening
   -- a platform is asked
   asks : Asking → Happening
+  -- a platform starts again
+  starts_again : PlatformCode → Happening
 
 -- ---- numbers
 
@@ -114,7 +116,7 @@ at_show (Some parcel) = answers (Shown parcel)
 abbrev pub comes_to : List Checksum → List Parcel → EventRecord → Happening
 comes_to signed sent (events.commands at party now deed) = at_command signed at party now deed
 comes_to signed sent (events.delivers number at) = at_delivery at (numbered number sent)
-comes_to signed sent (events.restarts at) = answers Opened
+comes_to signed sent (events.restarts at) = starts_again at
 comes_to signed sent (events.resends at bill) =
     on_bill (bill_named signed bill) (λ name. asked at None (requests.resends name))
 comes_to signed sent (events.asks at bill) =
@@ -130,3 +132,4 @@ asking_view a = record { at = a.at; now = a.now; request = request_view a.reques
 abbrev pub happening_view : code.Happening → Happening
 happening_view (Answered answer) = answers answer
 happening_view (Asked a) = asks (asking_view a)
+happening_view (StartsAgain at) = starts_again at

@@ -1,10 +1,14 @@
 pub mod World
+pub mod Shard
+pub mod Start
 pub mod Machine
-pub mod Platforms
+pub mod Journaled
 pub mod Happening
 pub mod Step
+pub mod Platforms
 pub mod Script
 pub mod Run
 pub mod Signed
 pub mod State
+pub mod Opening
 pub mod Standing

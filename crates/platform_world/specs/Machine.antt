@@ -1,17 +1,17 @@
--- One shard of a platform as a machine: what it is, and what a request makes of it.
-use Rattle.std.specs.Prelude.{◌≡◌, true, All, List, None}
-use Rattle.ebl_base.specs.declared.moment.Moment.{Moment}
+-- One shard of a platform as a machine.
+use Rattle.std.specs.Prelude.{◌≡◌, ℕ, true, All, List, Option}
 use Rattle.ebl_base.specs.declared.platform_code.PlatformCode.{PlatformCode}
 use Rattle.signed_envelope.specs.KeyRing.{Keys}
 use Rattle.party_roster.specs.RosterRecord.{RosterRecord, has_platform}
-use Rattle.platform_requests.specs.Request.{RequestRecord}
 use Rattle.platform_requests.specs.declared.message.Message.{Message}
 use Rattle.platform_requests.specs.declared.message.Message.TheVariants as messages
-use Rattle.platform_requests.specs.declared.outcome.Outcome.{Outcome}
+use Rattle.platform_requests.specs.declared.reply.Reply.{Reply}
+use Rattle.platform_requests.specs.declared.reply.Reply.TheVariants as replies
 use Rattle.bill_diary.specs.declared.frame.Frame.{Frame}
-use Rattle.platform_machine.specs.declared.step.Step.{Step}
-use Rattle.platform_machine.specs.Machine.{Steps}
-use Rattle.platform_machine.specs.Step.{with_frame}
+use Rattle.platform_world.specs.declared.fate.FateEnd.{FateEnd}
+use Rattle.platform_world.specs.declared.fate.FateEnd.TheVariants.{Whole, SignFault, Failed, Stuck, Short}
+use Rattle.platform_world.specs.declared.machine.Unread.{Unread}
+use Rattle.platform_world.specs.declared.machine.Unread.TheVariants as unread
 use Rattle.platform_world.specs.World.{ShardState}
 
 pub record MachineRecord : Type 0 where
@@ -19,19 +19,46 @@ pub record MachineRecord : Type 0 where
   pub roster : RosterRecord
   pub keys : Keys
   pub diary : List Frame
+  pub loose : Option (Option Frame)
 
--- a shard whose diary is whole has no loose frame
 abbrev pub shard_state : MachineRecord → ShardState
-shard_state m = record { keys = m.keys; diary = m.diary; loose = None }
+shard_state m = record { keys = m.keys; diary = m.diary; loose = m.loose }
 
--- the outcome is the reply and the messages of one step, and its frame is in the diary
-pub record IsTaken (before : MachineRecord) (now : Moment) (request : RequestRecord) (out : Outcome)
-    (after : MachineRecord) : Type 0 where
-  pub step : Step
-  pub steps : Steps before.roster before.keys before.me before.diary now request step
-  pub reply_is : out.reply ≡ step.reply
-  pub messages_are : out.messages ≡ step.messages
-  pub after_is : after ≡ record before { diary = with_frame before.diary step.frame }
+-- the same platform, under the same roster
+pub record IsSameMachine (before after : MachineRecord) : Type 0 where
+  pub me : after.me ≡ before.me
+  pub roster : after.roster ≡ before.roster
+
+-- counts of faults: of the disk, and of the ring that signs
+pub record Counts (M : Type 0) : Type 0 where
+  pub disk : M → ℕ
+  pub ring : M → ℕ
+
+-- how a request ended that a shard replied to so
+abbrev pub end_by : Reply → FateEnd
+end_by replies.Sign = SignFault
+end_by replies.Disk = Failed
+end_by replies.NoMemory = Short
+end_by reply = Whole
+
+-- how the reading of the shard of this number ended that failed so, and what is replied
+abbrev pub end_of : ℕ → Unread → FateEnd
+end_of i unread.Disk = Stuck i
+end_of i unread.NoMemory = Short
+
+abbrev pub reply_of : Unread → Reply
+reply_of unread.Disk = replies.Disk
+reply_of unread.NoMemory = replies.NoMemory
+
+-- how often a disk failed, and a ring, where a request ended so
+abbrev pub disk_times : FateEnd → ℕ
+disk_times Failed = 1
+disk_times (Stuck i) = 1
+disk_times end = 0
+
+abbrev pub ring_times : FateEnd → ℕ
+ring_times SignFault = 1
+ring_times end = 0
 
 -- the platform that a message is for
 abbrev pub receiver_of : Message → PlatformCode

@@ -1,7 +1,7 @@
 -- The shards of all platforms in one list, sixteen for each platform in the roster's order.
-use Rattle.std.specs.Prelude.{◌≡◌, ℕ, ◌+◌, ◌*◌, suc, List, [], ◌∷◌, ◌++◌, None, Some, drop, map, replicate, slice_get, take, if◌then◌else◌}
+use Rattle.std.specs.Prelude.{◌≡◌, ℕ, ◌+◌, ◌*◌, suc, Bool, true, All, List, [], ◌∷◌, ◌++◌, Option, None, Some, drop, length, map, nat_eq, replicate, slice_get, take, if◌then◌else◌}
 use Rattle.std.specs.Option.{option_map_or}
-use Rattle.ebl_base.specs.Faults.{Rose}
+use Rattle.ebl_base.specs.Faults.{RoseBy}
 use Rattle.ebl_base.specs.PlatformCode.{code_eq}
 use Rattle.ebl_base.specs.declared.platform_code.PlatformCode.{PlatformCode}
 use Rattle.ebl_base.specs.declared.moment.Moment.{Moment}
@@ -10,10 +10,12 @@ use Rattle.platform_requests.specs.Request.{RequestRecord}
 use Rattle.platform_requests.specs.declared.outcome.Outcome.{Outcome}
 use Rattle.bill_diary.specs.declared.frame.Frame.{Frame}
 use Rattle.bill_lines.specs.declared.diaries.PlatformDiary.{PlatformDiary}
-use Rattle.platform_machine.specs.declared.step.Step.{Step}
-use Rattle.platform_machine.specs.Machine.{Steps}
-use Rattle.platform_machine.specs.Step.{with_frame}
 use Rattle.platform_world.specs.Machine.{MachineRecord, shard_state}
+use Rattle.platform_world.specs.declared.fate.Fate.{Fate}
+use Rattle.platform_world.specs.declared.fate.FateEnd.{FateEnd}
+use Rattle.platform_world.specs.Shard.{TakesAs}
+use Rattle.platform_world.specs.Happening.{starts_again}
+use Rattle.platform_world.specs.Step.{ShardPlace, disk_failed_at}
 use Rattle.platform_world.specs.World.{PlatformState, ShardState, shard_at, with_shard}
 
 -- the place of a platform; their number, if it isn't among them
@@ -42,28 +44,44 @@ pub record AreShardsOf (roster : RosterRecord) (machines : List MachineRecord) :
   pub of : map (λ m. m.me) machines ≡ codes_of roster.platforms
   pub by : map (λ m. m.roster) machines ≡ map (λ p. roster) (codes_of roster.platforms)
 
--- the shards of all platforms
-pub record PlatformsRecord (M : Type 0) : Type 0 where
+-- the shards of all platforms, and the racks that none of them needed
+pub record PlatformsRecord (M R : Type 0) : Type 0 where
   pub roster : RosterRecord
   pub shards : List M
+  pub spare : List R
 
 -- how they are, by what is seen of each
-abbrev pub states_of : {M : Type 0} → (M → MachineRecord) → PlatformsRecord M → List PlatformState
+abbrev pub states_of : {M R : Type 0} → (M → MachineRecord) → PlatformsRecord M R → List PlatformState
 states_of seen s = grouped s.roster.platforms (map (λ m. shard_state (seen m)) s.shards)
+
+-- the disk of each tells its content
+abbrev pub AllTell : {M : Type 0} → (M → Bool) → List M → Type 0
+AllTell tells shards = All (λ m. tells m ≡ true) shards
+
+-- each gives back a rack that holds its diary, with its loose frame or without
+abbrev pub AllHold : {M R : Type 0} → (R → MachineRecord → Type 0) → (M → R) → (M → MachineRecord) → List M → Type 0
+AllHold holds rack seen shards = All (λ m. holds (rack m) (seen m)) shards
 
 -- ---- faults
 
--- the count of faults of the shard at this place rose
-pub record RoseAt {M : Type 0} (faults : M → ℕ) (place : ℕ) (before after : List M) : Type 0 where
-  pub old : M
-  pub new : M
-  pub was : slice_get before place ≡ Some old
-  pub is : slice_get after place ≡ Some new
-  pub rose : Rose (faults old) (faults new)
+-- so often at this index among all shards, and never at any other
+abbrev pub times_if : ℕ → ℕ → ℕ → ℕ
+times_if times index k = if nat_eq index k then times else 0
 
--- that of some shard did
-abbrev pub SomeRose : {M : Type 0} → (M → ℕ) → List M → List M → Type 0
-SomeRose faults before after = (place : ℕ) × RoseAt faults place before after
+-- how often something failed at each index, where it failed at this place, if it did
+abbrev pub times_at : List PlatformCode → Option ShardPlace → ℕ → ℕ
+times_at ps None k = 0
+times_at ps (Some at) k = times_if 1 (index_of at.platform at.number ps) k
+
+-- how often a disk failed where a platform started again, and it ended so
+abbrev pub failures_at : List PlatformCode → PlatformCode → FateEnd → ℕ → ℕ
+failures_at ps p end k = times_at ps (disk_failed_at (starts_again p) end) k
+
+-- the count of each shard rose as often as that at least; none fell
+pub record EachRose {M : Type 0} (faults : M → ℕ) (times : ℕ → ℕ) (before after : List M) : Type 0 where
+  pub length_is : length after ≡ length before
+  pub each : (k : ℕ) (old new : M) → slice_get before k ≡ Some old → slice_get after k ≡ Some new
+      → RoseBy (faults old) (times k) (faults new)
 
 -- ---- diaries
 
@@ -84,14 +102,11 @@ given_diary d = record { platform = d.platform; diary = d.diary.now }
 
 -- ---- requests
 
--- a platform's shard takes a request, and its frame is in the diary
+-- a platform's shard takes a request
 pub record TakesAt (roster : RosterRecord) (before : List PlatformState) (p : PlatformCode) (i : ℕ) (now : Moment)
-    (request : RequestRecord) (out : Outcome) (after : List PlatformState) : Type 0 where
+    (request : RequestRecord) (fate : Fate) (out : Outcome) (after : List PlatformState) : Type 0 where
   pub shard : ShardState
   pub is_asked : shard_at p i before ≡ Some shard
-  pub not_loose : shard.loose ≡ None
-  pub step : Step
-  pub steps : Steps roster shard.keys p shard.diary now request step
-  pub reply_is : out.reply ≡ step.reply
-  pub messages_are : out.messages ≡ step.messages
-  pub after_is : after ≡ with_shard p i (record shard { diary = with_frame shard.diary step.frame }) before
+  pub later : ShardState
+  pub takes : TakesAs roster p i shard now request fate out later
+  pub after_is : after ≡ with_shard p i later before

@@ -1,6 +1,6 @@
 -- A run of a script: what happened, what it writes, and how it ends. It may stop before every line, where memory or the
 -- sink fails.
-use Rattle.std.specs.Prelude.{◌≡◌, ◌⊎◌, ℕ, ◌+◌, ◌-◌, List, [], ◌∷◌, ◌++◌, Option, Some, None, MatchBool, length, nat_le, if◌then◌else◌}
+use Rattle.std.specs.Prelude.{◌≡◌, ◌≢◌, ◌⊎◌, ℕ, ◌+◌, ◌-◌, List, [], ◌∷◌, ◌++◌, Option, Some, None, MatchBool, length, nat_le, if◌then◌else◌}
 use Rattle.std.specs.List.{range_with_len}
 use Rattle.ebl_base.specs.Checksum.{checksum_eq}
 use Rattle.ebl_base.specs.Parts.{parts_of}
@@ -15,8 +15,11 @@ use Rattle.answer_lines.specs.declared.answer.Answer.TheVariants.{Replied}
 use Rattle.answer_lines.specs.Lines.{answer_line}
 use Rattle.bill_lines.specs.Lines.{bill_line}
 use Rattle.platform_world.specs.declared.fate.Fate.{Fate}
-use Rattle.platform_world.specs.World.{WorldRecord, opening, family_of, platforms_of, settled_for}
-use Rattle.platform_world.specs.Step.{IsStep}
+use Rattle.platform_world.specs.declared.fate.FateEnd.TheVariants.{Short}
+use Rattle.platform_world.specs.World.{PlatformState, WorldRecord, opening, family_of, platforms_of, settled_for}
+use Rattle.platform_world.specs.Happening.{comes_to}
+use Rattle.platform_world.specs.Platforms.{times_at}
+use Rattle.platform_world.specs.Step.{IsCutShort, IsStep, disk_failed_at, ring_failed_at}
 use Rattle.platform_world.specs.Script.{roster_in, event_in}
 
 -- ---- lines
@@ -72,57 +75,75 @@ pub data RunEnd : Type 0 where
   -- before a line
   stopped : RunEnd
 
--- what happened in a run, the lines that answer it, the bill lines, and how it ends
+-- what happened in a run, the lines that answer it, the bill lines, how it ends, and how it leaves the platforms
 pub record Run : Type 0 where
   pub happened : List Happened
   pub answers : List (List ℕ)
   pub bills : List ℕ
   pub end : RunEnd
+  pub left : List PlatformState
 
 -- no event more, and these bill lines
-abbrev pub Ends : RunEnd → List ℕ → List Fate → Run → Type 0
-Ends end bills fates run =
-    (fates ≡ []) × (run ≡ record { happened = []; answers = []; bills = bills; end = end })
+abbrev pub Ends : RunEnd → List ℕ → WorldRecord → List Fate → Run → Type 0
+Ends end bills w fates run =
+    (fates ≡ []) × (run ≡ record { happened = []; answers = []; bills = bills; end = end; left = w.platforms })
+
+-- memory runs out in an event: it isn't answered, and may have a fate all the same
+abbrev pub IsCutIn : WorldRecord → EventRecord → List Fate → Run → Type 0
+IsCutIn w event fates run =
+    (left : List PlatformState) × IsCutShort w (comes_to w.signed w.sent event) fates left
+    × (run ≡ record { happened = []; answers = []; bills = []; end = stopped; left = left })
 
 -- a run with an event and its line in front
 abbrev pub after_event : Happened → List ℕ → Run → Run
 after_event h line run = record run { happened = h ∷ run.happened; answers = line ∷ run.answers }
 
--- an event is answered by a line, and the rest of the run goes on from the world after it; no event is a bad line
-abbrev pub OnEvent : Option EventRecord → WorldRecord → ℕ → List Fate → Run → (WorldRecord → List Fate → Run → Type 0)
+-- an event is answered by a line, and the rest of the run goes on from the world after it
+abbrev pub IsAnsweredIn : WorldRecord → EventRecord → ℕ → List Fate → Run → (WorldRecord → List Fate → Run → Type 0)
     → Type 0
-OnEvent None w n fates run Rest = Ends (bad_line (n + 1)) [] fates run
-OnEvent (Some event) w n [] run Rest = ⊥
-OnEvent (Some event) w n (fate ∷ fates) run Rest =
+IsAnsweredIn w event n [] run Rest = ⊥
+IsAnsweredIn w event n (fate ∷ fates) run Rest =
     (answer : Answer) × (after : WorldRecord) × (rest : Run)
-    × IsStep w event fate answer after
+    × IsStep w event fate answer after × (fate.end ≢ Short)
     × (run ≡ after_event
     (record { before = w; event = event; fate = fate; answer = answer; after = after })
     (line_after n w answer after) rest)
     × Rest after fates rest
 
+-- an event is answered, or memory runs out in it; no event is a bad line
+abbrev pub OnEvent : Option EventRecord → WorldRecord → ℕ → List Fate → Run → (WorldRecord → List Fate → Run → Type 0)
+    → Type 0
+OnEvent None w n fates run Rest = Ends (bad_line (n + 1)) [] w fates run
+OnEvent (Some event) w n fates run Rest = IsCutIn w event fates run ⊎ IsAnsweredIn w event n fates run Rest
+
 -- a script has at most 100,000 lines, so at most 99,999 events
 abbrev pub OnNumbered : RosterRecord → List ℕ → WorldRecord → ℕ → List Fate → Run
     → (WorldRecord → List Fate → Run → Type 0) → Type 0
 OnNumbered roster line w n fates run Rest = MatchBool (nat_le 100000 n)
-    (Ends (bad_line (n + 1)) [] fates run)
+    (Ends (bad_line (n + 1)) [] w fates run)
     (OnEvent (event_in roster line) w n fates run Rest)
 
 -- the events of these lines, from the world before the event n on
 abbrev pub Runs : RosterRecord → List (List ℕ) → WorldRecord → ℕ → List Fate → Run → Type 0
-Runs roster [] w n fates run = Ends stopped [] fates run ⊎ Ends complete (bill_lines w) fates run
+Runs roster [] w n fates run = Ends stopped [] w fates run ⊎ Ends complete (bill_lines w) w fates run
 Runs roster (line ∷ lines) w n fates run =
-    Ends stopped [] fates run
+    Ends stopped [] w fates run
     ⊎ OnNumbered roster line w n fates run (λ after fs rest. Runs roster lines after (n + 1) fs rest)
+
+-- nothing happened, and there are no platforms
+abbrev pub EndsAtOnce : RunEnd → List Fate → Run → Type 0
+EndsAtOnce end fates run =
+    (fates ≡ []) × (run ≡ record { happened = []; answers = []; bills = []; end = end; left = [] })
 
 -- the first line gives the roster
 abbrev pub OnRoster : Option RosterRecord → List Keys → List (List ℕ) → List Fate → Run → Type 0
-OnRoster None rings lines fates run = Ends (bad_line 1) [] fates run
+OnRoster None rings lines fates run = EndsAtOnce (bad_line 1) fates run
 OnRoster (Some roster) rings lines fates run = Runs roster lines (opening roster rings) 1 fates run
 
 abbrev pub RunsLines : List (List ℕ) → List Keys → List Fate → Run → Type 0
-RunsLines [] rings fates run = Ends stopped [] fates run ⊎ Ends (bad_line 1) [] fates run
-RunsLines (line ∷ lines) rings fates run = Ends stopped [] fates run ⊎ OnRoster (roster_in line) rings lines fates run
+RunsLines [] rings fates run = EndsAtOnce stopped fates run ⊎ EndsAtOnce (bad_line 1) fates run
+RunsLines (line ∷ lines) rings fates run =
+    EndsAtOnce stopped fates run ⊎ OnRoster (roster_in line) rings lines fates run
 
 -- a run of this script with these rings, sixteen for each platform in the roster's order, whose events have these fates
 abbrev pub RunsScript : List ℕ → List Keys → List Fate → Run → Type 0
@@ -131,3 +152,21 @@ RunsScript script rings fates run = RunsLines (parts_of 10 script) rings fates r
 -- a run of this script, whatever the fates of its events
 abbrev pub IsRunOf : List ℕ → List Keys → Run → Type 0
 IsRunOf script rings run = (fates : List Fate) × RunsScript script rings fates run
+
+-- ---- faults
+
+-- how many of these events were answered DISK for the disk at this index, among all shards in the roster's order
+abbrev pub disk_answers : ℕ → List Happened → ℕ
+disk_answers k [] = 0
+disk_answers k (h ∷ hs) =
+    times_at h.before.roster.platforms
+    (disk_failed_at (comes_to h.before.signed h.before.sent h.event) h.fate.end) k
+    + disk_answers k hs
+
+-- how many were answered SIGN for the ring there
+abbrev pub sign_answers : ℕ → List Happened → ℕ
+sign_answers k [] = 0
+sign_answers k (h ∷ hs) =
+    times_at h.before.roster.platforms
+    (ring_failed_at (comes_to h.before.signed h.before.sent h.event) h.fate.end) k
+    + sign_answers k hs

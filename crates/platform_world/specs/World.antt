@@ -1,5 +1,6 @@
 -- The world of a script: the diaries of all platforms, what was sent, and the bills that the script signed.
 use Rattle.std.specs.Prelude.{Bool, true, not, ℕ, List, [], ◌∷◌, Option, None, drop, filter, find, is_some, map, option_and_then, slice_get, slice_set, take, if◌then◌else◌}
+use Rattle.std.specs.List.{flat_map}
 use Rattle.std.specs.Option.{option_map_or}
 use Rattle.ebl_base.specs.PlatformCode.{code_eq}
 use Rattle.ebl_base.specs.declared.checksum.Checksum.{Checksum}
@@ -11,11 +12,16 @@ use Rattle.bill_diary.specs.declared.frame.Frame.{Frame}
 use Rattle.closed_family.specs.declared.family.Member.{Member}
 use Rattle.answer_lines.specs.declared.parcel.Parcel.{Parcel}
 
--- a shard: what its ring takes as signed, its diary, and its loose mark, with the frame that is loose, if one is
+-- a shard: what its ring takes as signed, its diary, and its loose mark, with the frame that is loose, if one is. A
+-- loose shard is read again before anything rests on it
 pub record ShardState : Type 0 where
   pub keys : Keys
   pub diary : List Frame
   pub loose : Option (Option Frame)
+
+-- the frame that is loose, if one is
+abbrev pub loose_frame : ShardState → Option Frame
+loose_frame shard = option_and_then (λ frame. frame) shard.loose
 
 -- a platform with its sixteen shards, in their order
 pub record PlatformState : Type 0 where
@@ -62,6 +68,10 @@ with_shard p i shard (state ∷ states) =
     if code_eq state.platform p then record state { shards = slice_set state.shards i shard } ∷ states
     else state ∷ with_shard p i shard states
 
+-- the shards of all platforms in one list, in their order
+abbrev pub shards_in : List PlatformState → List ShardState
+shards_in states = flat_map (λ state. state.shards) states
+
 -- ---- families and bills
 
 -- the diaries of a platform
@@ -76,11 +86,11 @@ family_of w = map member_of w.platforms
 abbrev pub platforms_of : WorldRecord → List PlatformCode
 platforms_of w = map (λ state. state.platform) w.platforms
 
--- the bill's shard on a platform has no loose frame
+-- the bill's shard on a platform isn't loose
 abbrev pub is_settled : Checksum → PlatformState → Bool
 is_settled bill state =
     option_map_or (λ shard. not (is_some shard.loose)) (slice_get state.shards (shard_of_bill bill)) true
 
--- the platforms whose shard of the bill has no loose frame
+-- the platforms whose shard of the bill isn't loose
 abbrev pub settled_for : Checksum → WorldRecord → List PlatformCode
 settled_for bill w = map (λ state. state.platform) (filter (is_settled bill) w.platforms)

@@ -37,6 +37,8 @@ pub enum Happening {
     Answered(Answer),
     /// A platform is asked.
     Asked(Asking),
+    /// A platform starts again.
+    StartsAgain(PlatformCode),
 }
 
 /// What an event comes to, by the bills that were signed and the parcels that were sent before it. A delivery and a
@@ -57,7 +59,7 @@ pub fn comes_to(
             deed,
         } => Ok(at_command(signed, at, party, now, deed)),
         Event::Deliver { number, at } => at_delivery(alloc, at, numbered(sent, number)),
-        Event::Restart { .. } => Ok(Happening::Answered(Answer::Opened)),
+        Event::Restart { at } => Ok(Happening::StartsAgain(at)),
         Event::Resend { at, bill } => Ok(match bill_named(signed, bill) {
             Some(bill) => asked(at, None, Request::Resend { bill }),
             None => no_bill(),

@@ -1,5 +1,5 @@
 //! What holds of every world. The functions do nothing: their contracts are the laws.
-ghost use Rattle.std.specs.Prelude.{◌≡◌, ◌<◌, ℕ, List, length, slice_get, slice_set};
+ghost use Rattle.std.specs.Prelude.{◌≡◌, ◌<◌, ◌*◌, ℕ, List, length, slice_get, slice_set};
 ghost use Rattle.ebl_base.specs.declared.platform_code.PlatformCode.{PlatformCode};
 ghost use Rattle.platform_requests.specs.declared.message.Message.{Message};
 ghost use Rattle.platform_requests.specs.declared.reply.Reply.{Reply};
@@ -7,7 +7,7 @@ ghost use Rattle.platform_world.specs.declared.parcels.ReplyPath.{ReplyPath};
 ghost use Rattle.platform_world.specs.Happening.{Asking};
 ghost use Rattle.platform_world.specs.Platforms.{grouped, index_of, place_of};
 ghost use Rattle.platform_world.specs.Step.{IsPathOf, parcels_of, sends};
-ghost use Rattle.platform_world.specs.World.{ShardState, shard_at, with_shard};
+ghost use Rattle.platform_world.specs.World.{ShardState, shard_at, shards_in, with_shard};
 
 /// What is sent along the way of a request's reply is what the request sends.
 pub fn parcels_go_the_way_of_their_request()
@@ -24,4 +24,10 @@ pub fn shards_are_at_their_places()
     ensures replaced { (p : PlatformCode) (i : ℕ) (shard : ShardState) (ps : List PlatformCode)
         (shards : List ShardState) → i < 16 → place_of p ps < length ps
         → with_shard p i shard (grouped ps shards) ≡ grouped ps (slice_set shards (index_of p i ps) shard) }
+{}
+
+/// The shards of all platforms in one list, grouped by sixteen, are these shards again.
+pub fn grouped_shards_are_the_same()
+    ensures { (ps : List PlatformCode) (shards : List ShardState) → length shards ≡ 16 * length ps
+        → shards_in (grouped ps shards) ≡ shards }
 {}

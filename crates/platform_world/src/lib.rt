@@ -3,6 +3,7 @@
 
 mod fate;
 mod happening;
+mod journaled;
 mod laws;
 mod machine;
 mod numbers;
@@ -11,16 +12,19 @@ mod parcels;
 mod platforms;
 mod saying;
 mod script;
-mod shard;
 mod signed_bills;
+mod taking;
 mod world;
 
 pub use fate::{Fate, FateEnd, FateList, ShardList};
 pub use happening::{Asking, Happening, Sender, comes_to};
-pub use laws::{parcels_go_the_way_of_their_request, shards_are_at_their_places};
-pub use machine::Machine;
-pub use opening::open_world;
+pub use laws::{
+    grouped_shards_are_the_same, parcels_go_the_way_of_their_request, shards_are_at_their_places,
+};
+pub use machine::{Machine, Unread};
+pub use opening::WorldFault;
 pub use parcels::{ReplyKind, ReplyPath, parcels_of};
 pub use platforms::Platforms;
 pub use script::{event_in, roster_in};
+pub use taking::Taken;
 pub use world::World;

@@ -1,23 +1,26 @@
-//! The world of a script: its platforms' shards, what was sent, and the bills that the script signed.
+//! The world of a script: its platforms' shards, what was sent, the bills that the script signed, and the fates of its
+//! events.
 //!
-//! (1) Each diary has at most as many frames as events were taken, what was sent is between platforms of the roster,
-//!     and the bills that were signed are well-formed. So whatever a line asks may be asked.
-ghost use Rattle.std.specs.Prelude.{◌≡◌, ◌⊎◌, ◌≤◌, ◌+◌, ◌<◌, [], true, IfOk, OnErr, OnOk, length, map};
+//! (1) Each shard has at most as many frames as there are fates, its loose frame included; what was sent is between
+//!     platforms of the roster, and the bills that were signed are well-formed. So whatever a line asks may be asked.
+ghost use Rattle.std.specs.Prelude.{◌≡◌, ◌≤◌, ◌+◌, ◌++◌, ◌<◌, [], true, IfOk, OnErr, OnOk, length, map, reverse};
 ghost use Rattle.world_script.specs.Event.{event_view};
 ghost use Rattle.world_script.specs.Form.{IsEvent};
+ghost use Rattle.party_roster.specs.RosterRecord.{has_platform};
 ghost use Rattle.platform_requests.specs.Request.{request_view};
 ghost use Rattle.answer_lines.specs.Lines.{IsWritable};
 ghost use Rattle.answer_lines.specs.declared.answer.Answer.TheVariants.{Replied};
-ghost use Rattle.platform_world.specs.Happening.{asking_view, asks, comes_to};
+ghost use Rattle.platform_world.specs.Happening.{asking_view, asks, comes_to, starts_again};
 ghost use Rattle.platform_world.specs.Run.{bill_line_in, bill_lines, bill_lines_from};
 ghost use Rattle.platform_world.specs.Machine.{AreForListed};
-ghost use Rattle.platform_world.specs.Platforms.{SomeRose};
+ghost use Rattle.platform_world.specs.Platforms.{AllHold};
 ghost use Rattle.platform_world.specs.Script.{IsNested, names_listed};
 ghost use Rattle.platform_world.specs.Standing.{standing_in};
-ghost use Rattle.platform_world.specs.State.{AreFresh, HasHappened, HasHappenedWhole, IsAnswered, IsAnsweredWhole, IsCutShort, IsFollowed, IsPathBetweenListed, IsStepped, IsSteppedWhole, MayAsk, bill_by, is_sign, world_of};
-ghost use Rattle.platform_world.specs.Step.{IsAt};
+ghost use Rattle.platform_world.specs.State.{AreFresh, HasHappened, IsAnswered, IsCut, IsFollowed, IsPathBetweenListed, IsStepped, MayAsk, bill_by, is_sign, world_of};
+ghost use Rattle.platform_world.specs.Step.{IsAt, start_answer};
 ghost use Rattle.platform_world.specs.World.{opening};
 
+use crate::fate::{Fate, FateEnd, FateList};
 use crate::happening::{Asking, Happening, comes_to};
 use crate::machine::Machine;
 use crate::parcels::{ReplyPath, parcels_of};
@@ -26,10 +29,10 @@ use crate::saying::{line_of, send, sign};
 use crate::signed_bills::SignedBills;
 use answer_lines::{Answer, Parcel};
 use bill_lines::{Standing, bill_line, bill_standing};
-use ebl_base::{ByteList, Checksum, Moment, NoMemory};
+use ebl_base::{ByteList, Checksum, Items, Moment, NoMemory, PlatformCode};
 use holder_commands::Command;
 use party_roster::Roster;
-use platform_requests::{Outcome, Reply, Request, shard_of};
+use platform_requests::{Outcome, Reply, Request, SHARDS, shard_of};
 use std::alloc::Global;
 use std::marker::Model;
 use world_script::Event;
@@ -40,27 +43,28 @@ pub struct World<M: Machine> {
     platforms: Platforms<M>,
     sent: Vec<Parcel>,
     signed: SignedBills,
-    events: u64,
+    fates: Vec<Fate>,
 }
 
 impl<M: Machine> Model for World<M> {
+    ghost use Rattle.std.specs.Prelude.{length};
     ghost use Rattle.platform_world.specs.State.{IsReached, WorldState, world_of};
 
-    ghost Value = { WorldState M };
+    ghost Value = { WorldState M M.Rack };
 
     ghost view = { λ s. record {
       platforms = s.platforms;
       sent = s.sent.items;
       signed = s.signed;
-      events = s.events;
+      fates = s.fates.items;
     } };
 
     ghost invariant = { λ s. IsReached (world_of M.seen (record {
       platforms = s.platforms;
       sent = s.sent.items;
       signed = s.signed;
-      events = s.events;
-    })) s.events };
+      fates = s.fates.items;
+    })) (length s.fates.items) };
 }
 
 impl<M: Machine> World<M> {
@@ -70,7 +74,7 @@ impl<M: Machine> World<M> {
         ensures platforms { result.platforms ≡ platforms }
         ensures sent { result.sent ≡ [] }
         ensures signed { result.signed ≡ [] }
-        ensures events { result.events ≡ 0 }
+        ensures fates { result.fates ≡ [] }
         ensures opening { world_of M.seen result
             ≡ opening platforms.roster (map (λ m. (M.seen m).keys) platforms.shards) }
     {
@@ -78,8 +82,18 @@ impl<M: Machine> World<M> {
             platforms,
             sent: Vec::new(alloc),
             signed: SignedBills::new(alloc),
-            events: 0,
+            fates: Vec::new(alloc),
         }
+    }
+
+    /// Gives back all racks in their order, and the fates of all events. Each disk reads as the journal of its shard's
+    /// diary, with its loose frame or without, and so does whatever a crash leaves. It allocates nothing.
+    pub fn close(self) -> (Vec<M::Rack>, FateList)
+        ensures racks { result.0.items ≡ map M.rack self.platforms.shards ++ reverse self.platforms.spare }
+        ensures hold { AllHold M.holds M.rack M.seen self.platforms.shards }
+        ensures fates { result.1 ≡ self.fates }
+    {
+        (self.platforms.close(), FateList::from_vec(self.fates))
     }
 
     /// The roster.
@@ -115,8 +129,8 @@ impl<M: Machine> World<M> {
         ensures { IfOk result (λ line. line ≡ bill_line_in (world_of M.seen self.now) number bill) }
     {
         let diaries = self.platforms.diaries_of(alloc, bill)?;
-        let platforms = self.platforms.roster().platforms();
-        bill_line(alloc, number, bill, diaries.as_slice(), platforms)
+        let settled = self.platforms.settled_for(alloc, bill)?;
+        bill_line(alloc, number, bill, diaries.as_slice(), settled.as_slice())
     }
 
     /// How many messages were sent.
@@ -142,31 +156,34 @@ impl<M: Machine> World<M> {
         bill_standing(alloc, bill, diaries.as_slice())
     }
 
-    /// Takes an event of a line (`event_in`), and answers it by its line. Unless the ring of some shard failed to sign,
-    /// the event is taken whole: `SIGN` is answered for no other reason.
+    /// How many events have a fate.
+    pub fn event_count(&self) -> usize
+        ensures { result ≡ length self.now.fates }
+    {
+        self.fates.len()
+    }
+
+    /// Takes an event of a line (`event_in`), and answers it by its line. The world keeps its fate.
     ///
-    /// Out of memory, the platforms are those before the event, or those after the whole of it; what it sends and signs
-    /// may be missing then.
+    /// `DISK` and `SIGN` come only where a disk and a ring failed: its count of faults rose. Out of memory, the event
+    /// has a fate or none, and the platforms are those before it, or those after the whole of it by that fate; what it
+    /// sends and signs may be missing then.
     pub fn step(&mut self, alloc: Global, event: Event) -> Result<ByteList, NoMemory>
         requires form { IsEvent (event_view event) }
         requires nests { IsNested (event_view event) }
         requires listed { names_listed self.old.platforms.roster (event_view event) ≡ true }
-        requires few { self.old.events < 4294967295 }
-        ensures ok { IfOk result (λ line. IsAnswered (world_of M.seen self.old) (self.old.events + 1)
-            (event_view event) line (world_of M.seen self.new)) }
-        ensures whole { IfOk result (λ line. SomeRose M.faults self.old.platforms.shards self.new.platforms.shards
-            ⊎ IsAnsweredWhole (world_of M.seen self.old) (self.old.events + 1) (event_view event) line
-            (world_of M.seen self.new)) }
-        ensures short { OnErr result (IsCutShort (world_of M.seen self.old)
-            (comes_to self.old.signed self.old.sent (event_view event)) (world_of M.seen self.new)) }
-        ensures events { OnOk result (self.new.events ≡ self.old.events + 1) }
+        requires few { length self.old.fates < 4294967295 }
+        ensures ok { IfOk result (λ line. IsAnswered M.seen M.faults self.old (event_view event) line self.new) }
+        ensures short { OnErr result (IsCut M.seen M.faults self.old
+            (comes_to self.old.signed self.old.sent (event_view event)) self.new) }
         ensures roster { self.new.platforms.roster ≡ self.old.platforms.roster }
+        ensures spare { self.new.platforms.spare ≡ self.old.platforms.spare }
     {
         let before = self.sent.len();
         let answer = self.take(alloc, event)?;
         line_of(
             alloc,
-            self.events,
+            self.fates.len() as u64,
             before,
             self.sent.len(),
             &self.signed,
@@ -179,53 +196,67 @@ impl<M: Machine> World<M> {
         requires form { IsEvent (event_view event) }
         requires nests { IsNested (event_view event) }
         requires listed { names_listed self.old.platforms.roster (event_view event) ≡ true }
-        requires few { self.old.events < 4294967295 }
-        ensures ok { IfOk result (λ answer. IsStepped (world_of M.seen self.old) (event_view event) answer
-            (world_of M.seen self.new)) }
-        ensures whole { IfOk result (λ answer. SomeRose M.faults self.old.platforms.shards self.new.platforms.shards
-            ⊎ IsSteppedWhole (world_of M.seen self.old) (event_view event) answer (world_of M.seen self.new)) }
-        ensures short { OnErr result (IsCutShort (world_of M.seen self.old)
-            (comes_to self.old.signed self.old.sent (event_view event)) (world_of M.seen self.new)) }
+        requires few { length self.old.fates < 4294967295 }
+        ensures ok { IfOk result (λ answer. IsStepped M.seen M.faults self.old (event_view event) answer self.new) }
+        ensures short { OnErr result (IsCut M.seen M.faults self.old
+            (comes_to self.old.signed self.old.sent (event_view event)) self.new) }
         ensures writable { IfOk result IsWritable }
         ensures grown { IfOk result (λ _. length self.old.sent ≤ length self.new.sent) }
-        ensures events { OnOk result (self.new.events ≡ self.old.events + 1) }
         ensures roster { self.new.platforms.roster ≡ self.old.platforms.roster }
+        ensures spare { self.new.platforms.spare ≡ self.old.platforms.spare }
     {
+        self.fates.reserve(1)?;
         match comes_to(alloc, self.signed.as_slice(), self.sent.as_slice(), event)? {
             Happening::Answered(answer) => {
-                self.events += 1;
+                self.fates.push_reserved(whole(alloc));
                 Ok(answer)
             }
             Happening::Asked(asking) => self.ask(alloc, asking),
+            Happening::StartsAgain(at) => self.start_again(alloc, at),
         }
     }
 
     // A platform's shard is asked, and what comes of it is added.
     fn ask(&mut self, alloc: Global, asking: Asking) -> Result<Answer, NoMemory>
         requires may { MayAsk (world_of M.seen self.old) (asking_view asking) }
-        requires few { self.old.events < 4294967295 }
-        ensures ok { IfOk result (λ answer. HasHappened (world_of M.seen self.old) (asks (asking_view asking)) answer
-            (world_of M.seen self.new)) }
-        ensures whole { IfOk result (λ answer. SomeRose M.faults self.old.platforms.shards self.new.platforms.shards
-            ⊎ HasHappenedWhole (world_of M.seen self.old) (asks (asking_view asking)) answer
-            (world_of M.seen self.new)) }
-        ensures short { OnErr result (IsCutShort (world_of M.seen self.old) (asks (asking_view asking))
-            (world_of M.seen self.new)) }
+        requires few { length self.old.fates < 4294967295 }
+        ensures ok { IfOk result (λ answer. HasHappened M.seen M.faults self.old (asks (asking_view asking)) answer
+            self.new) }
+        ensures short { OnErr result (IsCut M.seen M.faults self.old (asks (asking_view asking)) self.new) }
         ensures writable { IfOk result IsWritable }
         ensures grown { IfOk result (λ _. length self.old.sent ≤ length self.new.sent) }
-        ensures events { OnOk result (self.new.events ≡ self.old.events + 1) }
         ensures roster { self.new.platforms.roster ≡ self.old.platforms.roster }
+        ensures spare { self.new.platforms.spare ≡ self.old.platforms.spare }
     {
+        self.fates.reserve(1)?;
+        let room = Vec::with_capacity(alloc, 1)?;
         let path = ReplyPath::of(alloc, &asking)?;
         let signing = is_sign(&asking.request);
         let shard = shard_of(alloc, &asking.request)?;
         let now = moment_or_first(asking.now);
-        // Counted before it is asked: no diary has more frames than events were counted, even where memory runs out.
-        self.events += 1;
-        let out = self
+        let taken = self
             .platforms
-            .take(alloc, asking.at, shard, now, asking.request);
-        self.follow(alloc, path, signing, out)
+            .take(alloc, asking.at, shard, now, asking.request, room);
+        self.fates.push_reserved(taken.fate);
+        self.follow(alloc, path, signing, taken.outcome)
+    }
+
+    // A platform starts again.
+    fn start_again(&mut self, alloc: Global, at: PlatformCode) -> Result<Answer, NoMemory>
+        requires listed { has_platform self.old.platforms.roster at ≡ true }
+        ensures ok { IfOk result (λ answer. HasHappened M.seen M.faults self.old (starts_again at) answer self.new) }
+        ensures short { OnErr result (IsCut M.seen M.faults self.old (starts_again at) self.new) }
+        ensures writable { IfOk result IsWritable }
+        ensures grown { IfOk result (λ _. self.new.sent ≡ self.old.sent) }
+        ensures roster { self.new.platforms.roster ≡ self.old.platforms.roster }
+        ensures spare { self.new.platforms.spare ≡ self.old.platforms.spare }
+    {
+        self.fates.reserve(1)?;
+        let room = Vec::with_capacity(alloc, SHARDS as usize)?;
+        let fate = self.platforms.start_again(alloc, at, room);
+        let end = fate.end;
+        self.fates.push_reserved(fate);
+        start_answer(end)
     }
 
     // What an outcome sends and signs is added. Out of memory, what was sent may have grown; nothing else changes.
@@ -240,7 +271,7 @@ impl<M: Machine> World<M> {
         requires listed { AreForListed self.old.platforms.roster out.messages }
         ensures answer { IfOk result (λ answer. answer ≡ Replied out.reply) }
         ensures ok { OnOk result (IsFollowed self.old path signing out self.new) }
-        ensures events { self.new.events ≡ self.old.events }
+        ensures fates { self.new.fates ≡ self.old.fates }
         ensures platforms { self.new.platforms ≡ self.old.platforms }
     {
         let Outcome { reply, messages } = out;
@@ -254,6 +285,31 @@ impl<M: Machine> World<M> {
                 Ok(Answer::Replied(reply))
             }
         }
+    }
+}
+
+// The fate of what is answered at once.
+fn whole(alloc: Global) -> Fate
+    ensures end { result.end ≡ FateEnd.Whole }
+    ensures kept { result.kept ≡ [] }
+{
+    Fate {
+        end: FateEnd::Whole,
+        kept: Items::new(alloc),
+    }
+}
+
+// What is answered to a platform's start that ended so.
+fn start_answer(end: FateEnd) -> Result<Answer, NoMemory>
+    ensures answer { IfOk result (λ answer. answer ≡ start_answer end) }
+    ensures not_short { end ≡ FateEnd.Short → OnOk result ⊥ }
+    ensures short { OnErr result (end ≡ FateEnd.Short) }
+    ensures writable { IfOk result IsWritable }
+{
+    match end {
+        FateEnd::Stuck(_) => Ok(Answer::Replied(Reply::Disk)),
+        FateEnd::Short => Err(NoMemory),
+        FateEnd::Whole | FateEnd::SignFault | FateEnd::Failed => Ok(Answer::Opened),
     }
 }
 

@@ -15,7 +15,7 @@ use Rattle.platform_world.proofs.platforms.Platforms.diaries_of.Goals as goal
 pub diaries_of_shard-requires-clause-sixteen : goal.diaries_of_shard-requires-clause-sixteen
 diaries_of_shard-requires-clause-sixteen g c =
     ap length c.as_slice.ensures.value ∙ sym (length-map c.self.inside.shards.items g.M.Machine.seen)
-    ∙ count c.self.inside.roster (map g.M.Machine.seen c.self.inside.shards.items) c.self.invariant
+    ∙ count c.self.inside.roster (map g.M.Machine.seen c.self.inside.shards.items) c.self.invariant.0
     ∙ ap (λ (ps : List PlatformCode). 16 * length ps) (sym c.platforms.ensures)
 
 pub returns-clause-platforms : goal.returns-clause-platforms
@@ -27,7 +27,7 @@ returns-clause-platforms g c =
     (λ ds. map given_diary ds.items ≡ map (shard_diary i) (grouped ps states))
     (λ ds. platforms_in ds.items ≡ c.args.self.now.roster.platforms)
     (λ ds same. same_platforms i ds.items ps states same ∙ c.platforms.ensures
-    ∙ ap (λ (v : PlatformsRecord _). v.roster.platforms) c.self.view_is) c.diaries_of_shard.ensures
+    ∙ ap (λ (v : PlatformsRecord _ _). v.roster.platforms) c.self.view_is) c.diaries_of_shard.ensures
 
 pub returns-clause-histories : goal.returns-clause-histories
 returns-clause-histories g c =
@@ -44,5 +44,5 @@ returns-clause-histories g c =
     ∙ ap (λ qs. histories_of bill (map member_of (grouped qs states))) c.platforms.ensures
     ∙ ap (λ xs. histories_of bill (map member_of (grouped c.self.inside.roster.platforms
     (map (λ m. shard_state (g.M.Machine.seen m)) xs)))) c.as_slice.ensures.value
-    ∙ ap (λ (v : PlatformsRecord _). histories_of bill (map member_of (states_of g.M.Machine.seen v))) c.self.view_is)
+    ∙ ap (λ (v : PlatformsRecord _ _). histories_of bill (map member_of (states_of g.M.Machine.seen v))) c.self.view_is)
     c.diaries_of_shard.ensures

@@ -2,7 +2,6 @@ use Rattle.std.proofs.Common.{◌≡◌, ap, subst, ◌∙◌}
 use Rattle.std.specs.Prelude.{List}
 use Rattle.std.proofs.lemmas.Result.{IfOk-weaker}
 use Rattle.ebl_base.specs.declared.platform_code.PlatformCode.{PlatformCode}
-use Rattle.party_roster.specs.RosterRecord.{RosterRecord}
 use Rattle.bill_lines.specs.Diaries.{histories_in, platforms_in}
 use Rattle.bill_lines.specs.Lines.{bill_line}
 use Rattle.bill_lines.specs.declared.diaries.PlatformDiary.{PlatformDiary}
@@ -16,21 +15,22 @@ returns g c =
     let n = c.args.number in
     let bill = c.args.bill in
     let given = c.as_slice.result.now in
-    let settled = c.platforms-platforms.result.now in
+    let settled = c.as_slice-2.result.now in
     let ds = c.in_ok-diaries.diaries.items in
     IfOk-weaker c.bill_line.result
     (λ line. line ≡ bill_line n (histories_in bill given) (platforms_in given) settled)
     (λ line. line ≡ bill_line_in (world_of g.M.Machine.seen c.args.self.now) n bill)
-    (λ line is. subst (λ (w : WorldState _). line ≡ bill_line_in (world_of g.M.Machine.seen w) n bill) c.self.view_is
+    (λ line is. subst (λ (w : WorldState _ _). line ≡ bill_line_in (world_of g.M.Machine.seen w) n bill) c.self.view_is
     (line_of_world g.M.Machine.seen
     (record {
       platforms = c.self.inside.platforms;
       sent = c.self.inside.sent.items;
       signed = c.self.inside.signed;
-      events = c.self.inside.events;
-    }) n bill ds line c.in_ok-diaries.ensures.platforms c.in_ok-diaries.ensures.histories
+      fates = c.self.inside.fates.items;
+    }) n bill ds c.in_ok-settled.settled.items line c.in_ok-diaries.ensures.platforms c.in_ok-diaries.ensures.histories
+    c.in_ok-settled.ensures
     (is
     ∙ ap (λ (xs : List PlatformDiary). bill_line n (histories_in bill xs) (platforms_in xs) settled)
     c.as_slice.ensures.value
     ∙ ap (λ (qs : List PlatformCode). bill_line n (histories_in bill ds) (platforms_in ds) qs)
-    (c.platforms-platforms.ensures ∙ ap (λ (r : RosterRecord). r.platforms) c.roster.ensures)))) c.bill_line.ensures
+    c.as_slice-2.ensures.value))) c.bill_line.ensures

@@ -1,4 +1,3 @@
-use Rattle.std.proofs.Common.{refl}
 use Rattle.platform_world.proofs.Opened.{fresh_opening}
 use Rattle.platform_world.proofs.Reached.{fresh_reached}
 use Rattle.platform_world.proofs.world.World.new.Goals as goal
@@ -10,8 +9,8 @@ invariant_of-result g c =
       platforms = c.args.platforms;
       sent = c.new.result.items;
       signed = c.new-2.result;
-      events = 0;
-    }) c.requires.fresh c.new.ensures.items c.new-2.ensures refl
+      fates = c.new-3.result.items;
+    }) c.requires.fresh c.new.ensures.items c.new-2.ensures c.new-3.ensures.items
 
 pub returns-clause-opening : goal.returns-clause-opening
 returns-clause-opening g c =
@@ -20,5 +19,5 @@ returns-clause-opening g c =
       platforms = c.args.platforms;
       sent = c.new.result.items;
       signed = c.new-2.result;
-      events = 0;
+      fates = c.new-3.result.items;
     }) c.requires.fresh c.new.ensures.items c.new-2.ensures

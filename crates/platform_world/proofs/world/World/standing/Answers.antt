@@ -16,13 +16,13 @@ returns g c =
     IfOk-weaker c.bill_standing.result
     (λ s. s ≡ standing_by (histories_in bill given) (platforms_in given))
     (λ s. s ≡ standing_in (world_of g.M.Machine.seen c.args.self.now) bill)
-    (λ s is. subst (λ (w : WorldState _). s ≡ standing_in (world_of g.M.Machine.seen w) bill) c.self.view_is
+    (λ s is. subst (λ (w : WorldState _ _). s ≡ standing_in (world_of g.M.Machine.seen w) bill) c.self.view_is
     (standing_of_world g.M.Machine.seen
     (record {
       platforms = c.self.inside.platforms;
       sent = c.self.inside.sent.items;
       signed = c.self.inside.signed;
-      events = c.self.inside.events;
+      fates = c.self.inside.fates.items;
     }) bill ds s c.in_ok-diaries.ensures.platforms c.in_ok-diaries.ensures.histories
     (is
     ∙ ap (λ (xs : List PlatformDiary). standing_by (histories_in bill xs) (platforms_in xs)) c.as_slice.ensures.value)))
