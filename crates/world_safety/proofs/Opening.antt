@@ -11,8 +11,8 @@ use Rattle.bill_diary.specs.declared.frame.Frame.{Frame}
 use Rattle.closed_family.specs.declared.family.Member.{Member}
 use Rattle.run_safety.specs.Network as networks
 use Rattle.run_safety.specs.Network.{Network, opened}
-use Rattle.platform_world.specs.World.{PlatformState, ShardState, member_of, opened_platforms, opened_shard, opening, shard_at}
-use Rattle.world_safety.specs.Worlds.{loose_frame, network_of}
+use Rattle.platform_world.specs.World.{PlatformState, ShardState, loose_frame, member_of, opened_platforms, opened_shard, opening, shard_at}
+use Rattle.world_safety.specs.Worlds.{network_of}
 
 -- so many diaries without a frame
 abbrev empties : ℕ → List (List Frame)

@@ -1,29 +1,53 @@
 -- A run of a script is a run of its platforms.
-use Rattle.std.proofs.Common.{◌≡◌, inl, inr, ℕ, ◌+◌, ◌*◌, ◌≤◌, Bool, true, false, List, [], ◌∷◌, ◌++◌, length, Option, Some, None, refl, sym, ap, subst, ◌∙◌}
-use Rattle.std.specs.Prelude.{MatchBool, nat_le, option_and_then, option_map, unwrap_or}
+use Rattle.std.proofs.Common.{◌≡◌, ◌⊎◌, inl, inr, ℕ, zero, suc, ◌+◌, ◌*◌, ◌≤◌, Bool, true, false, List, [], ◌∷◌, ◌++◌, length, Option, Some, None, refl, sym, ap, subst, ◌∙◌}
+use Rattle.std.specs.Prelude.{MatchBool, map, nat_le, option_and_then, option_map, unwrap_or}
+use Rattle.std.specs.List.{flat_map}
+use Rattle.std.specs.Option.{option_or, option_to_list}
+use Rattle.std.proofs.lemmas.List.{append-nil}
 use Rattle.ebl_base.specs.PlatformCode.{code_eq}
+use Rattle.ebl_base.specs.declared.checksum.Checksum.{Checksum}
+use Rattle.ebl_base.specs.declared.moment.Moment.{Moment}
 use Rattle.ebl_base.specs.declared.platform_code.PlatformCode.{PlatformCode}
 use Rattle.signed_envelope.specs.KeyRing.{Keys}
 use Rattle.party_roster.specs.Distinct.{are_distinct}
 use Rattle.party_roster.specs.RosterRecord.{RosterRecord}
 use Rattle.bill_diary.specs.declared.frame.Frame.{Frame}
 use Rattle.platform_requests.specs.Shard.{shard_of}
-use Rattle.platform_machine.specs.Machine.{Steps}
+use Rattle.platform_requests.specs.declared.outcome.Outcome.{Outcome}
+use Rattle.platform_requests.specs.declared.reply.Reply.{Reply}
+use Rattle.platform_requests.specs.declared.reply.Reply.TheVariants as replies
+use Rattle.platform_machine.specs.declared.step.Step.{Step}
+use Rattle.platform_machine.specs.Complete.{is_failure}
+use Rattle.platform_machine.specs.Machine.{MayBeAsked, Steps}
+use Rattle.platform_machine.specs.Step.{with_frame}
+use Rattle.journaled_shard.specs.Shard.{refusal_of}
+use Rattle.closed_family.specs.Chains.{IsAmong}
 use Rattle.world_script.specs.Event.{EventRecord}
 use Rattle.answer_lines.specs.declared.answer.Answer.{Answer}
+use Rattle.answer_lines.specs.declared.parcel.Content.{Content}
+use Rattle.answer_lines.specs.declared.parcel.Parcel.{Parcel}
 use Rattle.platform_world.specs.declared.fate.Fate.{Fate}
-use Rattle.platform_world.specs.World.{ShardState, WorldRecord, opening, platforms_of, shard_at, with_shard}
-use Rattle.platform_world.specs.Happening.{Asking, Happening, answers, asks, comes_to}
-use Rattle.platform_world.specs.Step.{Happens, IsStep, Takes, world_after}
-use Rattle.platform_world.specs.Run.{Ends, Happened, OnEvent, Run, Runs, bad_line}
+use Rattle.platform_world.specs.declared.fate.FateEnd.{FateEnd}
+use Rattle.platform_world.specs.declared.fate.FateEnd.TheVariants.{Whole, SignFault, Failed, Stuck, Short}
+use Rattle.platform_world.specs.declared.parcels.ReplyKind.{ReplyKind}
+use Rattle.platform_world.specs.declared.parcels.ReplyKind.TheVariants as kinds
+use Rattle.platform_world.specs.World.{PlatformState, ShardState, WorldRecord, family_of, loose_frame, member_of, opening, platforms_of, shard_at, with_shard}
+use Rattle.platform_world.specs.Happening.{Asking, Happening, answers, asks, comes_to, starts_again}
+use Rattle.platform_world.specs.Shard.{EndsAs, IsAskedOnceRead, IsNotWritten, IsResolved, IsTakenWhole, IsUnread, TakesAs, loosened}
+use Rattle.platform_world.specs.Start.{AreLoosened, AreReadAgain, IsLoosenedAt}
+use Rattle.platform_world.specs.Step.{Happens, IsStep, bills_signed, kind_of, parcels_of, reply_bill, reply_content, reply_parcel, request_bill, world_after}
+use Rattle.platform_world.specs.Run.{Ends, Happened, IsAnsweredIn, OnEvent, Run, Runs, bad_line}
 use Rattle.platform_world.specs.Script.{event_in}
+use Rattle.run_safety.specs.Honest.{Comes}
+use Rattle.run_safety.specs.Network.{Network, diary_of, written}
 use Rattle.run_safety.specs.Steady.{Rings}
 use Rattle.run_safety.specs.Run as runs
-use Rattle.run_safety.specs.Run.{Reaches, at_opening}
+use Rattle.run_safety.specs.Run.{LooseIs, Reaches, at_opening}
 use Rattle.world_safety.specs.Safety.{AreHonest, IsHonestEvent}
-use Rattle.world_safety.specs.Worlds.{loose_frame, loose_in, network_of, no_keys, rings_of}
+use Rattle.world_safety.specs.Worlds.{loose_in, network_of, no_keys, rings_of, sent_by, sent_of}
 use Rattle.world_safety.proofs.Comes.{event_comes}
 use Rattle.world_safety.proofs.Opening.{opened_names, opened_network}
+use Rattle.world_safety.proofs.Puts.{at_put, elsewhere, put_same, put_twice, same_members}
 use Rattle.world_safety.proofs.Sent.{parcels_sent}
 use Rattle.world_safety.proofs.Worlds.{diary_at, family_after, platforms_stay, shards_stay, with_diary}
 
@@ -45,91 +69,347 @@ opening_holds roster rings enough = record {
   reached = subst (Reaches roster (rings_of (opening roster rings))) (sym (opened_network roster rings enough)) at_opening;
 }
 
--- ---- a step
+-- ---- what is sent where a request is refused for a failure
 
-module _ (roster : RosterRecord) (rings : Rings) (apart : are_distinct code_eq roster.platforms ≡ true)
-    (w : WorldRecord) (H : Holds roster rings w) where
-  stays_apart : are_distinct code_eq (platforms_of w) ≡ true
-  stays_apart = ap (are_distinct code_eq) H.platforms_are ∙ apart
+quiet_content : (kind : ReplyKind) (reply : Reply) → is_failure reply ≡ true → reply_content kind reply ≡ None
+quiet_content kinds.Start replies.Sign is = refl
+quiet_content kinds.Finish replies.Sign is = refl
+quiet_content kinds.Unsent replies.Sign is = refl
+quiet_content kinds.Start replies.Full is = refl
+quiet_content kinds.Finish replies.Full is = refl
+quiet_content kinds.Unsent replies.Full is = refl
+quiet_content kinds.Start replies.Disk is = refl
+quiet_content kinds.Finish replies.Disk is = refl
+quiet_content kinds.Unsent replies.Disk is = refl
+quiet_content kinds.Start (replies.Damaged place) is = refl
+quiet_content kinds.Finish (replies.Damaged place) is = refl
+quiet_content kinds.Unsent (replies.Damaged place) is = refl
+quiet_content kinds.Start replies.NoMemory is = refl
+quiet_content kinds.Finish replies.NoMemory is = refl
+quiet_content kinds.Unsent replies.NoMemory is = refl
+quiet_content kind (replies.Done view) is = cc is
+quiet_content kind (replies.Started reference missing) is = cc is
+quiet_content kind replies.Stored is = cc is
+quiet_content kind (replies.Answer response text) is = cc is
+quiet_content kind replies.UnknownReference is = cc is
+quiet_content kind replies.NotOurs is = cc is
+quiet_content kind (replies.Document fault) is = cc is
+quiet_content kind replies.NotCarrier is = cc is
+quiet_content kind replies.KnownBill is = cc is
+quiet_content kind (replies.NotHere place) is = cc is
+quiet_content kind (replies.NoParty party) is = cc is
+quiet_content kind (replies.NotAllowed rule) is = cc is
+quiet_content kind (replies.Limit limit) is = cc is
+quiet_content kind (replies.Ignored reason) is = cc is
+quiet_content kind (replies.NotParting place) is = cc is
 
-  module _ (event : EventRecord) (honest : IsHonestEvent w event) (a : Asking)
-      (is_asked : comes_to w.signed w.sent event ≡ asks a) (answer : Answer) (after : WorldRecord)
-      (t : Takes w a answer after) where
-    same_shard : {X : Type 0} (g : ShardState → X) → g (with_diary t.shard t.step.frame) ≡ g t.shard
-        → (q : PlatformCode) (k : ℕ)
-        → option_map g (shard_at q k (with_shard a.at (shard_of a.request) (with_diary t.shard t.step.frame) w.platforms))
-        ≡ option_map g (shard_at q k w.platforms)
-    same_shard g same q k =
-        shards_stay g a.at (shard_of a.request) t.shard (with_diary t.shard t.step.frame) same w.platforms q k t.is_asked
+nothing_sent : (sent : List Parcel) (a : Asking) (out : Outcome) (reply : Reply) → is_failure reply ≡ true
+    → out ≡ refusal_of reply → sent ++ parcels_of a out.reply out.messages ≡ sent
+nothing_sent sent a out reply fails is =
+    ap (λ (o : Outcome). sent ++ parcels_of a o.reply o.messages) is
+    ∙ ap (λ (content : Option Content). sent ++ option_to_list
+    (option_map (reply_parcel a.at a.sender (option_or (request_bill a.request) (reply_bill reply))) content))
+    (quiet_content (kind_of a.request) reply fails)
+    ∙ append-nil sent
 
-    loose_by : (o : Option ShardState) → option_and_then loose_frame o
-        ≡ option_and_then (λ (f : Option Frame). f) (option_map loose_frame o)
-    loose_by None = refl
-    loose_by (Some s) = refl
+-- ---- one shard changes
 
-    loose_stays : (q : PlatformCode) (k : ℕ) → loose_in (world_after w a t.shard t.step) q k ≡ loose_in w q k
-    loose_stays q k =
-        loose_by (shard_at q k (with_shard a.at (shard_of a.request) (with_diary t.shard t.step.frame) w.platforms))
-        ∙ ap (option_and_then (λ (f : Option Frame). f)) (same_shard loose_frame refl q k)
+abbrev step_of : Option Frame → Outcome → Step
+step_of frame out = record { frame = frame; reply = out.reply; messages = out.messages }
+
+-- a world with these platforms and these parcels
+abbrev world_with : WorldRecord → List PlatformState → List Parcel → List Checksum → WorldRecord
+world_with w platforms sent signed =
+    record { roster = w.roster; platforms = platforms; sent = sent; signed = signed }
+
+abbrev network_with : List PlatformState → List Parcel → Network
+network_with platforms sent = record {
+  family = map member_of platforms;
+  loose = λ p i. option_and_then loose_frame (shard_at p i platforms);
+  sent = flat_map sent_of sent;
+}
+
+loose_by : (o : Option ShardState) → option_and_then loose_frame o
+    ≡ option_and_then (λ (f : Option Frame). f) (option_map loose_frame o)
+loose_by None = refl
+loose_by (Some s) = refl
+
+module _ (roster : RosterRecord) (rings : Rings) (apart : are_distinct code_eq roster.platforms ≡ true) where
+  module _ (w : WorldRecord) (H : Holds roster rings w) (p : PlatformCode) (i : ℕ) (shard put : ShardState)
+      (is_there : shard_at p i w.platforms ≡ Some shard) where
+    stays_apart : are_distinct code_eq (platforms_of w) ≡ true
+    stays_apart = ap (are_distinct code_eq) H.platforms_are ∙ apart
+
+    -- the other shard is reached too, with the keys of the first one
+    put_holds : (sent : List Parcel) (signed : List Checksum) → put.keys ≡ shard.keys
+        → Reaches roster rings (network_with (with_shard p i put w.platforms) sent)
+        → Holds roster rings (world_with w (with_shard p i put w.platforms) sent signed)
+    put_holds sent signed same_keys reached = record {
+      roster_is = H.roster_is;
+      platforms_are = platforms_stay p i put w.platforms ∙ H.platforms_are;
+      keys_are = λ q k.
+          ap (λ (o : Option Keys). unwrap_or o no_keys)
+          (shards_stay (λ (s : ShardState). s.keys) p i shard put same_keys w.platforms q k is_there)
+          ∙ H.keys_are q k;
+      reached = reached;
+    }
+
+    has_diary : diary_of (family_of w) p i ≡ Some shard.diary
+    has_diary = diary_at p i w.platforms ∙ ap (option_map (λ (s : ShardState). s.diary)) is_there
+
+    family_put : (frame : Option Frame) → put.diary ≡ with_frame shard.diary frame
+        → map member_of (with_shard p i put w.platforms) ≡ written p i frame (family_of w)
+    family_put frame grown =
+        same_members p i put (with_diary shard frame) grown w.platforms
+        ∙ family_after p i shard frame w.platforms stays_apart is_there
+
+    loose_put : (sent : List Parcel) (loose : Option Frame) → loose_frame put ≡ loose
+        → LooseIs (network_of w) p i loose (network_with (with_shard p i put w.platforms) sent)
+    loose_put sent loose is = record {
+      here = ap (option_and_then loose_frame) (at_put p i shard put w.platforms is_there) ∙ is;
+      elsewhere = λ q k other. ap (option_and_then loose_frame) (elsewhere p i put w.platforms q k other);
+    }
+
+    -- the loose frames stay, if it has the same one
+    loose_stays : loose_frame put ≡ loose_frame shard → (q : PlatformCode) (k : ℕ)
+        → option_and_then loose_frame (shard_at q k (with_shard p i put w.platforms)) ≡ loose_in w q k
+    loose_stays same q k =
+        loose_by (shard_at q k (with_shard p i put w.platforms))
+        ∙ ap (option_and_then (λ (f : Option Frame). f))
+        (shards_stay loose_frame p i shard put same w.platforms q k is_there)
         ∙ sym (loose_by (shard_at q k w.platforms))
 
-    asked_here : runs.Asked roster rings (network_of w)
-    asked_here = record {
+    -- where nothing that counts changed
+    same_network : put.diary ≡ shard.diary → loose_frame put ≡ loose_frame shard
+        → network_with (with_shard p i put w.platforms) w.sent ≡ network_of w
+    same_network same_diary same_loose =
+        let family = family_put None (same_diary ∙ sym (append-nil shard.diary)) in
+        λ j. record {
+          family = family j;
+          loose = λ q k. loose_stays same_loose q k j;
+          sent = sent_by w;
+        }
+
+    -- ---- what is loose is found out
+
+    resolve_holds : (kept : Bool) → IsResolved shard kept put
+        → Holds roster rings (world_with w (with_shard p i put w.platforms) w.sent w.signed)
+    resolve_holds true (frame, was, is) =
+        put_holds w.sent w.signed (ap (λ (s : ShardState). s.keys) is)
+        (runs.after_event (network_of w) (network_with (with_shard p i put w.platforms) w.sent) H.reached
+        (inr (inr (inl (record {
+          p = p;
+          i = i;
+          diary = shard.diary;
+          has_diary = has_diary;
+          frame = frame;
+          was_loose = ap (option_and_then loose_frame) is_there ∙ ap (option_and_then (λ (f : Option Frame). f)) was;
+          family_is = family_put (Some frame) (ap (λ (s : ShardState). s.diary) is);
+          loose_is = loose_put w.sent None (ap loose_frame is);
+          sends = λ s among. among;
+        })))))
+    resolve_holds false is =
+        put_holds w.sent w.signed (ap (λ (s : ShardState). s.keys) is)
+        (runs.after_event (network_of w) (network_with (with_shard p i put w.platforms) w.sent) H.reached
+        (inr (inr (inr (record {
+          p = p;
+          i = i;
+          family_is = family_put None (ap (λ (s : ShardState). s.diary) is ∙ sym (append-nil shard.diary));
+          loose_is = loose_put w.sent None (ap loose_frame is);
+          sends = λ s among. among;
+        })))))
+
+    -- ---- nothing happens
+
+    quiet_holds : (a : Asking) (out : Outcome) (reply : Reply) (signed : List Checksum) → is_failure reply ≡ true
+        → out ≡ refusal_of reply → put ≡ shard
+        → Holds roster rings (world_with w (with_shard p i put w.platforms)
+        (w.sent ++ parcels_of a out.reply out.messages) signed)
+    quiet_holds a out reply signed fails is same =
+        let stays : with_shard p i put w.platforms ≡ w.platforms =
+        ap (λ (s : ShardState). with_shard p i s w.platforms) same ∙ put_same p i shard w.platforms is_there in
+        put_holds (w.sent ++ parcels_of a out.reply out.messages) signed (ap (λ (s : ShardState). s.keys) same)
+        (subst (λ (ps : List PlatformState).
+        Reaches roster rings (network_with ps (w.sent ++ parcels_of a out.reply out.messages))) (sym stays)
+        (subst (λ (xs : List Parcel). Reaches roster rings (network_with w.platforms xs))
+        (sym (nothing_sent w.sent a out reply fails is)) H.reached))
+
+  -- ---- a request at a shard that isn't loose
+
+  module _ (w : WorldRecord) (H : Holds roster rings w) (a : Asking) (shard later : ShardState) (now : Moment)
+      (out : Outcome) (is_there : shard_at a.at (shard_of a.request) w.platforms ≡ Some shard)
+      (not_loose : shard.loose ≡ None) (may : MayBeAsked shard.diary now a.request)
+      (comes : Comes roster rings (sent_by w) a.request) where
+    abbrev asked_here : (step : Step) → Steps w.roster shard.keys a.at shard.diary now a.request step
+        → runs.Asked roster rings (network_of w)
+    asked_here step steps = record {
       p = a.at;
       i = shard_of a.request;
-      diary = t.shard.diary;
-      has_diary = diary_at a.at (shard_of a.request) w.platforms
-          ∙ ap (option_map (λ (s : ShardState). s.diary)) t.is_asked;
-      not_loose = ap (option_and_then loose_frame) t.is_asked
-          ∙ ap (option_and_then (λ (f : Option Frame). f)) t.not_loose;
-      now = t.now;
+      diary = shard.diary;
+      has_diary = has_diary w H a.at (shard_of a.request) shard shard is_there;
+      not_loose = ap (option_and_then loose_frame) is_there ∙ ap (option_and_then (λ (f : Option Frame). f)) not_loose;
+      now = now;
       request = a.request;
       goes_here = refl;
-      may = t.may;
-      comes = event_comes roster rings w H.roster_is H.keys_are event honest a is_asked;
-      step = t.step;
-      steps = subst (λ (r : RosterRecord). Steps r (rings a.at (shard_of a.request)) a.at t.shard.diary t.now a.request t.step)
+      may = may;
+      comes = comes;
+      step = step;
+      steps = subst (λ (r : RosterRecord). Steps r (rings a.at (shard_of a.request)) a.at shard.diary now a.request step)
           H.roster_is
-          (subst (λ (k : Keys). Steps w.roster k a.at t.shard.diary t.now a.request t.step) keys_here t.steps);
+          (subst (λ (k : Keys). Steps w.roster k a.at shard.diary now a.request step)
+          (sym (ap (λ (o : Option ShardState). unwrap_or (option_map (λ (s : ShardState). s.keys) o) no_keys) is_there)
+          ∙ H.keys_are a.at (shard_of a.request)) steps);
     }
-      where
-        keys_here : t.shard.keys ≡ rings a.at (shard_of a.request)
-        keys_here =
-            sym (ap (λ (o : Option ShardState). unwrap_or (option_map (λ (s : ShardState). s.keys) o) no_keys) t.is_asked)
-            ∙ H.keys_are a.at (shard_of a.request)
 
-    reached_after : Reaches roster rings (network_of (world_after w a t.shard t.step))
-    unfolding asked_here
-    reached_after =
-        runs.after_event (network_of w) (network_of (world_after w a t.shard t.step)) H.reached
+    abbrev After : Type 0
+    After = Holds roster rings (world_with w (with_shard a.at (shard_of a.request) later w.platforms)
+        (w.sent ++ parcels_of a out.reply out.messages) (w.signed ++ bills_signed a.request out.reply))
+
+    whole_holds : IsTakenWhole w.roster a.at shard now a.request out later → After
+    whole_holds t =
+        put_holds w H a.at (shard_of a.request) shard later is_there (w.sent ++ parcels_of a out.reply out.messages)
+        (w.signed ++ bills_signed a.request out.reply) (ap (λ (s : ShardState). s.keys) t.after_is)
+        (runs.after_event (network_of w) (network_with (with_shard a.at (shard_of a.request) later w.platforms)
+        (w.sent ++ parcels_of a out.reply out.messages)) H.reached
         (inl (record {
-          asked = asked_here;
-          family_is = family_after a.at (shard_of a.request) t.shard t.step.frame w.platforms stays_apart t.is_asked;
-          loose_is = loose_stays;
-          sends = λ s among. parcels_sent w.sent a t.step s among;
-        }))
+          asked = asked_here (step_of t.step.frame out) steps;
+          family_is = family_put w H a.at (shard_of a.request) shard later is_there t.step.frame
+              (ap (λ (s : ShardState). s.diary) t.after_is);
+          loose_is = loose_stays w H a.at (shard_of a.request) shard later is_there (ap loose_frame t.after_is);
+          sends = λ s among. parcels_sent w.sent a (step_of t.step.frame out) s among;
+        })))
+      where
+        steps : Steps w.roster shard.keys a.at shard.diary now a.request (step_of t.step.frame out)
+        steps = subst (Steps w.roster shard.keys a.at shard.diary now a.request)
+            (λ j. record { frame = t.step.frame; reply = sym t.reply_is j; messages = sym t.messages_are j }) t.steps
 
-    takes_holds : Holds roster rings after
-    takes_holds =
-        subst (Holds roster rings) (sym t.after_is)
-        (record {
-          roster_is = H.roster_is;
-          platforms_are =
-              platforms_stay a.at (shard_of a.request) (with_diary t.shard t.step.frame) w.platforms ∙ H.platforms_are;
-          keys_are = λ q k.
-              ap (λ (o : Option Keys). unwrap_or o no_keys) (same_shard (λ s. s.keys) refl q k) ∙ H.keys_are q k;
-          reached = reached_after;
-        })
+    failed_holds : IsNotWritten w.roster a.at shard now a.request out later → After
+    failed_holds t =
+        put_holds w H a.at (shard_of a.request) shard later is_there (w.sent ++ parcels_of a out.reply out.messages)
+        (w.signed ++ bills_signed a.request out.reply) (ap (λ (s : ShardState). s.keys) t.after_is)
+        (runs.after_event (network_of w) (network_with (with_shard a.at (shard_of a.request) later w.platforms)
+        (w.sent ++ parcels_of a out.reply out.messages)) H.reached
+        (inr (inl (record {
+          asked = asked_here t.steps.step t.steps.steps;
+          family_is = family_put w H a.at (shard_of a.request) shard later is_there None
+              (ap (λ (s : ShardState). s.diary) t.after_is ∙ sym (append-nil shard.diary));
+          loose_is = loose_put w H a.at (shard_of a.request) shard later is_there
+              (w.sent ++ parcels_of a out.reply out.messages) t.steps.step.frame
+              (ap loose_frame t.after_is ∙ sym t.steps.frame_is);
+          sends = λ s among. subst (λ (xs : List Parcel). IsAmong s (flat_map sent_of xs))
+              (nothing_sent w.sent a out replies.Disk refl t.out_is) among;
+        }))))
 
-  pub step_holds : (event : EventRecord) (fate : Fate) (answer : Answer) (after : WorldRecord)
-      → IsStep w event fate answer after → IsHonestEvent w event → Holds roster rings after
-  step_holds event fate answer after step honest = on_happening (comes_to w.signed w.sent event) refl step
+    refused_holds : (reply : Reply) → is_failure reply ≡ true → out ≡ refusal_of reply → later ≡ shard → After
+    refused_holds reply fails is same =
+        quiet_holds w H a.at (shard_of a.request) shard later is_there a out reply
+        (w.signed ++ bills_signed a.request out.reply) fails is same
+
+    ended_holds : (end : FateEnd) → EndsAs w.roster a.at shard now a.request end out later → After
+    ended_holds Whole (inl t) = whole_holds t
+    ended_holds Whole (inr full) = refused_holds replies.Full refl full.out_is full.after_is
+    ended_holds SignFault (is, same) = refused_holds replies.Sign refl is same
+    ended_holds Failed t = failed_holds t
+    ended_holds (Stuck i) no_way = absurd no_way
+    ended_holds Short (is, same) = refused_holds replies.NoMemory refl is same
+
+  -- ---- a request at any shard
+
+  unread_holds : (w : WorldRecord) → Holds roster rings w → (a : Asking) (fate : Fate) (out : Outcome)
+      (shard later : ShardState) → shard_at a.at (shard_of a.request) w.platforms ≡ Some shard
+      → IsUnread (shard_of a.request) shard fate out later → Holds roster rings (world_after w a later out)
+  unread_holds w H a fate out shard later is_there t = on_cause t.cause
+    where
+      on_cause : ((fate.end ≡ Stuck (shard_of a.request)) × (t.reply ≡ replies.Disk))
+          ⊎ ((fate.end ≡ Short) × (t.reply ≡ replies.NoMemory)) → Holds roster rings (world_after w a later out)
+      on_cause (inl (end, disk)) =
+          quiet_holds w H a.at (shard_of a.request) shard later is_there a out t.reply
+          (w.signed ++ bills_signed a.request out.reply) (ap is_failure disk) t.refused.0 t.refused.1
+      on_cause (inr (end, memory)) =
+          quiet_holds w H a.at (shard_of a.request) shard later is_there a out t.reply
+          (w.signed ++ bills_signed a.request out.reply) (ap is_failure memory) t.refused.0 t.refused.1
+
+  asked_holds : (w : WorldRecord) → Holds roster rings w → (a : Asking) (fate : Fate) (out : Outcome) (now : Moment)
+      (shard later : ShardState) → shard_at a.at (shard_of a.request) w.platforms ≡ Some shard
+      → Comes roster rings (sent_by w) a.request
+      → IsAskedOnceRead w.roster a.at (shard_of a.request) shard now a.request fate out later
+      → Holds roster rings (world_after w a later out)
+  asked_holds w H a fate out now shard later is_there comes t =
+      let found_there : shard_at a.at (shard_of a.request)
+      (with_shard a.at (shard_of a.request) t.found w.platforms) ≡ Some t.found =
+      at_put a.at (shard_of a.request) shard t.found w.platforms is_there in
+      let first = resolve_holds w H a.at (shard_of a.request) shard t.found is_there t.kept t.resolved in
+      subst (λ (ps : List PlatformState). Holds roster rings (world_with w ps
+      (w.sent ++ parcels_of a out.reply out.messages) (w.signed ++ bills_signed a.request out.reply)))
+      (put_twice a.at (shard_of a.request) t.found later w.platforms)
+      (ended_holds
+      (world_with w (with_shard a.at (shard_of a.request) t.found w.platforms) w.sent w.signed) first a t.found later now
+      out found_there (found_whole t.kept t.resolved) t.may comes fate.end t.ends)
+    where
+      found_whole : (kept : Bool) → IsResolved shard kept t.found → t.found.loose ≡ None
+      found_whole true (frame, was, is) = ap (λ (s : ShardState). s.loose) is
+      found_whole false is = ap (λ (s : ShardState). s.loose) is
+
+  -- ---- a platform that starts again
+
+  loosened_holds : (w : WorldRecord) (before after : List PlatformState) (p : PlatformCode) (i : ℕ)
+      → Holds roster rings (world_with w before w.sent w.signed) → IsLoosenedAt p i before after
+      → Holds roster rings (world_with w after w.sent w.signed)
+  loosened_holds w before after p i H t =
+      subst (λ (ps : List PlatformState). Holds roster rings (world_with w ps w.sent w.signed)) (sym t.after_is)
+      (put_holds (world_with w before w.sent w.signed) H p i t.shard (loosened t.shard) t.is_there w.sent w.signed refl
+      (subst (Reaches roster rings)
+      (sym (same_network (world_with w before w.sent w.signed) H p i t.shard (loosened t.shard) t.is_there refl refl))
+      H.reached))
+
+  all_loosened_hold : (w : WorldRecord) (p : PlatformCode) (i n : ℕ) (before after : List PlatformState)
+      → Holds roster rings (world_with w before w.sent w.signed) → AreLoosened p i n before after
+      → Holds roster rings (world_with w after w.sent w.signed)
+  all_loosened_hold w p i zero before after H is =
+      subst (λ (ps : List PlatformState). Holds roster rings (world_with w ps w.sent w.signed)) (sym is) H
+  all_loosened_hold w p i (suc n) before after H (between, first, rest) =
+      all_loosened_hold w p (i + 1) n between after (loosened_holds w before between p i H first) rest
+
+  started_holds : (w : WorldRecord) (p : PlatformCode) (i n : ℕ) (before : List PlatformState) (end : FateEnd)
+      (kept : List ℕ) (after : List PlatformState)
+      → Holds roster rings (world_with w before w.sent w.signed) → AreReadAgain p i n before end kept after
+      → Holds roster rings (world_with w after w.sent w.signed)
+  started_holds w p i zero before end kept after H (whole, none, is) =
+      subst (λ (ps : List PlatformState). Holds roster rings (world_with w ps w.sent w.signed)) (sym is) H
+  started_holds w p i (suc n) before end kept after H (inl cut) = on_cause cut.cause
+    where
+      on_cause : ((end ≡ Stuck i) × AreLoosened p i (suc n) before after)
+          ⊎ ((end ≡ Short) × IsLoosenedAt p i before after)
+          → Holds roster rings (world_with w after w.sent w.signed)
+      on_cause (inl (stuck, are)) = all_loosened_hold w p i (suc n) before after H are
+      on_cause (inr (short, is)) = loosened_holds w before after p i H is
+  started_holds w p i (suc n) before end kept after H (inr (here, between, behind, read, kept_is, goes)) =
+      started_holds w p (i + 1) n between end behind after
+      (subst (λ (ps : List PlatformState). Holds roster rings (world_with w ps w.sent w.signed)) (sym read.after_is)
+      (resolve_holds (world_with w before w.sent w.signed) H p i read.shard read.found read.is_there here read.resolved))
+      goes
+
+  -- ---- an event
+
+  pub step_holds : (w : WorldRecord) → Holds roster rings w → (event : EventRecord) (fate : Fate) (answer : Answer)
+      (after : WorldRecord) → IsStep w event fate answer after → IsHonestEvent w event → Holds roster rings after
+  step_holds w H event fate answer after step honest = on_happening (comes_to w.signed w.sent event) refl step
     where
       on_happening : (h : Happening) → comes_to w.signed w.sent event ≡ h → Happens w h fate answer after
           → Holds roster rings after
       on_happening (answers said) is (whole, said_so, same) = subst (Holds roster rings) (sym same) H
-      on_happening (asks a) is (inl (whole, takes)) = takes_holds event honest a is answer after takes
-      on_happening (asks a) is (inr (fault, (said_so, same))) = subst (Holds roster rings) (sym same) H
+      on_happening (asks a) is t =
+          subst (Holds roster rings) (sym t.after_is)
+          (on_shard (event_comes roster rings w H.roster_is H.keys_are event honest a is) t.takes)
+        where
+          on_shard : Comes roster rings (sent_by w) a.request
+              → TakesAs w.roster a.at (shard_of a.request) t.shard t.now a.request fate t.out t.later
+              → Holds roster rings (world_after w a t.later t.out)
+          on_shard comes (inl unread) = unread_holds w H a fate t.out t.shard t.later t.is_asked unread
+          on_shard comes (inr asked) = asked_holds w H a fate t.out t.now t.shard t.later t.is_asked comes asked
+      on_happening (starts_again at) is t =
+          subst (Holds roster rings) (sym t.after_is)
+          (started_holds w at 0 16 w.platforms fate.end fate.kept t.platforms H t.reads)
 
 -- ---- runs
 
@@ -149,18 +429,26 @@ runs_go_on roster (line ∷ lines) w n fates run (inl (none, is)) =
 runs_go_on roster (line ∷ lines) w n fates run (inr numbered) =
     on_number (nat_le 100000 n) numbered (runs_go_on roster lines)
   where
+    answered : (event : EventRecord) (fs : List Fate)
+        → IsAnsweredIn w event n fs run (λ after others rest. Runs roster lines after (n + 1) others rest)
+        → ((x : WorldRecord) (m : ℕ) (others : List Fate) (r : Run) → Runs roster lines x m others r → GoOn x r.happened)
+        → GoOn w run.happened
+    answered event [] no_way further = absurd no_way
+    answered event (fate ∷ others) (answer, after, rest, step, ended, is, goes) further =
+        subst (GoOn w) (sym (ap (λ (r : Run). r.happened) is))
+        (refl, step, further after (n + 1) others rest goes)
+
     on_event : (event : Option EventRecord) (fs : List Fate)
         → OnEvent event w n fs run (λ after others rest. Runs roster lines after (n + 1) others rest)
         → ((x : WorldRecord) (m : ℕ) (others : List Fate) (r : Run) → Runs roster lines x m others r → GoOn x r.happened)
         → GoOn w run.happened
     on_event None fs (none, is) further = subst (GoOn w) (sym (ap (λ (r : Run). r.happened) is)) tt
-    on_event (Some event) [] no_way further = absurd no_way
-    on_event (Some event) (fate ∷ others) (answer, after, rest, step, is, goes) further =
-        subst (GoOn w) (sym (ap (λ (r : Run). r.happened) is))
-        (refl, step, further after (n + 1) others rest goes)
+    on_event (Some event) fs (inl (left, cut, is)) further =
+        subst (GoOn w) (sym (ap (λ (r : Run). r.happened) is)) tt
+    on_event (Some event) fs (inr so) further = answered event fs so further
 
     on_number : (b : Bool)
-        → MatchBool b (Ends (bad_line (n + 1)) [] fates run)
+        → MatchBool b (Ends (bad_line (n + 1)) [] w fates run)
         (OnEvent (event_in roster line) w n fates run (λ after fs rest. Runs roster lines after (n + 1) fs rest))
         → ((x : WorldRecord) (m : ℕ) (others : List Fate) (r : Run) → Runs roster lines x m others r → GoOn x r.happened)
         → GoOn w run.happened

@@ -8,7 +8,7 @@ use Rattle.bill_diary.specs.declared.frame.Frame.{Frame}
 use Rattle.answer_lines.specs.declared.parcel.Parcel.{Parcel}
 use Rattle.answer_lines.specs.declared.parcel.Content.{Content}
 use Rattle.answer_lines.specs.declared.parcel.Content.TheVariants as contents
-use Rattle.platform_world.specs.World.{ShardState, WorldRecord, family_of, shard_at}
+use Rattle.platform_world.specs.World.{WorldRecord, family_of, loose_frame, shard_at}
 use Rattle.run_safety.specs.Network.{Network, Sent, sent_start, sent_reply}
 use Rattle.run_safety.specs.Steady.{Rings}
 
@@ -30,10 +30,7 @@ sent_by w = flat_map sent_of w.sent
 
 -- ---- shards
 
--- the frame that is loose, if one is
-abbrev pub loose_frame : ShardState → Option Frame
-loose_frame shard = option_and_then (λ frame. frame) shard.loose
-
+-- the frame that is loose there, if one is
 abbrev pub loose_in : WorldRecord → PlatformCode → ℕ → Option Frame
 loose_in w p i = option_and_then loose_frame (shard_at p i w.platforms)
 
