@@ -8,7 +8,8 @@ use Rattle.answer_lines.specs.Words.{answer_text}
 use Rattle.answer_lines.specs.declared.answer.Answer.{Answer}
 use Rattle.world_script.specs.Event.{EventRecord}
 use Rattle.platform_world.specs.Run.{Happened}
-use Rattle.platform_world.specs.State.{IsStepped}
+use Rattle.platform_world.specs.Machine.{Counts, MachineRecord}
+use Rattle.platform_world.specs.State.{IsStepped, WorldState, world_of}
 use Rattle.platform_world.specs.World.{WorldRecord}
 use Rattle.rehearsal.specs.Events.{Made, Move, begin_bill, event_of, happen, happening, issue_bill, issuing, made, moves, sign_bill, signing}
 use Rattle.rehearsal.specs.Progress.{Progress, Takes, TakesAll, progress}
@@ -18,13 +19,15 @@ use Rattle.rehearsal.specs.Summary.{SumsUp, answers_of, summary_members}
 -- ---- one event
 
 -- an event is taken, and its answer's word is kept
-pub taken : (w after : WorldRecord) (x : ℕ) (answers : List (List ℕ)) (event : EventRecord) (answer : Answer)
-    (later : List (List ℕ)) → IsStepped w event answer after → later ≡ answers ++ answer_text answer ∷ []
-    → Takes (progress w x answers) (made event x) (progress after x later)
-taken w after x answers event answer later stepped same = record {
+pub taken : {M R : Type 0} (seen : M → MachineRecord) (faults : Counts M) (before after : WorldState M R) (x : ℕ)
+    (answers : List (List ℕ)) (event : EventRecord) (answer : Answer) (later : List (List ℕ))
+    → IsStepped seen faults before event answer after → later ≡ answers ++ answer_text answer ∷ []
+    → Takes (progress (world_of seen before) x answers) (made event x) (progress (world_of seen after) x later)
+taken seen faults before after x answers event answer later stepped same = record {
   fate = stepped.fate;
   answer = answer;
-  steps = stepped.steps;
+  steps = stepped.has_fate.happens;
+  ended = stepped.not_short;
   state_is = refl;
   answers_are = same;
 }
@@ -36,6 +39,7 @@ takes_from w x y answers next after takes = record {
   fate = takes.fate;
   answer = takes.answer;
   steps = takes.steps;
+  ended = takes.ended;
   state_is = takes.state_is;
   answers_are = takes.answers_are;
 }
@@ -155,6 +159,7 @@ whole_of bills (move ∷ ms) a b (between, takes, rest) =
             between.world,
             more.run,
             takes.steps,
+            takes.ended,
             refl,
             subst (λ (x : ℕ). Goes bills ms between.world x more.run) takes.state_is more.goes,
           );

@@ -16,7 +16,7 @@ use Rattle.ebl_base.specs.declared.kind.Kind.{Kind}
 use Rattle.ebl_base.specs.declared.kind.Kind.TheVariants as kinds
 use Rattle.ebl_base.specs.declared.party.Party.{Party}
 use Rattle.world_script.specs.declared.deed.BillName.TheVariants.{Number}
-use Rattle.world_script.specs.Event.{DeedRecord, acts, delivers, resends, restarts}
+use Rattle.world_script.specs.Event.{DeedRecord, acts, delivers}
 use Rattle.world_script.specs.Form.{IsNumber}
 use Rattle.platform_world.specs.World.{WorldRecord}
 use Rattle.rehearsal.specs.Draws.{drawn, next}

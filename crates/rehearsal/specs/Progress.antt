@@ -1,11 +1,12 @@
 -- How far a rehearsal has come, as its code keeps it: the world, the state, and the words of the answers so far.
-use Rattle.std.specs.Prelude.{◌≡◌, ℕ, true, List, [], ◌∷◌, ◌++◌}
+use Rattle.std.specs.Prelude.{◌≡◌, ◌≢◌, ℕ, true, List, [], ◌∷◌, ◌++◌}
 use Rattle.party_roster.specs.RosterRecord.{RosterRecord}
 use Rattle.world_script.specs.Event.{EventRecord}
 use Rattle.world_script.specs.Form.{IsEvent}
 use Rattle.answer_lines.specs.Words.{answer_text}
 use Rattle.answer_lines.specs.declared.answer.Answer.{Answer}
 use Rattle.platform_world.specs.declared.fate.Fate.{Fate}
+use Rattle.platform_world.specs.declared.fate.FateEnd.TheVariants.{Short}
 use Rattle.platform_world.specs.Script.{IsNested, names_listed}
 use Rattle.platform_world.specs.Step.{IsStep}
 use Rattle.platform_world.specs.World.{WorldRecord}
@@ -30,6 +31,7 @@ pub record Takes (before : Progress) (next : Made) (after : Progress) : Type 0 w
   pub fate : Fate
   pub answer : Answer
   pub steps : IsStep before.world next.event fate answer after.world
+  pub ended : fate.end ≢ Short
   pub state_is : after.state ≡ next.state
   pub answers_are : after.answers ≡ before.answers ++ answer_text answer ∷ []
 

@@ -1,7 +1,8 @@
 -- A rehearsal: what happened, event by event. It may stop before every event, where memory fails.
-use Rattle.std.specs.Prelude.{◌≡◌, ◌⊎◌, ℕ, List, [], ◌∷◌}
+use Rattle.std.specs.Prelude.{◌≡◌, ◌≢◌, ◌⊎◌, ℕ, List, [], ◌∷◌}
 use Rattle.answer_lines.specs.declared.answer.Answer.{Answer}
 use Rattle.platform_world.specs.declared.fate.Fate.{Fate}
+use Rattle.platform_world.specs.declared.fate.FateEnd.TheVariants.{Short}
 use Rattle.platform_world.specs.Run.{Happened}
 use Rattle.platform_world.specs.Step.{IsStep}
 use Rattle.platform_world.specs.World.{WorldRecord}
@@ -32,7 +33,7 @@ after_event h run = record run { happened = h ∷ run.happened }
 abbrev pub OnMade : Made → WorldRecord → Rehearsal → (WorldRecord → ℕ → Rehearsal → Type 0) → Type 0
 OnMade next w run Rest =
     (fate : Fate) × (answer : Answer) × (after : WorldRecord) × (rest : Rehearsal)
-    × IsStep w next.event fate answer after
+    × IsStep w next.event fate answer after × (fate.end ≢ Short)
     × (run ≡ after_event
     (record { before = w; event = next.event; fate = fate; answer = answer; after = after }) rest)
     × Rest after next.state rest

@@ -4,6 +4,7 @@ use Rattle.party_roster.specs.RosterRecord.{RosterRecord}
 use Rattle.rehearsal.specs.Events.{Made}
 use Rattle.rehearsal.specs.Progress.{MayCome}
 use Rattle.rehearsal.specs.Roster.{made_roster}
+use Rattle.platform_world.proofs.Counts.{later_then, none_rose}
 use Rattle.rehearsal.proofs.Going.{began, on_ok}
 use Rattle.rehearsal.proofs.May.{issuing_comes, signing_comes}
 use Rattle.rehearsal.proofs.run.Rehearsal.begin_bill.Goals as goal
@@ -27,3 +28,15 @@ returns-clause-takes g c =
     (began c.args.number _ _ _ _ _ _ _ _ _ _ c.in_ok-signing.ensures c.issue-issuing.ensures
     c.in_ok-take.ensures.takes)
     c.take-2.ensures.takes
+
+pub returns-in_err-signing-clause-disks : goal.returns-in_err-signing-clause-disks
+returns-in_err-signing-clause-disks g c = none_rose g.M.Machine.faults.disk c.args.self.now.world.platforms.shards
+
+pub returns-clause-disks : goal.returns-clause-disks
+returns-clause-disks g c = later_then g.M.Machine.faults.disk (λ k. 0) _ _ _ c.take.ensures.disks c.take-2.ensures.disks
+
+pub returns-in_err-signing-clause-rings : goal.returns-in_err-signing-clause-rings
+returns-in_err-signing-clause-rings g c = none_rose g.M.Machine.faults.ring c.args.self.now.world.platforms.shards
+
+pub returns-clause-rings : goal.returns-clause-rings
+returns-clause-rings g c = later_then g.M.Machine.faults.ring (λ k. 0) _ _ _ c.take.ensures.rings c.take-2.ensures.rings

@@ -1,6 +1,7 @@
 -- So many bills were begun.
-use Rattle.std.proofs.Common.{◌≡◌, ◌*◌, map}
+use Rattle.std.proofs.Common.{◌≡◌, ◌*◌, length, map}
 use Rattle.std.specs.List.{flat_map, range_with_len}
+use Rattle.platform_world.specs.Platforms.{EachRose}
 use Rattle.platform_world.specs.State.{world_of}
 use Rattle.rehearsal.specs.Events.{begin_bill}
 use Rattle.rehearsal.specs.Progress.{TakesAll, progress}
@@ -13,6 +14,9 @@ invariant-loop-i g l = record {
       (progress (world_of g.M.Machine.seen l.initial.self.world) l.initial.self.draws.state
       (map (λ a. a.now) l.initial.self.answers.items))
       (progress (world_of g.M.Machine.seen l.self.world) l.self.draws.state (map (λ a. a.now) l.self.answers.items));
-  events : l.self.world.events ≡ 2 * l.i;
+  events : length l.self.world.fates ≡ 2 * l.i;
   roster : l.self.world.platforms.roster ≡ made_roster;
+  spare : l.self.world.platforms.spare ≡ l.initial.self.world.platforms.spare;
+  disks : EachRose g.M.Machine.faults.disk (λ k. 0) l.initial.self.world.platforms.shards l.self.world.platforms.shards;
+  rings : EachRose g.M.Machine.faults.ring (λ k. 0) l.initial.self.world.platforms.shards l.self.world.platforms.shards;
 }

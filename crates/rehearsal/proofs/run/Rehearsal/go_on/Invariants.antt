@@ -1,5 +1,6 @@
 -- So many things happened.
-use Rattle.std.proofs.Common.{◌≡◌, ◌+◌, map, replicate}
+use Rattle.std.proofs.Common.{◌≡◌, ◌+◌, length, map, replicate}
+use Rattle.platform_world.specs.Platforms.{EachRose}
 use Rattle.platform_world.specs.State.{world_of}
 use Rattle.rehearsal.specs.Events.{happen}
 use Rattle.rehearsal.specs.Progress.{TakesAll, progress}
@@ -12,6 +13,9 @@ invariant-loop-step g l = record {
       (progress (world_of g.M.Machine.seen l.initial.self.world) l.initial.self.draws.state
       (map (λ a. a.now) l.initial.self.answers.items))
       (progress (world_of g.M.Machine.seen l.self.world) l.self.draws.state (map (λ a. a.now) l.self.answers.items));
-  events : l.self.world.events ≡ l.initial.self.world.events + l.step;
+  events : length l.self.world.fates ≡ length l.initial.self.world.fates + l.step;
   roster : l.self.world.platforms.roster ≡ made_roster;
+  spare : l.self.world.platforms.spare ≡ l.initial.self.world.platforms.spare;
+  disks : EachRose g.M.Machine.faults.disk (λ k. 0) l.initial.self.world.platforms.shards l.self.world.platforms.shards;
+  rings : EachRose g.M.Machine.faults.ring (λ k. 0) l.initial.self.world.platforms.shards l.self.world.platforms.shards;
 }

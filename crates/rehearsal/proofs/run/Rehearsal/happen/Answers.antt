@@ -5,6 +5,7 @@ use Rattle.platform_world.specs.State.{world_of}
 use Rattle.rehearsal.specs.Events.{Made}
 use Rattle.rehearsal.specs.Progress.{MayCome}
 use Rattle.rehearsal.specs.Roster.{made_roster}
+use Rattle.platform_world.proofs.Counts.{none_rose}
 use Rattle.rehearsal.proofs.Going.{happened, on_ok}
 use Rattle.rehearsal.proofs.May.{happening_comes}
 use Rattle.rehearsal.proofs.run.Rehearsal.happen.Goals as goal
@@ -19,3 +20,9 @@ take-requires-clause-may g c =
 pub returns-clause-takes : goal.returns-clause-takes
 returns-clause-takes g c =
     on_ok c.take.result (happened c.args.bills _ _ _ _ _ _ c.in_ok-event.ensures.made) c.take.ensures.takes
+
+pub returns-in_err-event-clause-disks : goal.returns-in_err-event-clause-disks
+returns-in_err-event-clause-disks g c = none_rose g.M.Machine.faults.disk c.args.self.now.world.platforms.shards
+
+pub returns-in_err-event-clause-rings : goal.returns-in_err-event-clause-rings
+returns-in_err-event-clause-rings g c = none_rose g.M.Machine.faults.ring c.args.self.now.world.platforms.shards
