@@ -52,7 +52,7 @@ fn an_event_names_platforms_of_the_roster(rt: HostRuntime) -> Result<(), Fail> {
 fn word(happening: Happening) -> &'static str {
     match happening {
         Happening::Answered(answer) => answer.as_str(),
-        Happening::Asked(_) => "",
+        Happening::Asked(_) | Happening::StartsAgain(_) => "",
     }
 }
 
@@ -61,6 +61,7 @@ fn asked(happening: Happening) -> Option<PlatformCode> {
     match happening {
         Happening::Answered(_) => None,
         Happening::Asked(asking) => Some(asking.at),
+        Happening::StartsAgain(at) => Some(at),
     }
 }
 

@@ -2,12 +2,11 @@
 //! plain one of the generator's rule, the lines of the rules in docs/ written once more.
 ghost use Rattle.std.specs.Prelude.{◌<◌, ◌≤◌};
 
-use platform_world::open_world;
+use super::worlds::{NONE, TestWorld, racks};
 use rehearsal::{Draws, MOST_BILLS, MOST_STEPS, made_roster, rehearse};
 use std::alloc::Global;
 use std::process::Abort;
 use std::test::Fail;
-use test_signer::KeyedRing;
 
 #[test]
 fn first_draws(rt: HostRuntime) {
@@ -35,15 +34,12 @@ fn writes(
 {
     let alloc = rt.alloc();
     let roster = made_roster(alloc)?;
-    let mut rings = Vec::new(alloc);
-    for _ in 0..48 {
-        rings.push(KeyedRing::derived())?;
-    }
-    if rings.len() < 16 * roster.platforms().len() {
-        return Err("rings")?;
-    }
-    let world = open_world(alloc, roster, rings)?;
-    let written = rehearse(alloc, world, 7, bills, steps)?;
+    let racks = racks(alloc, 16 * roster.platforms().len(), NONE)?;
+    let Ok(world) = TestWorld::open(alloc, roster, racks) else {
+        return Err("a world")?;
+    };
+    let (_, written) = rehearse(alloc, world, 7, bills, steps);
+    let written = written?;
     assert!(rt; written.as_slice() == line.as_bytes());
     Ok(())
 }

@@ -1,0 +1,171 @@
+//! Worlds on memory disks of which listed calls fail, and scripts with the answers that they are to have.
+ghost use Rattle.std.specs.Prelude.{◌≡◌, ◌+◌, ◌*◌, ◌<◌, ◌≤◌, [], length, IfOk, OnOk};
+ghost use Rattle.platform_world.specs.Opening.{AreBlank};
+
+use disk_model::{Disk, Failures, MemoryDisk};
+use ebl_base::{ByteList, CallList, NoMemory};
+use journaled_shard::{JournaledShard, Rack};
+use platform_world::{Machine, World, event_in, roster_in};
+use std::alloc::Global;
+use std::process::Abort;
+use std::test::Fail;
+use test_signer::FailingRing;
+
+/// The roster line of two platforms.
+pub(crate) const ROSTER: &[u8] = br#"{"roster":{
+    "carriers":[{"code":"OCNL","party":"ALPH/CARRIER","provider":"NMFTA"}],
+    "parties":["ALPH/CARRIER","ALPH/EXPORT","BETA/IMPORT"],
+    "platforms":["ALPH","BETA"]
+}}"#;
+
+/// The carrier signs and issues a bill, and its possessor hands it to BETA: message 1 is the start.
+pub(crate) const HANDED_OVER: [(&str, &str); 4] = [
+    (
+        r#"{"at":"ALPH","do":"SIGN","document":{"carrierCode":"OCNL","carrierCodeListProvider":"NMFTA","isToOrder":true,
+        "transportDocumentReference":"OCNL0000001","transportDocumentTypeCode":"BOL"},"party":"ALPH/CARRIER"}"#,
+        r#"{"event":1,"reply":"DONE","sent":[],"view":{"bill":1,"entries":0,"holder":"ALPH/CARRIER","place":"HELD","possessor":"ALPH/CARRIER","state":"SIGNED"}}
+"#,
+    ),
+    (
+        r#"{"at":"ALPH","bill":1,"do":"ISSUE","party":"ALPH/CARRIER","recipient":"ALPH/EXPORT"}"#,
+        r#"{"event":2,"reply":"DONE","sent":[],"view":{"bill":1,"entries":0,"holder":"ALPH/EXPORT","place":"HELD","possessor":"ALPH/EXPORT","state":"LIVE"}}
+"#,
+    ),
+    (
+        r#"{"at":"ALPH","bill":1,"do":"ENDORSE","party":"ALPH/EXPORT","recipient":"BETA/IMPORT"}"#,
+        r#"{"event":3,"reply":"DONE","sent":[],"view":{"bill":1,"entries":0,"holder":"BETA/IMPORT","place":"HELD","possessor":"ALPH/EXPORT","state":"LIVE"}}
+"#,
+    ),
+    (
+        r#"{"at":"ALPH","bill":1,"do":"TRANSFER","party":"ALPH/EXPORT","recipient":"BETA/IMPORT"}"#,
+        r#"{"event":4,"reply":"DONE","sent":[1],"view":{"bill":1,"entries":0,"holder":"BETA/IMPORT","place":"PARTING","possessor":"BETA/IMPORT","state":"LIVE"}}
+"#,
+    ),
+];
+
+/// What a shard runs on.
+pub(crate) type TestRack = Rack<MemoryDisk, FailingRing>;
+
+/// A world of these.
+pub(crate) type TestWorld = World<JournaledShard<MemoryDisk, FailingRing>>;
+
+/// The calls that are to fail on one rack: of its disk, those of them whose bytes go in all the same, and of its ring.
+/// The disk's first three calls are those of the opening.
+#[derive(Clone, Copy)]
+pub(crate) struct Failing {
+    pub(crate) place: usize,
+    pub(crate) calls: &'static [u64],
+    pub(crate) written: &'static [u64],
+    pub(crate) signs: &'static [u64],
+}
+
+/// No call fails.
+pub(crate) const NONE: Failing = Failing {
+    place: 0,
+    calls: &[],
+    written: &[],
+    signs: &[],
+};
+
+/// A rack with a blank disk.
+fn rack(alloc: Global, failing: Option<Failing>) -> Result<TestRack, NoMemory>
+    ensures { IfOk result (λ rack. ⟦<MemoryDisk as Disk>⟧.seen rack.disk ≡ []) }
+{
+    let Failing {
+        calls,
+        written,
+        signs,
+        ..
+    } = failing.unwrap_or(NONE);
+    let failures = Failures {
+        calls: CallList::from_slice(alloc, calls)?,
+        written: CallList::from_slice(alloc, written)?,
+    };
+    Ok(Rack {
+        disk: MemoryDisk::new(alloc, ByteList::new(alloc), failures)?,
+        ring: FailingRing::derived(CallList::from_slice(alloc, signs)?),
+    })
+}
+
+/// So many racks with blank disks.
+pub(crate) fn racks(
+    alloc: Global,
+    count: usize,
+    failing: Failing,
+) -> Result<Vec<TestRack>, NoMemory>
+    ensures count { IfOk result (λ racks. length racks.items ≡ count) }
+    ensures blank { IfOk result (λ racks. AreBlank ⟦<MemoryDisk as Disk>⟧.tells ⟦<MemoryDisk as Disk>⟧.seen
+        racks.items) }
+{
+    let mut racks = Vec::with_capacity(alloc, count)?;
+    for place in 0..count {
+        let failing = if place == failing.place {
+            Some(failing)
+        } else {
+            None
+        };
+        racks.push(rack(alloc, failing)?)?;
+    }
+    Ok(racks)
+}
+
+/// The roster's platforms, which have written nothing.
+pub(crate) fn world(alloc: Global, failing: Failing) -> Result<TestWorld, Fail>
+    ensures { IfOk result (λ world. world.fates ≡ []) }
+{
+    let Some(roster) = roster_in(alloc, ROSTER)? else {
+        return Err("a roster".into());
+    };
+    let racks = racks(alloc, 16 * roster.platforms().len(), failing)?;
+    match TestWorld::open(alloc, roster, racks) {
+        Ok(world) => Ok(world),
+        Err(_) => Err("a world".into()),
+    }
+}
+
+/// What a line is answered.
+fn answer<M: Machine>(alloc: Global, world: &mut World<M>, line: &str) -> Result<ByteList, Fail>
+    requires { length world.old.fates < 100 }
+    ensures { OnOk result (length world.new.fates ≡ length world.old.fates + 1) }
+{
+    match event_in(alloc, world.roster(), line.as_bytes())? {
+        Some(event) => Ok(world.step(alloc, event)?),
+        None => Err("an event".into()),
+    }
+}
+
+/// Takes lines, and compares each with its answer.
+fn take<M: Machine>(
+    rt: &(impl Abort + Alloc<A = Global>),
+    world: &mut World<M>,
+    events: &[(&str, &str)],
+) -> Result<(), Fail>
+    requires { length world.old.fates + length events.now < 100 }
+    ensures { OnOk result (length world.new.fates ≡ length world.old.fates + length events.now) }
+{
+    let alloc = rt.alloc();
+    for (line, wanted) in events {
+        let line = answer(alloc, world, line)?;
+        assert_eq!(rt; line.as_slice(), wanted.as_bytes());
+    }
+    Ok(())
+}
+
+/// A bill is handed over in a fresh world, and then these lines are taken: each is compared with its answer, and so are
+/// the bill lines.
+pub(crate) fn answers(
+    rt: &(impl Abort + Alloc<A = Global>),
+    failing: Failing,
+    events: &[(&str, &str)],
+    bills: &str,
+) -> Result<(), Fail>
+    requires { length events.now < 90 }
+{
+    let alloc = rt.alloc();
+    let mut world = world(alloc, failing)?;
+    take(rt, &mut world, &HANDED_OVER)?;
+    take(rt, &mut world, events)?;
+    let lines = world.bill_lines(alloc)?;
+    assert_eq!(rt; lines.as_slice(), bills.as_bytes());
+    Ok(())
+}
