@@ -1,6 +1,9 @@
+mod Rising
 mod RunLemmas
+mod Worlds
 mod DriveLemmas
+mod Measuring
 mod RehearseLemmas
 mod CanonLemmas
-mod SafeLemmas
 mod ReadLemmas
+mod SafeLemmas

@@ -1,7 +1,10 @@
 pub mod Command
 pub mod Output
+pub mod Racks
 pub mod Drive
+pub mod Needed
 pub mod Canon
 pub mod Rehearse
 pub mod Status
+pub mod Events
 pub mod Safe

@@ -10,8 +10,6 @@ pub data OutputEnd : Type 0 where
   complete : OutputEnd
   -- the line of this number is the first outside the grammar
   bad_line : ℕ → OutputEnd
-  -- so many rings of keys came, and so many are needed
-  few_rings : ℕ → ℕ → OutputEnd
   -- the text has no value, and why
   bad_json : ReadError → OutputEnd
   -- before a line, where memory or the sink fails

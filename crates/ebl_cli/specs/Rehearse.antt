@@ -1,14 +1,12 @@
--- What `rehearse` writes: the line that sums a rehearsal up, from the opening of its roster. Where too few rings of
--- keys came, nothing is written.
-use Rattle.std.specs.Prelude.{◌≡◌, ◌⊎◌, ℕ, List, [], MatchBool, length, nat_lt}
+-- What `rehearse` writes: the line that sums a rehearsal up, from the opening of its roster.
+use Rattle.std.specs.Prelude.{◌≡◌, ℕ, List, []}
 use Rattle.signed_envelope.specs.KeyRing.{Keys}
 use Rattle.platform_world.specs.World.{opening}
 use Rattle.rehearsal.specs.Roster.{made_roster}
 use Rattle.rehearsal.specs.Run as rehearsals
 use Rattle.rehearsal.specs.Run.{Rehearsal, RehearsalEnd, Rehearses}
 use Rattle.rehearsal.specs.Summary.{summary_line}
-use Rattle.ebl_cli.specs.Drive.{needed_rings}
-use Rattle.ebl_cli.specs.Output.{Output, complete, few_rings, stopped}
+use Rattle.ebl_cli.specs.Output.{Output, complete, stopped}
 
 -- the line of a whole rehearsal; one that stops writes nothing
 abbrev pub output_by : RehearsalEnd → List ℕ → Output
@@ -18,14 +16,7 @@ output_by rehearsals.stopped line = record { text = []; end = stopped }
 abbrev pub output_of : ℕ → Rehearsal → Output
 output_of bills run = output_by run.end (summary_line bills run)
 
--- it may stop before it looks at the rings, too
-abbrev pub Refuses : List Keys → Output → Type 0
-Refuses rings out =
-    (out ≡ record { text = []; end = stopped })
-    ⊎ (out ≡ record { text = []; end = few_rings (length rings) (needed_rings made_roster) })
-
 -- from this seed, with so many bills and steps, and with these rings
 abbrev pub WritesRehearsal : ℕ → ℕ → ℕ → List Keys → Output → Type 0
-WritesRehearsal seed bills steps rings out = MatchBool (nat_lt (length rings) (needed_rings made_roster))
-    (Refuses rings out)
-    ((run : Rehearsal) × Rehearses seed bills steps (opening made_roster rings) run × (out ≡ output_of bills run))
+WritesRehearsal seed bills steps rings out =
+    (run : Rehearsal) × Rehearses seed bills steps (opening made_roster rings) run × (out ≡ output_of bills run)

@@ -3,7 +3,7 @@ ghost use Rattle.std.specs.Prelude.{◌≡◌, ◌≤◌, IfOk};
 ghost use Rattle.canonical_json.specs.View.{view};
 ghost use Rattle.ebl_base.specs.Faults.{Rose};
 ghost use Rattle.ebl_cli.specs.Canon.{Canonizes, canonical_lines};
-ghost use Rattle.ebl_cli.specs.Status.{EndsAs, EndsAsLast, IsCommandEnd};
+ghost use Rattle.ebl_cli.specs.Status.{EndsAs, EndsAsLast, IsCanonEnd};
 
 use crate::status::Status;
 use canonical_json::{Json, ReadError, read, write};
@@ -17,7 +17,7 @@ use std::alloc::Global;
 /// `BadJson` if and only if the text has no such value; then nothing is written.
 pub fn canon<K: Sink>(alloc: Global, text: &[u8], sink: &mut K) -> Status
     ensures ends { EndsAs result (Canonizes text.now) (K.written sink.old) (K.written sink.new) }
-    ensures after_read { IsCommandEnd result }
+    ensures end { IsCanonEnd result }
     ensures write_fault { result ≡ Status.WriteFault → Rose (K.faults sink.old) (K.faults sink.new) }
     ensures later { K.faults sink.old ≤ K.faults sink.new }
 {

@@ -3,7 +3,11 @@
 
 mod canon;
 mod command;
+mod drive;
+mod ended;
+mod opened;
 mod program;
+mod racks;
 mod reading;
 mod rehearse;
 mod run;

@@ -1,12 +1,15 @@
 //! The program around the top call: its words, its exit, and its line on standard error.
-ghost use Rattle.std.specs.Prelude.{◌≡◌};
+ghost use Rattle.std.specs.Prelude.{◌≡◌, true, IfOk};
+ghost use Rattle.ebl_cli.specs.Racks.{AllTell};
 ghost use Rattle.ebl_cli.specs.Status.{exit_of};
 
 use crate::run::run_ebl;
 use crate::status::Status;
 use canonical_json::ReadError;
-use ebl_base::NoMemory;
+use disk_model::{Failures, MemoryDisk};
+use ebl_base::{ByteList, CallList, NoMemory};
 use ebl_edge::{Sink, standard_input, standard_output};
+use journaled_shard::Rack;
 use std::alloc::Global;
 use std::io::Input;
 use std::process::ExitCode;
@@ -47,11 +50,12 @@ exponents; no name twice in an object; values nest at most 127 deep. The input i
 to its end before the first line is written.
 
 exits: 0 done; 2 usage; 3 a line is not a script line; 4 the input is too long;
-5 JSON is refused; 6 too few rings of keys; 10 read fault; 11 write fault; 12 no memory
+5 JSON is refused; 6 too few racks; 7 a disk is not blank; 8 a disk cannot be opened;
+10 read fault; 11 write fault; 12 no memory
 ";
 
-/// Sixteen rings for each of eight platforms.
-const MOST_RINGS: usize = 128;
+/// Sixteen racks for each of eight platforms.
+const MOST_RACKS: usize = 128;
 
 const VERSION: &str = "ebl 0.1.0\n";
 
@@ -88,23 +92,38 @@ fn run_words<R: Alloc<A = Global> + Input + Print>(rt: &R, words: &Vec<String>) 
     match words.as_slice() {
         [word] if word.as_str() == "--help" => put_text(&mut sink, HELP),
         [word] if word.as_str() == "--version" => put_text(&mut sink, VERSION),
-        _ => match rings(rt.alloc()) {
-            Ok(rings) => {
+        _ => match racks(rt.alloc()) {
+            Ok(racks) => {
                 let mut source = standard_input(rt);
-                run_ebl(rt.alloc(), words, &mut source, &mut sink, rings)
+                run_ebl(rt.alloc(), words, &mut source, &mut sink, racks).status
             }
             Err(NoMemory) => Status::NoMemory,
         },
     }
 }
 
-// The rings of the most platforms that a roster has, with keys that anybody can derive: they give no security.
-fn rings(alloc: Global) -> Result<Vec<KeyedRing>, NoMemory> {
-    let mut rings = Vec::with_capacity(alloc, MOST_RINGS)?;
-    for _ in 0..MOST_RINGS {
-        rings.push(KeyedRing::derived())?;
+// The racks of the most platforms that a roster has: blank disks in memory, which grow, and keys that anybody can
+// derive, which give no security.
+fn racks(alloc: Global) -> Result<Vec<Rack<MemoryDisk, KeyedRing>>, NoMemory>
+    ensures { IfOk result (λ racks. AllTell (λ _. true) racks.items) }
+{
+    let mut racks = Vec::with_capacity(alloc, MOST_RACKS)?;
+    for _ in 0..MOST_RACKS {
+        racks.push(rack(alloc)?)?;
     }
-    Ok(rings)
+    Ok(racks)
+}
+
+fn rack(alloc: Global) -> Result<Rack<MemoryDisk, KeyedRing>, NoMemory> {
+    let never = Failures {
+        calls: CallList::new(alloc),
+        written: CallList::new(alloc),
+    };
+    let disk = MemoryDisk::new(alloc, ByteList::new(alloc), never)?;
+    Ok(Rack {
+        disk,
+        ring: KeyedRing::derived(),
+    })
 }
 
 fn put_text<K: Sink>(sink: &mut K, text: &str) -> Status {
@@ -126,6 +145,8 @@ pub fn exit_of(status: Status) -> u8
         Status::TooLong => 4,
         Status::BadJson(_) => 5,
         Status::WrongRacks { .. } => 6,
+        Status::NotBlank(_) => 7,
+        Status::OpenFault(_) => 8,
         Status::ReadFault => 10,
         Status::WriteFault => 11,
         Status::NoMemory => 12,
@@ -142,6 +163,8 @@ fn report<R: Eprint>(rt: &R, status: Status) -> io::Result<()> {
         Status::WrongRacks { given, needed } => eprintln!(rt;
             "ebl: {given} racks, {needed} needed"
         ),
+        Status::NotBlank(place) => eprintln!(rt; "ebl: disk {place} is not blank"),
+        Status::OpenFault(place) => eprintln!(rt; "ebl: disk {place} cannot be opened"),
         Status::ReadFault => eprintln!(rt; "ebl: read fault"),
         Status::WriteFault => eprintln!(rt; "ebl: write fault"),
         Status::NoMemory => eprintln!(rt; "ebl: no memory"),

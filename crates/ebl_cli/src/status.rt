@@ -15,11 +15,16 @@ pub enum Status {
     /// `canon` alone: the input is no JSON that `canonical_json` reads, and why.
     BadJson(ReadError),
     /// The line of this number, counted from 1, is the first outside the grammar, or the line 100,001. The answers
-    /// before it stand, unless too few rings of keys came: then nothing does.
+    /// before it stand, unless too few racks came or a disk isn't blank: then nothing does.
     BadScript(u64),
-    /// Fewer rings of keys came than sixteen for each platform of the roster: how many came, and how many are needed.
-    /// Nothing was written. A bad line is told before it.
+    /// Fewer racks came than sixteen for each platform of the roster: how many came, and how many are needed. Nothing
+    /// was written. A bad line is told before it.
     WrongRacks { given: u64, needed: u64 },
+    /// The disk at this place, counted from 0, is the first of those needed that has a byte already. Nothing was
+    /// written. A bad line is told before it.
+    NotBlank(usize),
+    /// The disk at this place, counted from 0, failed while the disks were measured and opened. Nothing was written.
+    OpenFault(usize),
     /// The sink failed. What it took is whole lines and a first part of the next one.
     WriteFault,
     /// Memory ran out. What was written is whole lines.

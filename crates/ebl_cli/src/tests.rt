@@ -1,10 +1,14 @@
 //! The top call over memory: what is written, to the byte, and each status.
 use crate::command::command_of;
+use crate::ended::Ended;
 use crate::run::run_ebl;
 use crate::status::Status;
 use canonical_json::ReadError;
+use disk_model::{Failures, MemoryDisk};
 use ebl_base::{ByteList, CallList, NoMemory};
 use ebl_edge::{MemorySink, MemorySource, RepeatedSource};
+use journaled_shard::Rack;
+use platform_world::FateEnd;
 use std::alloc::Global;
 use std::process::Abort;
 use std::test::Fail;
@@ -60,16 +64,54 @@ fn text_of(alloc: Global, pieces: &[&str]) -> Result<ByteList, NoMemory> {
     Ok(text)
 }
 
-// So many rings of keys.
-fn rings(alloc: Global, count: usize) -> Result<Vec<KeyedRing>, NoMemory> {
-    let mut rings = Vec::with_capacity(alloc, count)?;
-    for _ in 0..count {
-        rings.push(KeyedRing::derived())?;
+type MemoryRack = Rack<MemoryDisk, KeyedRing>;
+
+// A rack whose disk has these bytes and fails at this call, if at one, with the bytes of a write done or not.
+fn rack(
+    alloc: Global,
+    bytes: &[u8],
+    fails: Option<u64>,
+    done: bool,
+) -> Result<MemoryRack, NoMemory> {
+    let mut calls = CallList::new(alloc);
+    let mut written = CallList::new(alloc);
+    if let Some(call) = fails {
+        calls.push(call)?;
+        if done {
+            written.push(call)?;
+        }
     }
-    Ok(rings)
+    let bytes = ByteList::from_slice(alloc, bytes)?;
+    let disk = MemoryDisk::new(alloc, bytes, Failures { calls, written })?;
+    Ok(Rack {
+        disk,
+        ring: KeyedRing::derived(),
+    })
 }
 
-// Runs the command of these words on the pieces of a text with rings for three platforms, and compares the status and
+// So many racks with blank disks.
+fn racks(alloc: Global, count: usize) -> Result<Vec<MemoryRack>, NoMemory> {
+    let mut racks = Vec::with_capacity(alloc, count)?;
+    for _ in 0..count {
+        racks.push(rack(alloc, b"", None, false)?)?;
+    }
+    Ok(racks)
+}
+
+// 48 racks, of which the one at this place is another.
+fn racks_with(
+    rt: &impl Abort,
+    alloc: Global,
+    place: usize,
+    other: MemoryRack,
+) -> Result<Vec<MemoryRack>, NoMemory> {
+    let mut racks = racks(alloc, 48)?;
+    assert!(rt; place < racks.len());
+    racks[place] = other;
+    Ok(racks)
+}
+
+// Runs the command of these words on the pieces of a text with racks for three platforms, and compares the status and
 // the bytes written.
 fn expect_of(
     rt: &impl Abort,
@@ -82,7 +124,7 @@ fn expect_of(
     expect_with(rt, alloc, word, text, 48, status, written)
 }
 
-// The same with so many rings.
+// The same with so many racks.
 fn expect_with(
     rt: &impl Abort,
     alloc: Global,
@@ -92,16 +134,35 @@ fn expect_with(
     status: Status,
     written: &[u8],
 ) -> Result<(), NoMemory> {
+    let ended = ended_of(rt, alloc, word, text, racks(alloc, count)?, written)?;
+    assert_eq!(rt; ended.status, status);
+    assert_eq!(rt; ended.racks.len(), count);
+    Ok(())
+}
+
+// Runs the command of these words on the pieces of a text with these racks, and compares the bytes written.
+fn ended_of(
+    rt: &impl Abort,
+    alloc: Global,
+    word: &str,
+    text: &[&str],
+    racks: Vec<MemoryRack>,
+    written: &[u8],
+) -> Result<Ended<MemoryDisk, KeyedRing>, NoMemory> {
     let words = words_of(alloc, word)?;
     let mut source = MemorySource::new(text_of(alloc, text)?, CallList::new(alloc));
     let mut sink = MemorySink::new(alloc, CallList::new(alloc));
-    let rings = rings(alloc, count)?;
-    assert_eq!(rt;
-        run_ebl(alloc, &words, &mut source, &mut sink, rings),
-        status
-    );
+    let ended = run_ebl(alloc, &words, &mut source, &mut sink, racks);
     assert!(rt; sink.written() == written);
-    Ok(())
+    Ok(ended)
+}
+
+// How often the disk at this place failed.
+fn faults_at(ended: &Ended<MemoryDisk, KeyedRing>, place: usize) -> Option<u64> {
+    match ended.racks.as_slice().get(place) {
+        Some(rack) => Some(rack.disk.faults()),
+        None => None,
+    }
 }
 
 // Runs `drive` on the pieces of a script.
@@ -181,7 +242,7 @@ fn transfer_to_another_platform(rt: HostRuntime) -> Result<(), Fail> {
 }
 
 #[test]
-fn too_few_rings(rt: HostRuntime) -> Result<(), Fail> {
+fn too_few_racks(rt: HostRuntime) -> Result<(), Fail> {
     let alloc = rt.alloc();
     let lacking = Status::WrongRacks {
         given: 47,
@@ -194,6 +255,97 @@ fn too_few_rings(rt: HostRuntime) -> Result<(), Fail> {
     expect_with(&rt, alloc, "drive", bad, 47, Status::BadScript(3), b"")?;
     expect_with(&rt, alloc, "drive", &[THREE], 48, Status::Done, b"")?;
     expect_with(&rt, alloc, "drive", &[THREE], 49, Status::Done, b"")?;
+    Ok(())
+}
+
+// Racks with one that is another, by its place, its bytes and the call at which its disk fails: how a script ends on
+// them, and one with a bad third line.
+#[test]
+fn disks_that_do_not_serve(rt: HostRuntime) -> Result<(), Fail> {
+    let alloc = rt.alloc();
+    let bad = Status::BadScript(3);
+    let rows: [(usize, &[u8], Option<u64>, Status, Status); 5] = [
+        (5, b"\x01\x00", None, Status::NotBlank(5), bad),
+        (47, b"\x00", None, Status::NotBlank(47), bad),
+        // It can't be measured; it isn't made a journal.
+        (5, b"", Some(0), Status::OpenFault(5), Status::OpenFault(5)),
+        (0, b"", Some(2), Status::OpenFault(0), Status::OpenFault(0)),
+        (
+            47,
+            b"",
+            Some(3),
+            Status::OpenFault(47),
+            Status::OpenFault(47),
+        ),
+    ];
+    for (place, bytes, fails, wanted, wanted_of_bad) in rows {
+        for (script, wanted) in [
+            (&[THREE, SIGN][..], wanted),
+            (&[THREE, SIGN, "{}\n"][..], wanted_of_bad),
+        ] {
+            let racks = racks_with(&rt, alloc, place, rack(alloc, bytes, fails, false)?)?;
+            let ended = ended_of(&rt, alloc, "drive", script, racks, b"")?;
+            assert_eq!(rt; ended.status, wanted, "at disk {place}");
+            assert_eq!(rt; ended.racks.len(), 48);
+            assert!(rt; ended.fates.is_empty());
+            let faults = u64::from(fails.is_some());
+            assert_eq!(rt; faults_at(&ended, place), Some(faults), "at disk {place}");
+        }
+    }
+    Ok(())
+}
+
+const DELIVERED_AGAIN: &str =
+    r#"{"at":"ALPH","bill":1,"do":"ISSUE","now":2000,"party":"ALPH/CARRIER","recipient":"ALPH/EXPORT"}
+{"at":"ALPH","bill":1,"do":"ENDORSE","now":3000,"party":"ALPH/EXPORT","recipient":"BETA/IMPORT"}
+{"at":"ALPH","bill":1,"do":"TRANSFER","now":4000,"party":"ALPH/EXPORT","recipient":"BETA/IMPORT"}
+{"deliver":1}
+{"deliver":1}
+{"deliver":2}
+"#;
+
+const BEFORE_THE_FAULT: &str =
+    r#"{"event":2,"reply":"DONE","sent":[],"view":{"bill":1,"entries":0,"holder":"ALPH/EXPORT","place":"HELD","possessor":"ALPH/EXPORT","state":"LIVE"}}
+{"event":3,"reply":"DONE","sent":[],"view":{"bill":1,"entries":0,"holder":"BETA/IMPORT","place":"HELD","possessor":"ALPH/EXPORT","state":"LIVE"}}
+{"event":4,"reply":"DONE","sent":[1],"view":{"bill":1,"entries":0,"holder":"BETA/IMPORT","place":"PARTING","possessor":"BETA/IMPORT","state":"LIVE"}}
+{"event":5,"reply":"DISK","sent":[]}
+"#;
+
+const BEHIND_THE_FAULT: &str =
+    r#"{"event":7,"reply":"DONE","sent":[],"view":{"bill":1,"entries":1,"holder":"BETA/IMPORT","place":"GONE","possessor":"BETA/IMPORT","state":"LIVE"}}
+{"acts":["BETA"],"bill":1,"end":"BETA","entries":1,"forked":false,"holder":"BETA/IMPORT","possessor":"BETA/IMPORT","state":"LIVE"}
+"#;
+
+// The first append at BETA is that of a Taken. Behind one call of the measuring and three of the opening, its write of
+// the gate is call 6. The bill's shard has the number 4, so its disk is at 20.
+#[test]
+fn failing_gate_write(rt: HostRuntime) -> Result<(), Fail> {
+    let alloc = rt.alloc();
+    let rows = [
+        (
+            true,
+            "{\"event\":6,\"reply\":\"DUPE\",\"sent\":[2],\"standing\":false}\n",
+        ),
+        (
+            false,
+            "{\"event\":6,\"reply\":\"RECE\",\"sent\":[2],\"standing\":false}\n",
+        ),
+    ];
+    for (done, answer) in rows {
+        let racks = racks_with(&rt, alloc, 20, rack(alloc, b"", Some(6), done)?)?;
+        let script = [THREE, SIGN, DELIVERED_AGAIN];
+        let written = text_of(alloc, &[SIGNED, BEFORE_THE_FAULT, answer, BEHIND_THE_FAULT])?;
+        let ended = ended_of(&rt, alloc, "drive", &script, racks, written.as_slice())?;
+        assert_eq!(rt; ended.status, Status::Done);
+        let fates = ended.fates.as_slice();
+        assert!(rt; fates.len() == 7);
+        assert_eq!(rt; fates[4].end, FateEnd::Failed);
+        assert_eq!(rt; fates[5].end, FateEnd::Whole);
+        // A frame that was written whole is kept when the journal is read again.
+        let kept: &[u32] = if done { &[4] } else { &[] };
+        assert!(rt; fates[5].kept.as_slice() == kept);
+        assert_eq!(rt; faults_at(&ended, 20), Some(1));
+    }
     Ok(())
 }
 
@@ -248,18 +400,18 @@ fn words_and_lengths(rt: HostRuntime) -> Result<(), Fail> {
     let mut source = MemorySource::new(ByteList::new(alloc), CallList::new(alloc));
     let mut sink = MemorySink::new(alloc, CallList::new(alloc));
     assert_eq!(rt;
-        run_ebl(alloc, &none, &mut source, &mut sink, rings(alloc, 16)?),
+        run_ebl(alloc, &none, &mut source, &mut sink, racks(alloc, 16)?).status,
         Status::Usage
     );
     let unknown = words_of(alloc, "driven")?;
     assert_eq!(rt;
-        run_ebl(alloc, &unknown, &mut source, &mut sink, rings(alloc, 16)?),
+        run_ebl(alloc, &unknown, &mut source, &mut sink, racks(alloc, 16)?).status,
         Status::Usage
     );
     let drive = words_of(alloc, "drive")?;
     let mut long = RepeatedSource::new(b' ', 67_108_865);
     assert_eq!(rt;
-        run_ebl(alloc, &drive, &mut long, &mut sink, rings(alloc, 16)?),
+        run_ebl(alloc, &drive, &mut long, &mut sink, racks(alloc, 16)?).status,
         Status::TooLong
     );
     assert!(rt; sink.written().is_empty());
@@ -276,7 +428,7 @@ fn faults_of_the_outside(rt: HostRuntime) -> Result<(), Fail> {
         let fails = CallList::from_slice(alloc, &[call]).map_err(|_| "memory")?;
         let mut source = MemorySource::new(text_of(alloc, &script)?, CallList::new(alloc));
         let mut sink = MemorySink::tearing(alloc, fails);
-        let status = run_ebl(alloc, &words, &mut source, &mut sink, rings(alloc, 16)?);
+        let status = run_ebl(alloc, &words, &mut source, &mut sink, racks(alloc, 16)?).status;
         // Four answers and the bill lines are put.
         let wanted = if call < 5 {
             Status::WriteFault
@@ -293,7 +445,7 @@ fn faults_of_the_outside(rt: HostRuntime) -> Result<(), Fail> {
         let fails = CallList::from_slice(alloc, &[call]).map_err(|_| "memory")?;
         let mut source = MemorySource::new(text_of(alloc, &script)?, fails);
         let mut sink = MemorySink::new(alloc, CallList::new(alloc));
-        let status = run_ebl(alloc, &words, &mut source, &mut sink, rings(alloc, 16)?);
+        let status = run_ebl(alloc, &words, &mut source, &mut sink, racks(alloc, 16)?).status;
         // The script comes in one read, and its end in another.
         let wanted = if call < 2 {
             Status::ReadFault

@@ -2,7 +2,7 @@
 use Rattle.std.proofs.Common.{◌≡◌, ◌≤◌, length}
 use Rattle.ebl_base.specs.Parts.{parts_of}
 use Rattle.ebl_cli.specs.Drive.{first_bad}
-use Rattle.ebl_cli.proofs.run.refuse.Given as goal
+use Rattle.ebl_cli.proofs.drive.first_bad.Given as goal
 
 abbrev pub invariant-loop-line : goal.invariant-loop-line
 invariant-loop-line l = record {
