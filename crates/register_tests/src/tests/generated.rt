@@ -6,7 +6,7 @@ use crate::tests::making::{Step, name, players};
 use ebl_base::Checksum;
 use std::test::Fail;
 
-const DIARIES: usize = 10;
+const DIARIES: usize = 50;
 
 const FRAMES: usize = 40;
 

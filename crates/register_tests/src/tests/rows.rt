@@ -16,6 +16,8 @@ type Row = (Step, PlaceTag, usize, u8, usize, bool);
 fn assert_rows<R: Abort>(rt: &R, alloc: Global, rows: &[Row]) -> Result<(), Fail> {
     let cast = players()?;
     let mut pair = Pair::new(alloc);
+    assert_eq!(rt; pair.register.tag(BILL), PlaceTag::Absent);
+    assert_same(rt, alloc, &pair, BILL)?;
     for (step, tag, known, parting, since, acts) in rows {
         pair.write(alloc, cast.frame(alloc, BILL, *step)?)?;
         let frames = pair.diary.len();
