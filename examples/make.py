@@ -508,7 +508,7 @@ def not_the_carrier():
 
 
 def documents_of_no_bill():
-    """A document for each fault; the first member that is wrong is told."""
+    """A document for each fault; the first member that is wrong is reported."""
     script = Script("documents_of_no_bill")
     wrong = {"transportDocumentReference": ("", "123456789012345678901", 1), "carrierCode": ("", "OCNLL", "ocnl", None),
              "carrierCodeListProvider": ("SCAC", 1), "transportDocumentTypeCode": ("AWB", 1),

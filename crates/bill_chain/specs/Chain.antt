@@ -83,13 +83,13 @@ destination chain = platform_with (title_after_chain chain)
 
 -- ---- chains of a bill
 
--- the transactions are taken on a title, none of them moves, and this is the title after them
+-- the transactions are allowed on a title, none of them moves, and this is the title after them
 abbrev pub Stays : Option Title → List Transaction → Option Title → Type 0
 Stays before [] after = after ≡ before
 Stays before (t ∷ ts) after =
     (title : Title) × (step_title before t ≡ Ok title) × (moves before title ≡ false) × Stays (Some title) ts after
 
--- the transactions are taken on a title; the last of them moves, and no other does
+-- the transactions are allowed on a title; the last of them moves, and no other does
 pub record MovesAtItsEnd (before : Option Title) (transactions : List Transaction) : Type 0 where
   pub front : List Transaction
   pub last : Transaction
@@ -97,7 +97,7 @@ pub record MovesAtItsEnd (before : Option Title) (transactions : List Transactio
   pub between : Option Title
   pub stays : Stays before front between
   pub after : Title
-  pub taken : step_title between last ≡ Ok after
+  pub allowed : step_title between last ≡ Ok after
   pub moved : moves between after ≡ true
 
 -- the platform whose turn it is: that of the possessor after a chain, and at first that of the first actor

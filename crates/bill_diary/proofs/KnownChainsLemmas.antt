@@ -80,7 +80,7 @@ settled-parted_entries entry (Declined bill other code reason evidence ∷ h) = 
 
 -- ---- one record more
 
--- the known chain where one more is told, if any is
+-- the known chain where one more is recorded, if any is
 pub known-told : (more : Option (List ChainLink)) (chains : List (List ChainLink))
     → longest (option_to_list more ++ chains) ≡ known_with more (longest chains)
 known-told None chains = refl

@@ -27,7 +27,7 @@ abbrev pub newest : List (List ChainLink) → Option (List ChainLink)
 newest [] = None
 newest (chain ∷ chains) = Some chain
 
--- what holds of a sound history: the newest chain that is told is the known one; a Settled of the entry that is parting
+-- what holds of a sound history: the newest chain that is recorded is the known one; a Settled of the entry that is parting
 -- would tell the known chain followed by it; and where an entry was parted a chain is known
 pub record TellsKnown (h : List Record) : Type 0 where
   pub newest_is : known h ≡ newest (told h)

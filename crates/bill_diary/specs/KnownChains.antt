@@ -28,7 +28,7 @@ settled_among entry parted =
     option_and_then (λ departure. departure.chain)
     (find (λ departure. checksum_eq departure.entry entry) (reverse parted))
 
--- the known chain where one more is told, if any is
+-- the known chain where one more is recorded, if any is
 abbrev pub known_with : Option (List ChainLink) → Option (List ChainLink) → Option (List ChainLink)
 known_with None known1 = known1
 known_with (Some chain) known1 = Some (longer chain known1)

@@ -62,7 +62,7 @@ most_with SurrenderForDelivery = MAX_ENTRY_TRANSACTIONS - 2
 most_with SurrenderForAmendment = MAX_ENTRY_TRANSACTIONS - 2
 most_with kind = MAX_ENTRY_TRANSACTIONS - 1
 
--- the bill is held; the transaction is well-formed, is taken, doesn't move, and stays within the limit
+-- the bill is held; the transaction is well-formed, is allowed, doesn't move, and stays within the limit
 pub record MayAct (h : List Record) (t : Transaction) : Type 0 where
   pub known : List ChainLink
   pub since : List Transaction
@@ -70,7 +70,7 @@ pub record MayAct (h : List Record) (t : Transaction) : Type 0 where
   pub before : Option Title
   pub title : fold (transactions_of known ++ since) ≡ Ok before
   pub after : Title
-  pub taken : step_title before t ≡ Ok after
+  pub allowed : step_title before t ≡ Ok after
   pub stays : moves before after ≡ false
   pub form : IsTransaction t
   pub room : length since + 1 ≤ most_with t.kind
@@ -114,7 +114,7 @@ pub record MayPart (me : PlatformCode) (h : List Record) (bill : Checksum) (link
   pub before : Option Title
   pub title : fold (transactions_of known ++ since) ≡ Ok before
   pub after : Title
-  pub taken : step_title before last ≡ Ok after
+  pub allowed : step_title before last ≡ Ok after
   pub moved : moves before after ≡ true
   pub link_is : LinkIsItsText link
   pub manifest_is : ManifestIsItsText text manifest

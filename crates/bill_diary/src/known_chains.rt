@@ -52,7 +52,7 @@ impl<'a> KnownChains<'a> {
         self.known
     }
 
-    // One chain more is told, if any is: the known one stays where it is longer.
+    // One more chain is recorded, if any is: the known one stays where it is longer.
     fn tell(&mut self, more: Option<Links<'a>>)
         ensures known { self.new.known ≡ known_with more.entry self.old.known }
         ensures begun { self.new.begun ≡ self.old.begun }

@@ -172,7 +172,7 @@ ended_by_one links me (Acted bill t) h named sound among K made place e =
     let folds : fold (transactions_of K ++ made) ≡ Ok sound.0.before
     = ap (λ (c : List ChainLink). fold (transactions_of c ++ made)) chains
     ∙ ap (λ (ts : List Transaction). fold (transactions_of sound.0.known ++ ts)) acts ∙ sound.0.title in
-    absurd (refused_when_ended sound.0.before t sound.0.after (ap is_ended (sym folds) ∙ e) sound.0.taken)
+    absurd (refused_when_ended sound.0.before t sound.0.after (ap is_ended (sym folds) ∙ e) sound.0.allowed)
 ended_by_one links me (Parted bill link manifest text) h named sound among K made place e =
     let two = sym place ∙ sound.0.held in
     let chains : K ≡ sound.0.known = cc two in
@@ -180,7 +180,7 @@ ended_by_one links me (Parted bill link manifest text) h named sound among K mad
     let folds : fold (transactions_of K ++ made) ≡ Ok sound.0.before
     = ap (λ (c : List ChainLink). fold (transactions_of c ++ made)) chains
     ∙ ap (λ (ts : List Transaction). fold (transactions_of sound.0.known ++ ts)) acts ∙ sound.0.title in
-    absurd (refused_when_ended sound.0.before sound.0.last sound.0.after (ap is_ended (sym folds) ∙ e) sound.0.taken)
+    absurd (refused_when_ended sound.0.before sound.0.last sound.0.after (ap is_ended (sym folds) ∙ e) sound.0.allowed)
 ended_by_one links me (Settled bill entry) h named sound among K made place e =
     let two = sym sound.0.parting ∙ place in cc two
 ended_by_one links me (Regained bill entry) h named sound among K made place e =

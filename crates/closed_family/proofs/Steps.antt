@@ -71,7 +71,7 @@ step_acted links me h bill t s may =
     = subst (λ (made : List Transaction). fold (transactions_of may.known ++ made) ≡ Ok may.before)
     (sym there.2) may.title in
     let more : IsOn me (transactions_of may.known ++ since h ++ t ∷ [])
-    = on_more me (transactions_of may.known ++ since h) t may.before may.after held.titled folds may.taken may.stays in
+    = on_more me (transactions_of may.known ++ since h) t may.before may.after held.titled folds may.allowed may.stays in
     record {
       known_is = b.known_is;
       taken_under = b.taken_under;
@@ -178,7 +178,7 @@ step_parted links me h bill link manifest text named received among s may =
     moving = moves_away me (transactions_of may.known ++ since h) may.last may.before may.after held.titled
         (subst (λ (made : List Transaction). fold (transactions_of may.known ++ made) ≡ Ok may.before)
         (sym there.2) may.title)
-        may.taken may.moved
+        may.allowed may.moved
 
     whole : transactions_of may.known ++ since h ++ may.last ∷ [] ≡ transactions_of (may.known ++ link ∷ [])
     whole =

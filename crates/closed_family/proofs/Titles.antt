@@ -13,13 +13,13 @@ use Rattle.ebl_base.proofs.SameLemmas.{code_eq-Decides}
 use Rattle.title_fold.specs.declared.title.Title.{Title}
 use Rattle.title_fold.specs.declared.title.Title.TheVariants as titles
 use Rattle.title_fold.specs.Title.{possessor}
-use Rattle.title_fold.specs.Taken.{Takes}
+use Rattle.title_fold.specs.Allowed.{Allows}
 use Rattle.title_fold.specs.Step.{step_title}
 use Rattle.title_fold.specs.Fold.{Folded, fold}
 use Rattle.title_fold.specs.Movement.{moves}
 use Rattle.bill_chain.specs.Chain.{transactions_of, platform_with, destination}
-use Rattle.title_fold.proofs.StepLemmas.{taken-step_title}
-use Rattle.title_fold.proofs.FoldLemmas.{fold-push-taken}
+use Rattle.title_fold.proofs.StepLemmas.{allowed-step_title}
+use Rattle.title_fold.proofs.FoldLemmas.{fold-push-allowed}
 use Rattle.closed_family.proofs.Standing.{IsOn}
 
 -- ---- the transactions of a chain
@@ -45,14 +45,14 @@ same_before ts before title a b = let both = sym b ∙ a in cc both
 pub on_sign : (me : PlatformCode) (t : Transaction) → t.kind ≡ Sign → t.recipient ≡ None → t.actor.platform ≡ me
     → IsOn me (t ∷ [])
 on_sign me t kind recipient actor =
-    let with_none : Takes None Sign t.actor t.recipient (titles.Signed t.actor)
-    = subst (λ (r : Option Party). Takes None Sign t.actor r (titles.Signed t.actor)) (sym recipient) refl in
-    let takes : Takes None t.kind t.actor t.recipient (titles.Signed t.actor)
-    = subst (λ (k : Kind). Takes None k t.actor t.recipient (titles.Signed t.actor)) (sym kind) with_none in
+    let with_none : Allows None Sign t.actor t.recipient (titles.Signed t.actor)
+    = subst (λ (r : Option Party). Allows None Sign t.actor r (titles.Signed t.actor)) (sym recipient) refl in
+    let takes : Allows None t.kind t.actor t.recipient (titles.Signed t.actor)
+    = subst (λ (k : Kind). Allows None k t.actor t.recipient (titles.Signed t.actor)) (sym kind) with_none in
     record {
       title = titles.Signed t.actor;
-      folds = fold-push-taken [] t None (titles.Signed t.actor) refl
-          (taken-step_title None t (titles.Signed t.actor) takes);
+      folds = fold-push-allowed [] t None (titles.Signed t.actor) refl
+          (allowed-step_title None t (titles.Signed t.actor) takes);
       on = actor;
     }
 
@@ -75,7 +75,7 @@ on_more me ts t before after on folds taken stays =
     let stayed = subst (λ (b : Option Title). moves b after ≡ false) was stays in
     record {
       title = after;
-      folds = fold-push-taken ts t before after folds taken;
+      folds = fold-push-allowed ts t before after folds taken;
       on = sym (not_moved on.title after stayed) ∙ on.on;
     }
 
@@ -103,7 +103,7 @@ moves_away me ts t before after on folds taken moving =
     let gone = subst (λ (b : Option Title). moves b after ≡ true) was moving in
     record {
       to = (possessor after).platform;
-      goes = ap platform_with (fold-push-taken ts t before after folds taken);
+      goes = ap platform_with (fold-push-allowed ts t before after folds taken);
       away = λ (same : (possessor after).platform ≡ me). moved on.title after gone (on.on ∙ sym same);
     }
 

@@ -20,13 +20,13 @@ abbrev pub is_signed : List Record → Bool
 is_signed h = list_any signs h
 
 -- whether a record is a Parted of this entry
-abbrev pub parts : Checksum → Record → Bool
-parts name (Parted bill link manifest manifest_text) = checksum_eq link.name name
-parts name r = false
+abbrev pub parts_entry : Checksum → Record → Bool
+parts_entry name (Parted bill link manifest manifest_text) = checksum_eq link.name name
+parts_entry name r = false
 
 -- whether the entry was parted on the platform
 abbrev pub is_parted : Checksum → List Record → Bool
-is_parted name h = list_any (parts name) h
+is_parted name h = list_any (parts_entry name) h
 
 -- an entry was parted when this was the known chain
 abbrev pub PartedOn : List ChainLink → ChainLink → List Record → Type 0

@@ -14,13 +14,13 @@ use Rattle.closed_family.specs.declared.family.Member.{Member}
 use Rattle.closed_family.specs.declared.lacking.Lacking.{Lacking}
 use Rattle.closed_family.specs.declared.verdict.Lack.{Lack}
 use Rattle.closed_family.specs.declared.verdict.Lack.TheVariants as lacks
-use Rattle.closed_family.specs.Histories.{parts, is_parted}
+use Rattle.closed_family.specs.Histories.{parts_entry, is_parted}
 use Rattle.closed_family.specs.Closed.{Histories}
 use Rattle.closed_family.specs.Family.{histories_of}
 
 -- whether a record is the one that says this of an entry
 abbrev pub says : Lack → Checksum → Record → Bool
-says lacks.Parted entry r = parts entry r
+says lacks.Parted entry r = parts_entry entry r
 says lacks.Taken entry r = takes entry r
 says lacks.Declined entry r = declines entry r
 
@@ -41,7 +41,7 @@ unparted at (link ∷ links) =
     unless_it_stands (is_parted link.name (at link.entry.platform)) link.entry.platform lacks.Parted link
     ++ unparted at links
 
--- the same, where a chain is told
+-- the same, where a chain is recorded
 abbrev pub unparted_of : Histories → Option (List ChainLink) → List Lacking
 unparted_of at None = []
 unparted_of at (Some chain) = unparted at chain
@@ -51,7 +51,7 @@ abbrev pub unanswered : (PlatformCode → Bool) → Lack → Option PlatformCode
 unanswered stands what (Some to) (Some link) = unless_it_stands (stands to) to what link
 unanswered stands what to link = []
 
--- the same, where a chain is told
+-- the same, where a chain is recorded
 abbrev pub unanswered_of : (PlatformCode → Bool) → Lack → Option (List ChainLink) → List Lacking
 unanswered_of stands what None = []
 unanswered_of stands what (Some chain) = unanswered stands what (destination chain) (last_of chain)

@@ -41,24 +41,24 @@ reason_of-reason_text NotListed = refl
 reason_of-reason_text Bytes = refl
 
 -- at another entry it comes with the same code
-pub code_for-reason_at : (place : ℕ) (reason : Reason) → code_for (reason_at place reason) ≡ code_for reason
-code_for-reason_at place Body = refl
-code_for-reason_at place Document = refl
-code_for-reason_at place Length = refl
-code_for-reason_at place (Signature i) = refl
-code_for-reason_at place (Entry i) = refl
-code_for-reason_at place (Signer i) = refl
-code_for-reason_at place (Link i) = refl
-code_for-reason_at place (Bill i) = refl
-code_for-reason_at place Carrier = refl
-code_for-reason_at place (Platform i) = refl
-code_for-reason_at place (Fold i) = refl
-code_for-reason_at place (Move i) = refl
-code_for-reason_at place ManifestSignature = refl
-code_for-reason_at place ManifestForm = refl
-code_for-reason_at place ManifestNames = refl
-code_for-reason_at place Destination = refl
-code_for-reason_at place Party = refl
-code_for-reason_at place Parts = refl
-code_for-reason_at place NotListed = refl
-code_for-reason_at place Bytes = refl
+pub code_for-reason_at : (other : ℕ) (reason : Reason) → code_for (reason_at other reason) ≡ code_for reason
+code_for-reason_at other Body = refl
+code_for-reason_at other Document = refl
+code_for-reason_at other Length = refl
+code_for-reason_at other (Signature i) = refl
+code_for-reason_at other (Entry i) = refl
+code_for-reason_at other (Signer i) = refl
+code_for-reason_at other (Link i) = refl
+code_for-reason_at other (Bill i) = refl
+code_for-reason_at other Carrier = refl
+code_for-reason_at other (Platform i) = refl
+code_for-reason_at other (Fold i) = refl
+code_for-reason_at other (Move i) = refl
+code_for-reason_at other ManifestSignature = refl
+code_for-reason_at other ManifestForm = refl
+code_for-reason_at other ManifestNames = refl
+code_for-reason_at other Destination = refl
+code_for-reason_at other Party = refl
+code_for-reason_at other Parts = refl
+code_for-reason_at other NotListed = refl
+code_for-reason_at other Bytes = refl

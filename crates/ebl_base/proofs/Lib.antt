@@ -1,5 +1,5 @@
 pub mod CarrierLemmas
-mod PartsLemmas
+mod SegmentLemmas
 mod PartyLemmas
 pub mod SameLemmas
 pub mod FaultsLemmas

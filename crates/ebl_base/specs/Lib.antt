@@ -9,7 +9,7 @@ pub mod Checksum
 pub mod Reference
 pub mod Code
 pub mod Reason
-pub mod Parts
+pub mod Segments
 pub mod Signature
 pub mod Faults
 pub mod Calls

@@ -29,7 +29,7 @@ reason_text Parts = codes "PARTS"
 reason_text NotListed = codes "NOT_LISTED"
 reason_text Bytes = codes "BYTES"
 
--- the place of the entry in the chain, where the reason is of one
+-- the index of the entry in the chain, where the reason is of one
 abbrev pub reason_index : Reason → Option ℕ
 reason_index Body = None
 reason_index Document = None
@@ -54,26 +54,26 @@ reason_index Bytes = None
 
 -- the reason at another entry, where it is of one
 abbrev pub reason_at : ℕ → Reason → Reason
-reason_at place Body = Body
-reason_at place Document = Document
-reason_at place Length = Length
-reason_at place (Signature index) = Signature place
-reason_at place (Entry index) = Entry place
-reason_at place (Signer index) = Signer place
-reason_at place (Link index) = Link place
-reason_at place (Bill index) = Bill place
-reason_at place Carrier = Carrier
-reason_at place (Platform index) = Platform place
-reason_at place (Fold index) = Fold place
-reason_at place (Move index) = Move place
-reason_at place ManifestSignature = ManifestSignature
-reason_at place ManifestForm = ManifestForm
-reason_at place ManifestNames = ManifestNames
-reason_at place Destination = Destination
-reason_at place Party = Party
-reason_at place Parts = Parts
-reason_at place NotListed = NotListed
-reason_at place Bytes = Bytes
+reason_at other Body = Body
+reason_at other Document = Document
+reason_at other Length = Length
+reason_at other (Signature index) = Signature other
+reason_at other (Entry index) = Entry other
+reason_at other (Signer index) = Signer other
+reason_at other (Link index) = Link other
+reason_at other (Bill index) = Bill other
+reason_at other Carrier = Carrier
+reason_at other (Platform index) = Platform other
+reason_at other (Fold index) = Fold other
+reason_at other (Move index) = Move other
+reason_at other ManifestSignature = ManifestSignature
+reason_at other ManifestForm = ManifestForm
+reason_at other ManifestNames = ManifestNames
+reason_at other Destination = Destination
+reason_at other Party = Party
+reason_at other Parts = Parts
+reason_at other NotListed = NotListed
+reason_at other Bytes = Bytes
 
 -- the code with which a reason comes
 abbrev pub code_for : Reason → Code

@@ -4,7 +4,7 @@ ghost use Rattle.ebl_base.specs.Reason.{code_for, reason_at, reason_index, reaso
 
 use crate::code::Code;
 
-/// Why an envelope or a document isn't received. An index is the place of an entry in the chain, from 0.
+/// Why an envelope or a document isn't received. An index is that of an entry in the chain, from 0.
 #[derive(Clone, Copy, Debug, PartialEq, Eq)]
 pub enum Reason {
     /// The body is malformed.
@@ -113,7 +113,7 @@ impl Reason {
         }
     }
 
-    /// The place of the entry in the chain, from 0; `None` if the reason is of no entry.
+    /// The index of the entry in the chain, from 0; `None` if the reason is of no entry.
     pub fn index(self) -> Option<usize>
         ensures { result ≡ reason_index self }
     {
@@ -130,7 +130,7 @@ impl Reason {
         }
     }
 
-    /// The same reason of the entry at this place; a reason of no entry stays as it is.
+    /// The same reason of the entry with this index; a reason of no entry stays as it is.
     pub fn at(self, index: usize) -> Reason
         ensures { result ≡ reason_at index self }
     {

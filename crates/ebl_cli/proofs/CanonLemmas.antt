@@ -13,7 +13,7 @@ use Rattle.ebl_cli.specs.declared.status.Status.TheVariants.{Done, Usage, ReadFa
 use Rattle.ebl_cli.specs.Output.{complete, bad_json, stopped, Wrote}
 use Rattle.ebl_cli.specs.Canon.{Canonizes, IsRefusal, canonical_lines}
 use Rattle.ebl_cli.specs.Status.{EndsAs, EndsAsLast, IsBeforeWrite, IsCanonEnd, IsCommandEnd, Outputs}
-use Rattle.ebl_base.specs.Parts.{parts_of}
+use Rattle.ebl_base.specs.Segments.{segments_of}
 use Rattle.platform_world.specs.declared.fate.Fate.{Fate}
 use Rattle.ebl_cli.specs.Drive.{Refuses, WritesRun, racks_for, serve}
 use Rattle.ebl_cli.proofs.DriveLemmas.{EndsAs-wider, never_begun, stops_at_once}
@@ -56,10 +56,10 @@ EndsAs-canon status text fates old new none ends =
 pub command_stops : (command : Command) (rings : List Keys) (lengths : List ℕ) (text : List ℕ) (now : Option (List ℕ))
     → Wrote (Outputs (Some command) rings lengths [] text) stopped now now
 command_stops Drive rings lengths text now =
-    (record { text = []; end = stopped }, drives (serve (racks_for (parts_of 10 text)) lengths), refl, Appends-nil now)
+    (record { text = []; end = stopped }, drives (serve (racks_for (segments_of 10 text)) lengths), refl, Appends-nil now)
   where
     drives : (served : Bool) → MatchBool served (WritesRun text rings [] (record { text = []; end = stopped }))
-        (Refuses (parts_of 10 text) [] (record { text = []; end = stopped }))
+        (Refuses (segments_of 10 text) [] (record { text = []; end = stopped }))
     drives true = (never_begun, stops_at_once text rings, refl)
     drives false = (refl, inl refl)
 command_stops Canon rings lengths text now =

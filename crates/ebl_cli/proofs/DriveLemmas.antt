@@ -5,7 +5,7 @@ use Rattle.std.proofs.lemmas.Bool.{false≢true, le-leb, leb-true}
 use Rattle.std.proofs.lemmas.List.{length-map}
 use Rattle.std.specs.Option.{option_map_or}
 use Rattle.std.proofs.KnownBytes.{Appends-nil}
-use Rattle.ebl_base.specs.Parts.{parts_of}
+use Rattle.ebl_base.specs.Segments.{segments_of}
 use Rattle.signed_envelope.specs.KeyRing.{Keys}
 use Rattle.party_roster.specs.RosterRecord.{RosterRecord}
 use Rattle.platform_world.specs.declared.fate.Fate.{Fate}
@@ -126,33 +126,33 @@ after_open_ends (BadJson fault) is = absurd is
 
 -- of a script with this roster
 pub bad_behind : (script line : List ℕ) (lines : List (List ℕ)) (roster : RosterRecord)
-    → parts_of 10 script ≡ line ∷ lines → roster_in line ≡ Some roster
-    → first_bad roster 1 lines ≡ first_bad_line (parts_of 10 script)
+    → segments_of 10 script ≡ line ∷ lines → roster_in line ≡ Some roster
+    → first_bad roster 1 lines ≡ first_bad_line (segments_of 10 script)
 bad_behind script line lines roster parts is =
     sym (ap first_bad_line parts
     ∙ ap (λ (o : Option RosterRecord). option_map_or (λ (r : RosterRecord). first_bad r 1 lines) o (Some 1)) is)
 
 pub racks_behind : (script line : List ℕ) (lines : List (List ℕ)) (roster : RosterRecord)
-    → parts_of 10 script ≡ line ∷ lines → roster_in line ≡ Some roster
-    → racks_for (parts_of 10 script) ≡ racks_needed roster
+    → segments_of 10 script ≡ line ∷ lines → roster_in line ≡ Some roster
+    → racks_for (segments_of 10 script) ≡ racks_needed roster
 racks_behind script line lines roster parts is =
     ap racks_for parts ∙ ap (λ (o : Option RosterRecord). option_map_or racks_needed o 0) is
 
 -- of a script without one
-pub bad_first_line : (script line : List ℕ) (lines : List (List ℕ)) → parts_of 10 script ≡ line ∷ lines
-    → roster_in line ≡ None → first_bad_line (parts_of 10 script) ≡ Some 1
+pub bad_first_line : (script line : List ℕ) (lines : List (List ℕ)) → segments_of 10 script ≡ line ∷ lines
+    → roster_in line ≡ None → first_bad_line (segments_of 10 script) ≡ Some 1
 bad_first_line script line lines parts none =
     ap first_bad_line parts
     ∙ ap (λ (o : Option RosterRecord). option_map_or (λ (r : RosterRecord). first_bad r 1 lines) o (Some 1)) none
 
-pub bad_empty : (script : List ℕ) → script ≡ [] → first_bad_line (parts_of 10 script) ≡ Some 1
-bad_empty script empty = ap (λ (s : List ℕ). first_bad_line (parts_of 10 s)) empty
+pub bad_empty : (script : List ℕ) → script ≡ [] → first_bad_line (segments_of 10 script) ≡ Some 1
+bad_empty script empty = ap (λ (s : List ℕ). first_bad_line (segments_of 10 s)) empty
 
 -- ---- runs of a script
 
 -- it may stop at once
 pub stops_at_once : (script : List ℕ) (rings : List Keys) → RunsScript script rings [] never_begun
-stops_at_once script rings = of (parts_of 10 script)
+stops_at_once script rings = of (segments_of 10 script)
   where
     of : (lines : List (List ℕ)) → RunsLines lines rings [] never_begun
     of [] = inl (refl, refl)
@@ -167,14 +167,14 @@ runs_empty script rings empty =
     subst (λ (s : List ℕ). RunsScript s rings [] bad_at_once) (sym empty) (inr (refl, refl))
 
 pub runs_no_roster : (script line : List ℕ) (lines : List (List ℕ)) (rings : List Keys)
-    → parts_of 10 script ≡ line ∷ lines → roster_in line ≡ None → RunsScript script rings [] bad_at_once
+    → segments_of 10 script ≡ line ∷ lines → roster_in line ≡ None → RunsScript script rings [] bad_at_once
 runs_no_roster script line lines rings parts none =
     subst (λ (ls : List (List ℕ)). RunsLines ls rings [] bad_at_once) (sym parts)
     (inr (subst (λ (o : Option RosterRecord). OnRoster o rings lines [] bad_at_once) (sym none) (refl, refl)))
 
 -- behind its roster
 pub runs_behind_roster : (script line : List ℕ) (lines : List (List ℕ)) (roster : RosterRecord) (rings : List Keys)
-    (fates : List Fate) (run : Run) → parts_of 10 script ≡ line ∷ lines → roster_in line ≡ Some roster
+    (fates : List Fate) (run : Run) → segments_of 10 script ≡ line ∷ lines → roster_in line ≡ Some roster
     → RunsBehind roster lines rings fates run → RunsScript script rings fates run
 runs_behind_roster script line lines roster rings fates run parts is behind =
     subst (λ (ls : List (List ℕ)). RunsLines ls rings fates run) (sym parts) (of behind)
@@ -185,7 +185,7 @@ runs_behind_roster script line lines roster rings fates run parts is behind =
 
 -- ---- what was written
 
--- what is told of fewer outputs is told of more
+-- what is reported of fewer outputs is reported of more
 pub EndsAs-wider : (P Q : Output → Type 0) → ((out : Output) → P out → Q out) → (status : Status)
     (old new : Option (List ℕ)) → EndsAs status P old new → EndsAs status Q old new
 EndsAs-wider P Q wider Done old new (out, is, end, wrote) = (out, wider out is, end, wrote)
@@ -202,30 +202,30 @@ EndsAs-wider P Q wider TooLong old new wrote = wrote
 
 -- the text of a run of a script that the racks serve
 pub drives_run : (script : List ℕ) (rings : List Keys) (lengths : List ℕ) (fates : List Fate) (run : Run)
-    (status : Status) (old new : Option (List ℕ)) → serve (racks_for (parts_of 10 script)) lengths ≡ true
+    (status : Status) (old new : Option (List ℕ)) → serve (racks_for (segments_of 10 script)) lengths ≡ true
     → RunsScript script rings fates run → EndsAs status (λ out. out ≡ output_of run) old new
     → EndsAs status (Drives script rings lengths fates) old new
 drives_run script rings lengths fates run status old new served goes ends =
     EndsAs-wider (λ out. out ≡ output_of run) (Drives script rings lengths fates)
-    (λ out is. subst (λ (b : Bool). MatchBool b (WritesRun script rings fates out) (Refuses (parts_of 10 script) fates out))
+    (λ out is. subst (λ (b : Bool). MatchBool b (WritesRun script rings fates out) (Refuses (segments_of 10 script) fates out))
     (sym served) (run, goes, is)) status old new ends
 
 -- nothing, where they don't
 pub drives_nothing : (script : List ℕ) (rings : List Keys) (lengths : List ℕ) (fates : List Fate) (status : Status)
     (given : ℕ) (now : Option (List ℕ)) → given ≡ length lengths
-    → serve (racks_for (parts_of 10 script)) lengths ≡ false → fates ≡ []
+    → serve (racks_for (segments_of 10 script)) lengths ≡ false → fates ≡ []
     → IsCommandEnd status
-    → IsCausedBy status (first_bad_line (parts_of 10 script)) given (racks_for (parts_of 10 script))
-    (written_among (racks_for (parts_of 10 script)) lengths)
+    → IsCausedBy status (first_bad_line (segments_of 10 script)) given (racks_for (segments_of 10 script))
+    (written_among (racks_for (segments_of 10 script)) lengths)
     → EndsAs status (Drives script rings lengths fates) now now
 drives_nothing script rings lengths fates status given now given_is unserved none end caused = by status end caused
   where
     needed : ℕ
-    needed = racks_for (parts_of 10 script)
+    needed = racks_for (segments_of 10 script)
 
-    refuses : (out : Output) → Refuses (parts_of 10 script) fates out → Drives script rings lengths fates out
+    refuses : (out : Output) → Refuses (segments_of 10 script) fates out → Drives script rings lengths fates out
     refuses out so =
-        subst (λ (b : Bool). MatchBool b (WritesRun script rings fates out) (Refuses (parts_of 10 script) fates out))
+        subst (λ (b : Bool). MatchBool b (WritesRun script rings fates out) (Refuses (segments_of 10 script) fates out))
         (sym unserved) so
 
     serves_not : needed ≤ given → written_among needed lengths ≡ None → ⊥
@@ -234,7 +234,7 @@ drives_nothing script rings lengths fates status given now given_is unserved non
         false≢true (sym unserved ∙ served)
 
     by : (s : Status) → IsCommandEnd s
-        → IsCausedBy s (first_bad_line (parts_of 10 script)) given needed (written_among needed lengths)
+        → IsCausedBy s (first_bad_line (segments_of 10 script)) given needed (written_among needed lengths)
         → EndsAs s (Drives script rings lengths fates) now now
     by (BadScript n) is bad =
         let out : Output = record { text = []; end = bad_line n } in
@@ -463,16 +463,16 @@ ran_at_once {D} {G} seen may_leave disk_faults keys ring_faults IsRun racks ende
 -- what `drive` wrote, by whether the racks serve
 pub drives_by : (script : List ℕ) (rings : List Keys) (lengths : List ℕ) (fates : List Fate) (status : Status)
     (given : ℕ) (old new : Option (List ℕ)) → given ≡ length lengths → IsCommandEnd status
-    → IsCausedBy status (first_bad_line (parts_of 10 script)) given (racks_for (parts_of 10 script))
-    (written_among (racks_for (parts_of 10 script)) lengths)
-    → (serve (racks_for (parts_of 10 script)) lengths ≡ true → (run : Run) × RunsScript script rings fates run
+    → IsCausedBy status (first_bad_line (segments_of 10 script)) given (racks_for (segments_of 10 script))
+    (written_among (racks_for (segments_of 10 script)) lengths)
+    → (serve (racks_for (segments_of 10 script)) lengths ≡ true → (run : Run) × RunsScript script rings fates run
     × EndsAs status (λ out. out ≡ output_of run) old new)
-    → (serve (racks_for (parts_of 10 script)) lengths ≡ false → (fates ≡ []) × (new ≡ old))
+    → (serve (racks_for (segments_of 10 script)) lengths ≡ false → (fates ≡ []) × (new ≡ old))
     → EndsAs status (Drives script rings lengths fates) old new
 drives_by script rings lengths fates status given old new given_is end caused ran refused =
-    on (serve (racks_for (parts_of 10 script)) lengths) refl
+    on (serve (racks_for (segments_of 10 script)) lengths) refl
   where
-    on : (b : Bool) → serve (racks_for (parts_of 10 script)) lengths ≡ b
+    on : (b : Bool) → serve (racks_for (segments_of 10 script)) lengths ≡ b
         → EndsAs status (Drives script rings lengths fates) old new
     on true served =
         let it = ran served in drives_run script rings lengths fates it.0 status old new served it.1 it.2

@@ -2,7 +2,7 @@
 use Rattle.std.proofs.Common.{◌≡◌, ◌≤◌, ◌*◌, ℕ, true, List, [], ◌∷◌, length, arith}
 use Rattle.std.specs.Prelude.{Option, Some, None, IfSome}
 use Rattle.std.proofs.lemmas.List.{length-map}
-use Rattle.ebl_base.specs.Parts.{parts_of}
+use Rattle.ebl_base.specs.Segments.{segments_of}
 use Rattle.signed_envelope.specs.KeyRing.{Keys}
 use Rattle.party_roster.specs.RosterRecord.{RosterRecord}
 use Rattle.journaled_shard.specs.declared.rack.Rack.{Rack}
@@ -18,7 +18,7 @@ use Rattle.std.specs.Option.{option_map_or}
 
 -- every run of a script for which enough rings came stays safe
 abbrev pub StaysSafeAlways : Type 0
-StaysSafeAlways = (script : List ℕ) (rings : List Keys) (run : Run) → HasEnoughRings (parts_of 10 script) rings
+StaysSafeAlways = (script : List ℕ) (rings : List Keys) (run : Run) → HasEnoughRings (segments_of 10 script) rings
     → IsRunOf script rings run → StaysSafe run
 
 -- as many rings came as racks
@@ -34,15 +34,15 @@ enough (line ∷ lines) rings many = of (roster_in line) many
 pub ran_safely : {D G : Type 0} → StaysSafeAlways → (seen : D → List ℕ) (may_leave : D → List ℕ → Type 0)
     (disk_faults : D → ℕ) (keys : G → Keys) (ring_faults : G → ℕ) (script : List ℕ) (racks : List (Rack D G))
     (ended : Ended D G) (old new : Option (List ℕ))
-    → serve (racks_for (parts_of 10 script)) (lengths_of seen racks) ≡ true
+    → serve (racks_for (segments_of 10 script)) (lengths_of seen racks) ≡ true
     → Ran seen may_leave disk_faults keys ring_faults
     (λ fates run. RunsScript script (keys_of keys racks) fates run) racks ended old new
     → RanSafely seen may_leave disk_faults keys ring_faults script racks ended old new
 ran_safely {D} {G} always seen may_leave disk_faults keys ring_faults script racks ended old new served ran =
-    let many : racks_for (parts_of 10 script) ≤ length (keys_of keys racks) =
+    let many : racks_for (segments_of 10 script) ≤ length (keys_of keys racks) =
     omega (
       arith,
-      serve_enough (racks_for (parts_of 10 script)) (lengths_of seen racks) served,
+      serve_enough (racks_for (segments_of 10 script)) (lengths_of seen racks) served,
       length-map racks (λ rack. length (seen rack.disk)),
       length-map racks (λ rack. keys rack.ring),
     ) in
@@ -50,7 +50,7 @@ ran_safely {D} {G} always seen may_leave disk_faults keys ring_faults script rac
       run = ran.run;
       runs = (
         ran.runs,
-        always script (keys_of keys racks) ran.run (enough (parts_of 10 script) (keys_of keys racks) many)
+        always script (keys_of keys racks) ran.run (enough (segments_of 10 script) (keys_of keys racks) many)
             (ended.fates, ran.runs),
       );
       wrote = ran.wrote;

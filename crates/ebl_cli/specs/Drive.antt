@@ -3,7 +3,7 @@
 use Rattle.std.specs.Prelude.{◌≡◌, ◌⊎◌, ◌+◌, ◌*◌, ℕ, Bool, ◌&&◌, List, [], ◌∷◌, ◌++◌, Option, Some, None, MatchBool, is_none, length, nat_le, if◌then◌else◌}
 use Rattle.std.specs.List.{flat_map}
 use Rattle.std.specs.Option.{option_map_or}
-use Rattle.ebl_base.specs.Parts.{parts_of}
+use Rattle.ebl_base.specs.Segments.{segments_of}
 use Rattle.signed_envelope.specs.KeyRing.{Keys}
 use Rattle.party_roster.specs.RosterRecord.{RosterRecord}
 use Rattle.world_script.specs.Event.{EventRecord}
@@ -77,6 +77,6 @@ Refuses lines fates out =
 -- what `drive` writes of a script with these rings and these lengths of disks, of which each platform takes sixteen in
 -- the roster's order
 abbrev pub Drives : List ℕ → List Keys → List ℕ → List Fate → Output → Type 0
-Drives script rings lengths fates out = MatchBool (serve (racks_for (parts_of 10 script)) lengths)
+Drives script rings lengths fates out = MatchBool (serve (racks_for (segments_of 10 script)) lengths)
     (WritesRun script rings fates out)
-    (Refuses (parts_of 10 script) fates out)
+    (Refuses (segments_of 10 script) fates out)

@@ -1,6 +1,6 @@
 -- How many racks a command needs.
 use Rattle.std.specs.Prelude.{ℕ, List, Option, Some, None}
-use Rattle.ebl_base.specs.Parts.{parts_of}
+use Rattle.ebl_base.specs.Segments.{segments_of}
 use Rattle.rehearsal.specs.Roster.{made_roster}
 use Rattle.ebl_cli.specs.declared.command.Command.{Command}
 use Rattle.ebl_cli.specs.declared.command.Command.TheVariants.{Drive, Canon, Rehearse}
@@ -8,7 +8,7 @@ use Rattle.ebl_cli.specs.Drive.{racks_for, racks_needed}
 
 -- `drive` those of its script's roster, and a rehearsal those of its own
 abbrev pub racks_wanted : Command → List ℕ → ℕ
-racks_wanted Drive script = racks_for (parts_of 10 script)
+racks_wanted Drive script = racks_for (segments_of 10 script)
 racks_wanted Canon text = 0
 racks_wanted (Rehearse seed bills steps) text = racks_needed made_roster
 

@@ -107,7 +107,7 @@ abbrev pub status_by : WorldFault → Status
 status_by (faults.OpenFault place) = OpenFault place
 status_by faults.NoMemory = NoMemory
 
--- by the first bad line, if there is one; a disk that couldn't be measured is told before it
+-- by the first bad line, if there is one; a disk that couldn't be measured is reported before it
 abbrev pub IsRefused : Unfit → Option ℕ → Status → Type 0
 IsRefused (Faulty place) bad status = status ≡ OpenFault place
 IsRefused unfit bad status =

@@ -2,7 +2,7 @@
 ghost use Rattle.std.specs.Prelude.{◌≡◌, ◌+◌, ◌*◌, ◌<◌, ◌≤◌, None, [], false, true, length, IfOk, IfSome, OnErr};
 ghost use Rattle.std.specs.Io.KnownBytes.{Appends};
 ghost use Rattle.ebl_base.specs.Faults.{Rose};
-ghost use Rattle.ebl_base.specs.Parts.{parts_of};
+ghost use Rattle.ebl_base.specs.Segments.{segments_of};
 ghost use Rattle.party_roster.specs.RosterForm.{IsRoster};
 ghost use Rattle.platform_world.specs.Run.{RunsScript, bill_lines};
 ghost use Rattle.platform_world.specs.State.{world_of};
@@ -17,7 +17,7 @@ use crate::opened::{close, status_by, status_of};
 use crate::racks::{Unfit, measure};
 use crate::status::Status;
 use disk_model::Disk;
-use ebl_base::{ByteList, NoMemory, first_part};
+use ebl_base::{ByteList, NoMemory, first_segment};
 use ebl_edge::Sink;
 use journaled_shard::Rack;
 use party_roster::Roster;
@@ -39,22 +39,22 @@ pub fn drive<K: Sink, D: Disk + Drop, G: KeyRing + Drop>(
     racks: Vec<Rack<D, G>>,
 ) -> Ended<D, G>
     requires told { AllTell D.tells racks.items }
-    ensures cause { IsCausedBy result.status (first_bad_line (parts_of 10 script.now)) (length racks.items)
-        (racks_for (parts_of 10 script.now))
-        (written_among (racks_for (parts_of 10 script.now)) (lengths_of D.seen racks.items)) }
-    ensures ran { serve (racks_for (parts_of 10 script.now)) (lengths_of D.seen racks.items) ≡ true
+    ensures cause { IsCausedBy result.status (first_bad_line (segments_of 10 script.now)) (length racks.items)
+        (racks_for (segments_of 10 script.now))
+        (written_among (racks_for (segments_of 10 script.now)) (lengths_of D.seen racks.items)) }
+    ensures ran { serve (racks_for (segments_of 10 script.now)) (lengths_of D.seen racks.items) ≡ true
         → Ran D.seen D.may_leave D.faults G.keys G.faults
         (λ fates run. RunsScript script.now (keys_of G.keys racks.items) fates run) racks.items result
         (K.written sink.old) (K.written sink.new) }
     ensures ends { EndsAs result.status (Drives script.now (keys_of G.keys racks.items)
         (lengths_of D.seen racks.items) result.fates) (K.written sink.old) (K.written sink.new) }
-    ensures racks { AreHandedBack D.faults G.faults (racks_for (parts_of 10 script.now)) racks.items result }
+    ensures racks { AreHandedBack D.faults G.faults (racks_for (segments_of 10 script.now)) racks.items result }
     ensures unwritten { IsBeforeWrite result.status → sink.new ≡ sink.old }
     ensures after_read { IsCommandEnd result.status }
     ensures write_fault { result.status ≡ Status.WriteFault → Rose (K.faults sink.old) (K.faults sink.new) }
     ensures later { K.faults sink.old ≤ K.faults sink.new }
 {
-    let Some((line, rest)) = first_part(b'\n', script) else {
+    let Some((line, rest)) = first_segment(b'\n', script) else {
         return Ended::at_once(alloc, Status::BadScript(1), racks);
     };
     match roster_in(alloc, line) {
@@ -74,11 +74,11 @@ fn drive_roster<K: Sink, D: Disk + Drop, G: KeyRing + Drop>(
 ) -> Ended<D, G>
     requires form { IsRoster roster }
     requires told { AllTell D.tells racks.items }
-    ensures cause { IsCausedBy result.status (first_bad roster 1 (parts_of 10 lines.now)) (length racks.items)
+    ensures cause { IsCausedBy result.status (first_bad roster 1 (segments_of 10 lines.now)) (length racks.items)
         (racks_needed roster) (written_among (racks_needed roster) (lengths_of D.seen racks.items)) }
     ensures ran { serve (racks_needed roster) (lengths_of D.seen racks.items) ≡ true
         → Ran D.seen D.may_leave D.faults G.keys G.faults
-        (λ fates run. RunsBehind roster (parts_of 10 lines.now) (keys_of G.keys racks.items) fates run)
+        (λ fates run. RunsBehind roster (segments_of 10 lines.now) (keys_of G.keys racks.items) fates run)
         racks.items result (K.written sink.old) (K.written sink.new) }
     ensures refused { serve (racks_needed roster) (lengths_of D.seen racks.items) ≡ false
         → (result.fates ≡ []) × (sink.new ≡ sink.old) }
@@ -99,9 +99,10 @@ fn drive_roster<K: Sink, D: Disk + Drop, G: KeyRing + Drop>(
     }
 }
 
-// The racks don't serve: the first bad line, or else why they don't. A disk that couldn't be measured is told at once.
+// The racks don't serve: the first bad line, or else why they don't. A disk that couldn't be measured is reported
+// at once.
 fn refuse(alloc: Global, roster: &Roster, lines: &[u8], unfit: Unfit) -> Status
-    ensures { IsRefused unfit (first_bad roster.now 1 (parts_of 10 lines.now)) result }
+    ensures { IsRefused unfit (first_bad roster.now 1 (segments_of 10 lines.now)) result }
 {
     if let Unfit::Faulty(place) = unfit {
         return Status::OpenFault(place);
@@ -115,11 +116,11 @@ fn refuse(alloc: Global, roster: &Roster, lines: &[u8], unfit: Unfit) -> Status
 
 // The number of the first of these lines that is no event, or comes after 100,000 lines.
 fn first_bad(alloc: Global, roster: &Roster, lines: &[u8]) -> Result<Option<u64>, NoMemory>
-    ensures { IfOk result (λ bad. bad ≡ first_bad roster.now 1 (parts_of 10 lines.now)) }
+    ensures { IfOk result (λ bad. bad ≡ first_bad roster.now 1 (segments_of 10 lines.now)) }
 {
     let mut rest = lines;
     let mut n: u32 = 1;
-    while let Some((line, after)) = first_part(b'\n', rest) {
+    while let Some((line, after)) = first_segment(b'\n', rest) {
         if n >= MOST_LINES || event_in(alloc, roster, line)?.is_none() {
             return Ok(Some(u64::from(n) + 1));
         }
@@ -140,10 +141,10 @@ fn drive_world<K: Sink, D: Disk + Drop, G: KeyRing + Drop>(
     requires form { IsRoster roster }
     requires told { AllTell D.tells racks.items }
     requires serve { serve (racks_needed roster) (lengths_of D.seen racks.items) ≡ true }
-    ensures cause { IsCausedBy result.status (first_bad roster 1 (parts_of 10 lines.now)) (length racks.items)
+    ensures cause { IsCausedBy result.status (first_bad roster 1 (segments_of 10 lines.now)) (length racks.items)
         (racks_needed roster) None }
     ensures ran { Ran D.seen D.may_leave D.faults G.keys G.faults
-        (λ fates run. RunsBehind roster (parts_of 10 lines.now) (keys_of G.keys racks.items) fates run)
+        (λ fates run. RunsBehind roster (segments_of 10 lines.now) (keys_of G.keys racks.items) fates run)
         racks.items result (K.written sink.old) (K.written sink.new) }
     ensures racks { AreHandedBack D.faults G.faults (racks_needed roster) racks.items result }
     ensures touched { IsBeforeWrite result.status → ⊥ }
@@ -169,8 +170,8 @@ fn run_events<K: Sink, M: Machine>(
     sink: &mut K,
 ) -> Status
     requires { world.old.fates ≡ [] }
-    ensures cause { IsCausedBy result (first_bad world.old.platforms.roster 1 (parts_of 10 lines.now)) 0 0 None }
-    ensures ran { RanLines M.seen M.faults world.old.platforms.roster (parts_of 10 lines.now) 1 world.old result
+    ensures cause { IsCausedBy result (first_bad world.old.platforms.roster 1 (segments_of 10 lines.now)) 0 0 None }
+    ensures ran { RanLines M.seen M.faults world.old.platforms.roster (segments_of 10 lines.now) 1 world.old result
         (K.written sink.old) (K.written sink.new) world.new }
     ensures spare { world.new.platforms.spare ≡ world.old.platforms.spare }
     ensures after_open { IsAfterOpen result }
@@ -179,7 +180,7 @@ fn run_events<K: Sink, M: Machine>(
 {
     let mut rest = lines;
     let mut n: u32 = 1;
-    while let Some((line, after)) = first_part(b'\n', rest) {
+    while let Some((line, after)) = first_segment(b'\n', rest) {
         if n >= MOST_LINES {
             return Status::BadScript(u64::from(n) + 1);
         }

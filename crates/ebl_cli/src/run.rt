@@ -1,7 +1,7 @@
 //! The top call: a script comes in, answer lines and bill lines go out.
 ghost use Rattle.std.specs.Prelude.{◌≡◌, ◌↔◌, ◌<◌, ◌≤◌, ℕ, List, None, Some, [], drop, false, true, length, map, option_map, vec_len, IfErr, IfOk, IfSome, IsErrOf};
 ghost use Rattle.ebl_base.specs.Faults.{Rose};
-ghost use Rattle.ebl_base.specs.Parts.{parts_of};
+ghost use Rattle.ebl_base.specs.Segments.{segments_of};
 ghost use Rattle.platform_world.specs.Opening.{RoseAt};
 ghost use Rattle.platform_world.specs.Run.{RunsScript};
 ghost use Rattle.ebl_cli.specs.Command.{IsInRange, command_of, reads_source};
@@ -57,9 +57,9 @@ pub fn run_ebl<S: Source, K: Sink, D: Disk + Drop, G: KeyRing + Drop>(
     // Why a script ends so: its first bad line, the racks that came for its roster, and the first whose disk isn't
     // blank.
     ensures cause { command_of words.now.items ≡ Some Command.Drive → IfSome (S.left source.old) (λ script.
-        IsCausedBy result.status (first_bad_line (parts_of 10 script)) (length racks.items)
-        (racks_for (parts_of 10 script))
-        (written_among (racks_for (parts_of 10 script)) (lengths_of D.seen racks.items))) }
+        IsCausedBy result.status (first_bad_line (segments_of 10 script)) (length racks.items)
+        (racks_for (segments_of 10 script))
+        (written_among (racks_for (segments_of 10 script)) (lengths_of D.seen racks.items))) }
 
     // So does a rehearsal, of which no line is bad.
     ensures rehearsal_cause { (seed bills steps : ℕ)
@@ -77,7 +77,7 @@ pub fn run_ebl<S: Source, K: Sink, D: Disk + Drop, G: KeyRing + Drop>(
     // The disks have its last diaries, and its events were answered DISK and SIGN no more often than disks and rings
     // failed.
     ensures safe { command_of words.now.items ≡ Some Command.Drive → IfSome (S.left source.old) (λ script.
-        serve (racks_for (parts_of 10 script)) (lengths_of D.seen racks.items) ≡ true
+        serve (racks_for (segments_of 10 script)) (lengths_of D.seen racks.items) ≡ true
         → RanSafely D.seen D.may_leave D.faults G.keys G.faults script racks.items result
         (K.written sink.old) (K.written sink.new)) }
     ensures back { AreBack D.faults G.faults racks.items result.racks }
@@ -141,16 +141,16 @@ fn run_command<K: Sink, D: Disk + Drop, G: KeyRing + Drop>(
 ) -> Ended<D, G>
     requires told { AllTell D.tells racks.items }
     requires range { IsInRange command }
-    ensures cause { command ≡ Command.Drive → IsCausedBy result.status (first_bad_line (parts_of 10 text.now))
-        (length racks.items) (racks_for (parts_of 10 text.now))
-        (written_among (racks_for (parts_of 10 text.now)) (lengths_of D.seen racks.items)) }
+    ensures cause { command ≡ Command.Drive → IsCausedBy result.status (first_bad_line (segments_of 10 text.now))
+        (length racks.items) (racks_for (segments_of 10 text.now))
+        (written_among (racks_for (segments_of 10 text.now)) (lengths_of D.seen racks.items)) }
     ensures rehearsal_cause { (seed bills steps : ℕ) → command ≡ Command.Rehearse seed bills steps
         → IsCausedBy result.status None (length racks.items) (racks_needed made_roster)
         (written_among (racks_needed made_roster) (lengths_of D.seen racks.items)) }
     ensures ends { EndsAs result.status (Outputs (Some command) (keys_of G.keys racks.items)
         (lengths_of D.seen racks.items) result.fates text.now) (K.written sink.old) (K.written sink.new) }
     ensures ran { command ≡ Command.Drive
-        → serve (racks_for (parts_of 10 text.now)) (lengths_of D.seen racks.items) ≡ true
+        → serve (racks_for (segments_of 10 text.now)) (lengths_of D.seen racks.items) ≡ true
         → Ran D.seen D.may_leave D.faults G.keys G.faults
         (λ fates run. RunsScript text.now (keys_of G.keys racks.items) fates run) racks.items result
         (K.written sink.old) (K.written sink.new) }

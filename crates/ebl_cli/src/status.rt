@@ -18,10 +18,10 @@ pub enum Status {
     /// before it stand, unless too few racks came or a disk isn't blank: then nothing does.
     BadScript(u64),
     /// Fewer racks came than sixteen for each platform of the roster: how many came, and how many are needed. Nothing
-    /// was written. A bad line is told before it.
+    /// was written. A bad line is reported before it.
     WrongRacks { given: u64, needed: u64 },
     /// The disk at this place, counted from 0, is the first of those needed that has a byte already. Nothing was
-    /// written. A bad line is told before it.
+    /// written. A bad line is reported before it.
     NotBlank(usize),
     /// The disk at this place, counted from 0, failed while the disks were measured and opened. Nothing was written.
     OpenFault(usize),

@@ -250,7 +250,7 @@ fn too_few_racks(rt: HostRuntime) -> Result<(), Fail> {
     };
     expect_with(&rt, alloc, "drive", &[THREE], 47, lacking, b"")?;
     expect_with(&rt, alloc, "drive", &[THREE, SIGN], 47, lacking, b"")?;
-    // A bad line is told first, and the answers before it aren't written.
+    // A bad line is reported first, and the answers before it aren't written.
     let bad = &[THREE, SIGN, "\n"];
     expect_with(&rt, alloc, "drive", bad, 47, Status::BadScript(3), b"")?;
     expect_with(&rt, alloc, "drive", &[THREE], 48, Status::Done, b"")?;

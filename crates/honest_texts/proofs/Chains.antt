@@ -35,7 +35,7 @@ same_text-Decides text other =
 
 -- ---- honest texts
 
--- whoever is told as the signer of a text signed it
+-- whoever is reported as the signer of a text signed it
 pub signer-Decides : (roster : RosterRecord) (keys : Keys) (most : ℕ) (text : List ℕ) (who : PlatformCode)
     (value : Value)
     → ((k : Keys) (m : ℕ) (t : List ℕ) (p q : PlatformCode) (v w : Value)

@@ -111,7 +111,7 @@ record ActsOn (known : List ChainLink) (since : List Transaction) (t : Transacti
   before : Option Title
   title : fold (transactions_of known ++ since) ≡ Ok before
   after : Title
-  taken : step_title before t ≡ Ok after
+  allowed : step_title before t ≡ Ok after
   stay : moves before after ≡ false
   room : length since < most_with t.kind
 
@@ -123,7 +123,7 @@ step_decides known since t before title (Err rule) step = (
   λ x.
       let one : Ok before ≡ Ok x.before = sym title ∙ x.title in
       let same : before ≡ x.before = cc one in
-      let clash : Err rule ≡ Ok x.after = sym step ∙ ap (λ (o : Option Title). step_title o t) same ∙ x.taken in
+      let clash : Err rule ≡ Ok x.after = sym step ∙ ap (λ (o : Option Title). step_title o t) same ∙ x.allowed in
       cc clash,
 )
 step_decides known since t before title (Ok after) step = (
@@ -133,14 +133,14 @@ step_decides known since t before title (Ok after) step = (
         before = before;
         title = title;
         after = after;
-        taken = step;
+        allowed = step;
         stay = not-true (moves before after) both.0;
         room = ltb-true (length since) (most_with t.kind) both.1;
       },
   λ x.
       let one : Ok before ≡ Ok x.before = sym title ∙ x.title in
       let same : before ≡ x.before = cc one in
-      let two : Ok after ≡ Ok x.after = sym step ∙ ap (λ (o : Option Title). step_title o t) same ∙ x.taken in
+      let two : Ok after ≡ Ok x.after = sym step ∙ ap (λ (o : Option Title). step_title o t) same ∙ x.allowed in
       let titles : after ≡ x.after = cc two in
       let stay : moves before after ≡ false = (λ i. moves (same i) (titles i)) ∙ x.stay in
       and_from (not (moves before after)) (nat_lt (length since) (most_with t.kind))
@@ -166,7 +166,7 @@ acts_on h t known since is x =
       before = x.before;
       title = (λ i. fold (transactions_of (chains i) ++ since_is i)) ∙ x.title;
       after = x.after;
-      taken = x.taken;
+      allowed = x.allowed;
       stay = x.stays;
       room = let few = subst (λ (s : List Transaction). length s + 1 ≤ most_with t.kind) made x.room in omega (
         arith,
@@ -183,7 +183,7 @@ may_act_so h t known since form is x = record {
   before = x.before;
   title = x.title;
   after = x.after;
-  taken = x.taken;
+  allowed = x.allowed;
   stays = x.stay;
   form = form;
   room = let few = x.room in omega (arith, few);

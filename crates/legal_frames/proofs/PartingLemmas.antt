@@ -35,7 +35,7 @@ record LeavesBy (roster : RosterRecord) (known : List ChainLink) (since : List T
   before : Option Title
   title : fold (transactions_of known ++ since) ≡ Ok before
   after : Title
-  taken : step_title before t ≡ Ok after
+  allowed : step_title before t ≡ Ok after
   moved : moves before after ≡ true
   listed : has_platform roster (possessor after).platform ≡ true
 
@@ -45,7 +45,7 @@ step_leaves : (roster : RosterRecord) (known : List ChainLink) (since : List Tra
 step_leaves roster known since t before title (Err rule) step b = cc b
 step_leaves roster known since t before title (Ok after) step b =
     let both = and_parts (moves before after) (has_platform roster (possessor after).platform) b in
-    record { before = before; title = title; after = after; taken = step; moved = both.0; listed = both.1 }
+    record { before = before; title = title; after = after; allowed = step; moved = both.0; listed = both.1 }
 
 fold_leaves : (roster : RosterRecord) (known : List ChainLink) (since : List Transaction) (t : Transaction) (f : Folded)
     → fold (transactions_of known ++ since) ≡ f → leaves_on roster t (without_place f) ≡ true
@@ -59,7 +59,7 @@ leaves_by : (roster : RosterRecord) (known : List ChainLink) (since : List Trans
     → leaves_on roster t (without_place (fold (transactions_of known ++ since))) ≡ true
 leaves_by roster known since t x =
     ap (λ (f : Folded). leaves_on roster t (without_place f)) x.title
-    ∙ ap (leaves roster x.before) x.taken
+    ∙ ap (leaves roster x.before) x.allowed
     ∙ and_from (moves x.before x.after) (has_platform roster (possessor x.after).platform) x.moved x.listed
 
 -- what was found of an entry is that it may be sent
@@ -89,7 +89,7 @@ parts_from roster keys me h bill link manifest text (Held known since) is (next,
         before = x.before;
         title = x.title;
         after = x.after;
-        taken = x.taken;
+        allowed = x.allowed;
         moved = x.moved;
         link_is = form.link_is;
         manifest_is = form.manifest_is;
@@ -134,7 +134,7 @@ parts_next roster keys me h bill link manifest text may =
               before = s.before;
               title = s.title;
               after = s.after;
-              taken = s.taken;
+              allowed = s.allowed;
               moved = s.moved;
               listed =
                   may.listed;

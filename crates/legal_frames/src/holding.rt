@@ -1,6 +1,7 @@
 //! Records of a bill that is held or begins: a Signed, an Acted, an Attached.
 ghost use Rattle.std.specs.Prelude.{◌≡◌, ◌+◌, ◌≤◌, ◌↔◌, IfOk, IsTrue, Some, nat_le};
 ghost use Rattle.ebl_base.specs.declared.checksum.Checksum.{Checksum};
+ghost use Rattle.ebl_base.specs.declared.limits.TheConstants.{MAX_DOCUMENT_SIZE, MAX_DOCUMENTS_SIZE};
 ghost use Rattle.envelope_manifest.specs.Manifest.{total_size};
 ghost use Rattle.envelope_manifest.specs.Piece.{IsPiece};
 ghost use Rattle.party_roster.specs.RosterRecord.{carrier};
@@ -162,7 +163,7 @@ pub(crate) fn may_attach(
 
 // Whether a document is new beside others, and within the limits with them.
 fn has_room(listed: &PieceList, piece: &Piece) -> bool
-    requires { piece.now.size ≤ 2097152 }
+    requires { piece.now.size ≤ MAX_DOCUMENT_SIZE }
     ensures { IsTrue result ↔ HasRoom listed.now piece.now }
 {
     let listed = listed.as_slice();
@@ -180,8 +181,8 @@ fn lists(listed: &[Piece], checksum: Checksum) -> bool
 
 // Whether a document of this size fits beside others.
 fn fits_beside(listed: &[Piece], size: u32) -> bool
-    requires { size ≤ 2097152 }
-    ensures { result ≡ nat_le (total_size listed.now + size) 4194304 }
+    requires { size ≤ MAX_DOCUMENT_SIZE }
+    ensures { result ≡ nat_le (total_size listed.now + size) MAX_DOCUMENTS_SIZE }
 {
     let mut room = MAX_DOCUMENTS_SIZE - size;
     for piece in listed {

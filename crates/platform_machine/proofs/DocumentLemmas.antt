@@ -46,7 +46,7 @@ begun_has_body (Stored b e c t ∷ h) entry came is none = begun_has_body h entr
 begun_has_body (Taken b e ∷ h) entry came is none = begun_has_body h entry came is none
 begun_has_body (Declined b e c q v ∷ h) entry came is none = begun_has_body h entry came is none
 
--- where neither is, no chain is told
+-- where neither is, no chain is recorded
 nothing_told : (me : PlatformCode) (h : List Record) → IsSoundHistory me h → signed_text h ≡ None → last_body h ≡ None
     → told h ≡ []
 nothing_told me [] sound signed body = refl

@@ -12,7 +12,7 @@ use Rattle.ebl_base.proofs.ChecksumLemmas.{checksum_eq-Decides}
 use Rattle.envelope_manifest.specs.declared.manifest.Manifest.{Manifest}
 use Rattle.title_fold.specs.Title.{possessor}
 use Rattle.title_fold.specs.Fold.{fold}
-use Rattle.title_fold.proofs.FoldLemmas.{fold-push-taken}
+use Rattle.title_fold.proofs.FoldLemmas.{fold-push-allowed}
 use Rattle.bill_chain.specs.Chain.{destination, platform_with, transactions_of}
 use Rattle.bill_diary.specs.declared.record.Record.{Record}
 use Rattle.bill_diary.specs.declared.record.Record.TheVariants.{Signed, Acted, Attached, Parted, Settled, Regained, Begun, Stored, Taken, Declined}
@@ -120,7 +120,7 @@ goes_on_parting me h bill link manifest text parts =
     ∙ sym (append_assoc (transactions_of parts.known) parts.since (parts.last ∷ [])) in
     let folds : fold (transactions_of (parts.known ++ link ∷ [])) ≡ Ok (Some parts.after) =
     ap fold listed
-    ∙ fold-push-taken (transactions_of parts.known ++ parts.since) parts.last parts.before parts.after parts.title parts.taken in
+    ∙ fold-push-allowed (transactions_of parts.known ++ parts.since) parts.last parts.before parts.after parts.title parts.allowed in
     ((possessor parts.after).platform, ap platform_with folds)
 
 abbrev IfGoes : Option (List ChainLink) → Type 0

@@ -82,7 +82,7 @@ pub record SendsStartWith (bill : Checksum) (h : List Record) (link : ChainLink)
   pub sends : SendsStart bill h (known ++ link ∷ []) manifest_text to sent
 
 -- Parted is written, and that start is sent
-pub record Parts (diary : List Frame) (link : ChainLink) (manifest : Manifest) (manifest_text : SignedText)
+pub record PartsWith (diary : List Frame) (link : ChainLink) (manifest : Manifest) (manifest_text : SignedText)
     (to : PlatformCode) (step : Step) : Type 0 where
   pub sent : List Message
   pub sends : SendsStartWith manifest.bill (history manifest.bill diary) link manifest_text to sent
@@ -95,7 +95,7 @@ pub record IsParted (keys : Keys) (me : PlatformCode) (diary : List Frame) (entr
   pub entry_signed : IsSignedEntry keys me entry link
   pub manifest_text : SignedText
   pub manifest_signed : IsSignedManifest keys me (manifest_for entry.bill link.name documents) manifest_text
-  pub parts : Parts diary link (manifest_for entry.bill link.name documents) manifest_text to step
+  pub parts : PartsWith diary link (manifest_for entry.bill link.name documents) manifest_text to step
 
 -- ---- a command
 

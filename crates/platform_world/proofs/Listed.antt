@@ -24,7 +24,7 @@ use Rattle.party_roster.specs.RosterRecord.{RosterRecord, has_platform}
 use Rattle.signed_envelope.specs.KeyRing.{Keys}
 use Rattle.title_fold.specs.Title.{possessor}
 use Rattle.title_fold.specs.Fold.{fold}
-use Rattle.title_fold.proofs.FoldLemmas.{fold-push-taken}
+use Rattle.title_fold.proofs.FoldLemmas.{fold-push-allowed}
 use Rattle.bill_chain.specs.Chain.{destination, platform_with, transactions_of}
 use Rattle.platform_requests.specs.Request.{RequestRecord, commands, starts, puts, finishes, start_replies, finish_replies, resends, asks}
 use Rattle.platform_requests.specs.declared.message.Message.{Message}
@@ -71,7 +71,7 @@ goes_of_link me h bill link manifest text may =
     (ap fold (transactions_of-push may.known link
     ∙ ap (λ (ts : List Transaction). transactions_of may.known ++ ts) may.transactions
     ∙ sym (append_assoc (transactions_of may.known) may.since (may.last ∷ [])))
-    ∙ fold-push-taken (transactions_of may.known ++ may.since) may.last may.before may.after may.title may.taken)
+    ∙ fold-push-allowed (transactions_of may.known ++ may.since) may.last may.before may.after may.title may.allowed)
 
 parts_to_listed : (roster : RosterRecord) (keys : Keys) (me : PlatformCode) (h : List Record) (bill : Checksum)
     (link : ChainLink) (manifest : Manifest) (text : SignedText)

@@ -131,7 +131,7 @@ with_nests at party now (Ok (attaches bill name media bytes)) nests = tt
 
 command_nests : (v : Value) → depth v ≤ 127 → IfRead IsNested (reading.command_of v)
 command_nests v deep =
-    on_place (reading.place_at v) (required_party (codes "party") v) (reading.moment_at v)
+    on_place (reading.platform_at v) (required_party (codes "party") v) (reading.moment_at v)
   where
     on_place : (place : Option PlatformCode) (by : Option Party) (time : Option Moment) → IfRead IsNested
         (required EventForm place (λ (at : PlatformCode). required EventForm by (λ (party : Party).
@@ -174,12 +174,12 @@ on_bill_nests event each (Some at) (Some bill) = each at bill
 resend_nests : (v : Value) → IfRead IsNested (reading.resend_of v)
 resend_nests v =
     if_true_nests (flag_of (codes "resend") v) _
-    (on_bill_nests resends (λ at bill. tt) (reading.place_at v) (reading.named_bill v))
+    (on_bill_nests resends (λ at bill. tt) (reading.platform_at v) (reading.named_bill v))
 
 question_nests : (v : Value) → IfRead IsNested (reading.question_of v)
 question_nests v =
     if_true_nests (flag_of (codes "ask") v) _
-    (on_bill_nests asks (λ at bill. tt) (reading.place_at v) (reading.named_bill v))
+    (on_bill_nests asks (λ at bill. tt) (reading.platform_at v) (reading.named_bill v))
 
 received_nests : (at : PlatformCode) (bytes : Result ForeignRecord EventFault)
     → IfRead IsNested (reading.received_at at bytes)
@@ -187,7 +187,7 @@ received_nests at (Ok bytes) = tt
 received_nests at (Err fault) = tt
 
 foreign_nests : (v : Value) → IfRead IsNested (reading.foreign_of v)
-foreign_nests v = on_place (reading.place_at v) (text_of (codes "foreign") v)
+foreign_nests v = on_place (reading.platform_at v) (text_of (codes "foreign") v)
   where
     on_place : (place : Option PlatformCode) (named : Option (List ℕ)) → IfRead IsNested
         (required EventForm place (λ (at : PlatformCode). required EventForm named (λ (word : List ℕ).

@@ -109,7 +109,7 @@ pub record IsOpening {D G : Type 0} (tells : D → Bool) (faults : D → ℕ) (r
   pub racks_are : given ≡ taken ++ left
   pub opened : AreOpened tells faults roster front taken shards
 
--- and then one of those that are needed couldn't be: all racks that are left are as before, but for the count of a disk
+-- and then one of the required ones couldn't be: all racks that are left are as before, except for the count of a disk
 -- that failed
 pub record IsStopped {D G : Type 0} (tells : D → Bool) (faults : D → ℕ) (roster : RosterRecord) (needed : ℕ)
     (given : List (Rack D G)) (shards : List (JournaledShardRecord D G)) (left : List (Rack D G)) (fault : WorldFault)

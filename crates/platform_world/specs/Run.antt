@@ -3,7 +3,7 @@
 use Rattle.std.specs.Prelude.{◌≡◌, ◌≢◌, ◌⊎◌, ℕ, ◌+◌, ◌-◌, List, [], ◌∷◌, ◌++◌, Option, Some, None, MatchBool, length, nat_le, if◌then◌else◌}
 use Rattle.std.specs.List.{range_with_len}
 use Rattle.ebl_base.specs.Checksum.{checksum_eq}
-use Rattle.ebl_base.specs.Parts.{parts_of}
+use Rattle.ebl_base.specs.Segments.{segments_of}
 use Rattle.ebl_base.specs.declared.checksum.Checksum.{Checksum}
 use Rattle.signed_envelope.specs.KeyRing.{Keys}
 use Rattle.party_roster.specs.RosterRecord.{RosterRecord}
@@ -147,7 +147,7 @@ RunsLines (line ∷ lines) rings fates run =
 
 -- a run of this script with these rings, sixteen for each platform in the roster's order, whose events have these fates
 abbrev pub RunsScript : List ℕ → List Keys → List Fate → Run → Type 0
-RunsScript script rings fates run = RunsLines (parts_of 10 script) rings fates run
+RunsScript script rings fates run = RunsLines (segments_of 10 script) rings fates run
 
 -- a run of this script, whatever the fates of its events
 abbrev pub IsRunOf : List ℕ → List Keys → Run → Type 0

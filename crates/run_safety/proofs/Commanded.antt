@@ -38,7 +38,7 @@ use Rattle.transfer_judge.specs.declared.planned.PlanRefusal.TheVariants as refu
 use Rattle.transfer_judge.proofs.LegalLemmas.{legal_is_sound}
 use Rattle.transfer_judge.proofs.PlanLemmas.{Attaches, IsAttached, IsPlanned, Moves, Stays, act_planned, attach_planned, one_planned, past_absent, past_carrier, past_document, past_ours}
 use Rattle.platform_machine.specs.declared.step.Step.{Step}
-use Rattle.platform_machine.specs.Commanding.{FollowsPlan, IsThere, Parts, StepsAtCommand, manifest_for, reply_to}
+use Rattle.platform_machine.specs.Commanding.{FollowsPlan, IsThere, PartsWith, StepsAtCommand, manifest_for, reply_to}
 use Rattle.platform_machine.specs.Step.{view_of, with_frame}
 use Rattle.platform_machine.specs.Transfer.{SendsStart}
 use Rattle.closed_family.specs.declared.family.Member.{Member}
@@ -163,7 +163,7 @@ module _ (roster : RosterRecord) (rings : Rings) (n : Network) (p : PlatformCode
       }
 
   parts_owes : (link : ChainLink) (manifest : Manifest) (text : SignedText) (to : PlatformCode) (step : Step)
-      → IsLegal roster (rings p i) p (with_frame d step.frame) → Parts d link manifest text to step → Owes n p step
+      → IsLegal roster (rings p i) p (with_frame d step.frame) → PartsWith d link manifest text to step → Owes n p step
   parts_owes link manifest text to step legal parts = record {
     met = met_by n p step.frame (Some (One r)) parts.done.frame_is (one_is_met roster rings n p i d at r tt);
     starts = λ after becomes to1 b body among.

@@ -13,7 +13,7 @@ use Rattle.document_checksum.specs.Digest.{checksum_of}
 use Rattle.signed_envelope.specs.KeyRing.{Keys}
 use Rattle.title_fold.specs.Title.{possessor}
 use Rattle.title_fold.specs.Fold.{fold}
-use Rattle.title_fold.proofs.FoldLemmas.{fold-push-taken}
+use Rattle.title_fold.proofs.FoldLemmas.{fold-push-allowed}
 use Rattle.bill_chain.specs.Chain.{destination, platform_with, transactions_of}
 use Rattle.bill_diary.specs.declared.record.Record.{Record}
 use Rattle.bill_diary.specs.declared.record.Record.TheVariants.{Signed, Acted, Attached, Parted, Settled, Regained, Begun, Stored, Taken, Declined}
@@ -127,7 +127,7 @@ goes_of_link me h bill link manifest text may =
     (ap fold (transactions_of-push may.known link
     ∙ ap (λ (ts : List Transaction). transactions_of may.known ++ ts) may.transactions
     ∙ sym (append_assoc (transactions_of may.known) may.since (may.last ∷ [])))
-    ∙ fold-push-taken (transactions_of may.known ++ may.since) may.last may.before may.after may.title may.taken)
+    ∙ fold-push-allowed (transactions_of may.known ++ may.since) may.last may.before may.after may.title may.allowed)
 
 goes_to_listed : (roster : RosterRecord) (keys : Keys) (me : PlatformCode) (h : List Record) (bill : Checksum)
     (link : ChainLink) (manifest : Manifest) (text : SignedText)

@@ -13,7 +13,7 @@ use Rattle.bill_diary.specs.Known.{Received, last_begun, taken_chain}
 use Rattle.bill_diary.specs.Place.{taken_chains}
 use Rattle.bill_diary.specs.Receiving.{takes, declines, is_taken, is_declined}
 use Rattle.closed_family.specs.Chains.{IsAmong}
-use Rattle.closed_family.specs.Histories.{parts}
+use Rattle.closed_family.specs.Histories.{parts_entry}
 use Rattle.closed_family.specs.Closed.{Histories, AreParted, HasParted, EveryEntryWasParted, IsCorroborated, destination_of}
 use Rattle.closed_family.proofs.Names.{or_right}
 use Rattle.closed_family.proofs.Records.{among_either}
@@ -65,7 +65,7 @@ need_later at later grow h (Regained bill entry) need =
     (λ (to : PlatformCode). is_declined entry (later to) ≡ true) (destination_of entry h)
     (λ to is. any_later (declines entry) at later grow to is) need
 need_later at later grow h (Declined bill entry code reason evidence) need =
-    (need.0, (need.1.0, any_later (parts entry) at later grow need.1.0 need.1.1))
+    (need.0, (need.1.0, any_later (parts_entry entry) at later grow need.1.0 need.1.1))
 need_later at later grow h (Signed bill document t) need = tt
 need_later at later grow h (Acted bill t) need = tt
 need_later at later grow h (Attached bill piece bytes) need = tt

@@ -1,6 +1,6 @@
 //! What holds of every signed text.
-ghost use Rattle.std.specs.Prelude.{◌≡◌, ◌≢◌, ◌+◌, ◌*◌, ℕ, ◌≤◌, true, List, Option, Some, length};
-ghost use Rattle.ebl_base.specs.PlatformCode.{code_of, code_text};
+ghost use Rattle.std.specs.Prelude.{◌≡◌, ◌≢◌, ◌+◌, ◌*◌, ℕ, ◌≤◌, true, List, Option, length};
+ghost use Rattle.ebl_base.specs.PlatformCode.{IsCode};
 ghost use Rattle.ebl_base.specs.declared.platform_code.PlatformCode.{PlatformCode};
 ghost use Rattle.ebl_base.specs.declared.signature.Signature.{Signature};
 ghost use Rattle.canonical_json.specs.Canon.{canon};
@@ -38,7 +38,7 @@ pub fn composed_text_is_signed()
     ensures header { (alg : Alg) (who : PlatformCode) → header_text alg who ≡ canon (header_value alg who) }
     ensures signed { (keys : Keys) (most : ℕ) (text : List ℕ)
         (who : PlatformCode) (value : Value) (signature : Signature)
-        → IsComposed keys text who value signature → length text ≤ most → code_of (code_text who) ≡ Some who
+        → IsComposed keys text who value signature → length text ≤ most → IsCode who
         → IsLawful value → HasTexts value → depth value ≤ 127 → IsSigned keys most text who value }
 {}
 
@@ -46,9 +46,9 @@ pub fn composed_text_is_signed()
 /// bytes fits in 16,384.
 pub fn composed_texts_are_short()
     ensures length { (keys : Keys) (text : List ℕ) (who : PlatformCode) (value : Value) (signature : Signature)
-        → IsComposed keys text who value signature → code_of (code_text who) ≡ Some who
+        → IsComposed keys text who value signature → IsCode who
         → 3 * length text ≤ 4 * length (canon value) + 380 }
     ensures within { (keys : Keys) (text : List ℕ) (who : PlatformCode) (value : Value) (signature : Signature)
-        → IsComposed keys text who value signature → code_of (code_text who) ≡ Some who
+        → IsComposed keys text who value signature → IsCode who
         → length (canon value) ≤ 9000 → length text ≤ 16384 }
 {}

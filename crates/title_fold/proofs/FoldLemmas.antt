@@ -63,10 +63,10 @@ pub fold-push : (list : List Transaction) (t : Transaction)
     → fold (list ++ t ∷ []) ≡ fold_on (fold list) (t ∷ []) (length list)
 fold-push list t = fold-append list (t ∷ [])
 
--- one transaction more that is taken
-pub fold-push-taken : (list : List Transaction) (t : Transaction) (before : Option Title) (after : Title)
+-- one transaction more that is allowed
+pub fold-push-allowed : (list : List Transaction) (t : Transaction) (before : Option Title) (after : Title)
     → fold list ≡ Ok before → step_title before t ≡ Ok after → fold (list ++ t ∷ []) ≡ Ok (Some after)
-fold-push-taken list t before after folds steps =
+fold-push-allowed list t before after folds steps =
     fold-push list t ∙ ap (λ folded. fold_on folded (t ∷ []) (length list)) folds
     ∙ ap (goes_on (length list) (λ title. Ok (Some title))) steps
 
@@ -223,7 +223,7 @@ stops-fold list at stop =
 -- all of these
 pub ruleset fold_laws = (
   fold-append,
-  fold-push-taken,
+  fold-push-allowed,
   fold-push-refused,
   fold-append-refused,
   fold-begun,

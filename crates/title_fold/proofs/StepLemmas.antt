@@ -1,4 +1,4 @@
--- What it says that a transaction is taken.
+-- What it says that a transaction is allowed.
 use Rattle.std.proofs.Common.{◌≡◌, ◌≢◌, Bool, true, false, not, cond, refl, sym, ap, ◌∙◌}
 use Rattle.std.specs.Prelude.{Option, Some, None, Ok, Err}
 use Rattle.ebl_base.specs.declared.kind.Kind.{Kind}
@@ -13,9 +13,9 @@ use Rattle.title_fold.specs.declared.title.Title.TheVariants.{Signed, Live, Aske
 use Rattle.title_fold.specs.declared.refusal.FoldRefusal.{FoldRefusal}
 use Rattle.title_fold.specs.declared.refusal.FoldRefusal.TheVariants.{F9}
 use Rattle.title_fold.specs.Step.{step_title, unless}
-use Rattle.title_fold.specs.Taken.{Takes, IsTaken}
+use Rattle.title_fold.specs.Allowed.{Allows, IsAllowed}
 
--- what was taken
+-- what was allowed
 same_title : {a b : Title} → unless None a ≡ Ok b → b ≡ a
 same_title e = cc
 
@@ -43,15 +43,15 @@ handed_on a b title after = by (party_eq a b) (party_eq-Decides a b).1
     by false same h = ((λ e. let w : false ≡ true = same e in cc), h)
     by true same h = cc
 
--- what was refused wasn't taken
+-- what was refused wasn't allowed
 refused : {rule : FoldRefusal} {after : Title} → Err rule ≡ Ok after → ⊥
 refused e = cc
 
--- what a step makes stands in the table of the transactions that are taken
+-- what a step makes stands in the table of the transactions that are allowed
 takes : (before : Option Title) (kind : Kind) (actor : Party) (recipient : Option Party)
     → (time : Moment) (after : Title)
     → step_title before (record { kind = kind; actor = actor; recipient = recipient; time = time }) ≡ Ok after
-    → Takes before kind actor recipient after
+    → Allows before kind actor recipient after
 takes None Sign actor None time after h = same_title h
 takes None Sign actor (Some to) time after h = refused h
 takes None kind actor recipient time after h = refused h
@@ -115,10 +115,10 @@ hands_on a b title another = by (party_eq a b) (party_eq-Decides a b).0
     by false same = refl
     by true same = absurd (another (same refl))
 
--- what stands in the table of the transactions that are taken is what a step makes
+-- what stands in the table of the transactions that are allowed is what a step makes
 makes : (before : Option Title) (kind : Kind) (actor : Party) (recipient : Option Party)
     → (time : Moment) (after : Title)
-    → Takes before kind actor recipient after
+    → Allows before kind actor recipient after
     → step_title before (record { kind = kind; actor = actor; recipient = recipient; time = time }) ≡ Ok after
 makes None Sign actor None time after h = ap Ok (sym h)
 makes None Sign actor (Some to) time after h = absurd h
@@ -152,13 +152,13 @@ makes (Some (Asked asked c by)) SurrenderRefused actor (Some to) time after h = 
 makes (Some (Asked asked c by)) kind actor recipient time after h = absurd h
 makes (Some (Ended asked c)) kind actor recipient time after h = absurd h
 
--- a step makes a title if and only if the transaction is taken
-pub step_title-taken : (before : Option Title) (t : Transaction) (after : Title)
+-- a step makes a title if and only if the transaction is allowed
+pub step_title-allowed : (before : Option Title) (t : Transaction) (after : Title)
     → step_title before t ≡ Ok after
-    → IsTaken before t after
-step_title-taken before t after = takes before t.kind t.actor t.recipient t.time after
+    → IsAllowed before t after
+step_title-allowed before t after = takes before t.kind t.actor t.recipient t.time after
 
-pub taken-step_title : (before : Option Title) (t : Transaction) (after : Title)
-    → IsTaken before t after
+pub allowed-step_title : (before : Option Title) (t : Transaction) (after : Title)
+    → IsAllowed before t after
     → step_title before t ≡ Ok after
-taken-step_title before t after = makes before t.kind t.actor t.recipient t.time after
+allowed-step_title before t after = makes before t.kind t.actor t.recipient t.time after

@@ -1,4 +1,4 @@
--- What a transaction that is taken does to a title that stands.
+-- What a transaction that is allowed does to a title that stands.
 use Rattle.std.proofs.Common.{◌≡◌, ◌≢◌, refl, sym, ap, subst, ◌∙◌}
 use Rattle.std.specs.Prelude.{Option, Some, None, Ok, Err, if◌then◌else◌}
 use Rattle.ebl_base.specs.declared.kind.Kind.{Kind}
@@ -11,11 +11,11 @@ use Rattle.title_fold.specs.declared.refusal.FoldRefusal.TheVariants.{F1, F3}
 use Rattle.title_fold.specs.Title.{carrier, possessor, title_holder}
 use Rattle.title_fold.specs.Rules.{is_sign}
 use Rattle.title_fold.specs.Step.{step_title}
-use Rattle.title_fold.specs.Taken.{Takes}
+use Rattle.title_fold.specs.Allowed.{Allows}
 use Rattle.title_fold.specs.Changes.{GivesPossession, GivesTitle}
-use Rattle.title_fold.proofs.StepLemmas.{step_title-taken, taken-step_title}
+use Rattle.title_fold.proofs.StepLemmas.{step_title-allowed, allowed-step_title}
 
--- all that the laws say of one transaction that is taken
+-- all that the laws say of one transaction that is allowed
 record Lawful (before : Title) (kind : Kind) (actor : Party) (recipient : Option Party)
     (after : Title) : Type 0 where
   same_carrier : carrier after ≡ carrier before
@@ -24,7 +24,7 @@ record Lawful (before : Title) (kind : Kind) (actor : Party) (recipient : Option
   title : GivesTitle kind recipient before after
 
 lawful : (before : Title) (kind : Kind) (actor : Party) (recipient : Option Party) (after : Title)
-    → Takes (Some before) kind actor recipient after → Lawful before kind actor recipient after
+    → Allows (Some before) kind actor recipient after → Lawful before kind actor recipient after
 lawful (Signed c) Issue actor None after h = absurd h
 lawful (Signed c) Issue actor (Some to) after h =
     record {
@@ -90,7 +90,7 @@ taken_lawfully : (before : Title) (t : Transaction) (after : Title)
     → step_title (Some before) t ≡ Ok after
     → Lawful before t.kind t.actor t.recipient after
 taken_lawfully before t after h =
-    lawful before t.kind t.actor t.recipient after (step_title-taken (Some before) t after h)
+    lawful before t.kind t.actor t.recipient after (step_title-allowed (Some before) t after h)
 
 -- the carrier stays the carrier
 pub carrier_stays : (before : Title) (t : Transaction) (after : Title)
@@ -128,7 +128,7 @@ ended_refuses kind c t = by t.kind
 
 -- how a title begins
 begins : (kind : Kind) (actor : Party) (recipient : Option Party) (after : Title)
-    → Takes None kind actor recipient after → (kind ≡ Sign) × (recipient ≡ None) × (after ≡ Signed actor)
+    → Allows None kind actor recipient after → (kind ≡ Sign) × (recipient ≡ None) × (after ≡ Signed actor)
 begins Sign actor None after h = (refl, refl, h)
 begins Sign actor (Some to) after h = absurd h
 begins kind actor recipient after h = absurd h
@@ -137,7 +137,7 @@ begins kind actor recipient after h = absurd h
 pub begins_with_sign : (t : Transaction) (after : Title)
     → step_title None t ≡ Ok after
     → (t.kind ≡ Sign) × (t.recipient ≡ None) × (after ≡ Signed t.actor)
-begins_with_sign t after h = begins t.kind t.actor t.recipient after (step_title-taken None t after h)
+begins_with_sign t after h = begins t.kind t.actor t.recipient after (step_title-allowed None t after h)
 
 pub begins_by_sign : (t : Transaction) (after : Title) → step_title None t ≡ Ok after → t.kind ≡ Sign
 begins_by_sign t after h = (begins_with_sign t after h).0
@@ -152,7 +152,7 @@ begins_as_signed t after h = (begins_with_sign t after h).2
 
 -- another kind than ENDORSE leaves the title holder of a live title
 holder_left : (c p h : Party) (kind : Kind) (actor : Party) (recipient : Option Party) (after : Title)
-    → Takes (Some (Live c p h)) kind actor recipient after → (kind ≢ Endorse) → title_holder after ≡ h
+    → Allows (Some (Live c p h)) kind actor recipient after → (kind ≢ Endorse) → title_holder after ≡ h
 holder_left c p h Endorse actor recipient after e other = absurd (other refl)
 holder_left c p h Transfer actor None after e other = absurd e
 holder_left c p h Transfer actor (Some to) after e other = ap title_holder e.2
@@ -165,11 +165,11 @@ holder_left c p h kind actor recipient after e other = absurd e
 pub endorse_alone : (c p h : Party) (t : Transaction) (after : Title)
     → step_title (Some (Live c p h)) t ≡ Ok after → (t.kind ≢ Endorse) → title_holder after ≡ h
 endorse_alone c p h t after e other =
-    holder_left c p h t.kind t.actor t.recipient after (step_title-taken (Some (Live c p h)) t after e) other
+    holder_left c p h t.kind t.actor t.recipient after (step_title-allowed (Some (Live c p h)) t after e) other
 
 -- an ENDORSE leaves all but the title holder
 all_left : (c p h actor : Party) (recipient : Option Party) (after : Title)
-    → Takes (Some (Live c p h)) Endorse actor recipient after → after ≡ Live c p (title_holder after)
+    → Allows (Some (Live c p h)) Endorse actor recipient after → after ≡ Live c p (title_holder after)
 all_left c p h actor None after e = absurd e
 all_left c p h actor (Some to) after e = e.3 ∙ ap (Live c p) (sym (ap title_holder e.3))
 
@@ -177,12 +177,12 @@ pub endorse_only : (c p h : Party) (t : Transaction) (after : Title)
     → step_title (Some (Live c p h)) t ≡ Ok after → t.kind ≡ Endorse → after ≡ Live c p (title_holder after)
 endorse_only c p h t after e endorses =
     all_left c p h t.actor t.recipient after
-    (subst (λ kind. Takes (Some (Live c p h)) kind t.actor t.recipient after) endorses (step_title-taken (Some (Live c p h)) t after e))
+    (subst (λ kind. Allows (Some (Live c p h)) kind t.actor t.recipient after) endorses (step_title-allowed (Some (Live c p h)) t after e))
 
 -- all of these
 pub ruleset title_laws = (
-  step_title-taken,
-  taken-step_title,
+  step_title-allowed,
+  allowed-step_title,
   begins_by_sign,
   begins_for_nobody,
   begins_as_signed,

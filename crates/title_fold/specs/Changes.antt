@@ -1,4 +1,4 @@
--- What a transaction that is taken changes: whose possession and whose title it makes.
+-- What a transaction that is allowed changes: whose possession and whose title it makes.
 use Rattle.std.specs.Prelude.{◌≡◌, Option, Some}
 use Rattle.ebl_base.specs.declared.kind.Kind.{Kind}
 use Rattle.ebl_base.specs.declared.kind.Kind.TheVariants.{Sign, Issue, Endorse, Transfer, SurrenderForDelivery, SurrenderForAmendment, SurrenderAccepted, SurrenderRefused}

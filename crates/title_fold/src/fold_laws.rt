@@ -18,7 +18,7 @@ pub fn fold_of_front_and_rest()
 /// The fold of one transaction more is its step on the title so far. So a title that is kept beside a list needs one
 /// step for each transaction.
 pub fn fold_of_one_more()
-    ensures taken { (list : List Transaction) (t : Transaction)
+    ensures allowed { (list : List Transaction) (t : Transaction)
         → (before : Option Title) (after : Title)
         → fold list ≡ Ok before → step_title before t ≡ Ok after
         → fold (list ++ t ∷ []) ≡ Ok (Some after) }
@@ -35,8 +35,8 @@ pub fn fold_begins_with_its_first_transaction()
         → fold list ≡ Ok title → IsBegunBy list title }
 {}
 
-/// A fold stops at the first transaction that is refused: all before it are taken, and its rule is the one that refuses
-/// there.
+/// A fold stops at the first transaction that is refused: all before it are allowed, and its rule is the one that
+/// refuses there.
 pub fn fold_stops_at_the_first_refusal()
     ensures stops { (list : List Transaction) (at : FoldAt) → fold list ≡ Err at → StopsAt list at }
     ensures there { (list : List Transaction) (at : FoldAt) → StopsAt list at → fold list ≡ Err at }

@@ -9,7 +9,7 @@ use crate::refusal::FoldRefusal;
 use crate::title::Title;
 use ebl_base::{Kind, Party, Transaction};
 
-/// The title after a transaction, or the first rule that refuses it. Where no title stands, a SIGN alone is taken.
+/// The title after a transaction, or the first rule that refuses it. Where no title stands, a SIGN alone is allowed.
 pub fn apply(before: Option<Title>, t: &Transaction) -> Result<Title, FoldRefusal>
     ensures { result ≡ step_title before t.now }
 {

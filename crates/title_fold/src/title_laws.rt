@@ -5,7 +5,7 @@ ghost use Rattle.std.specs.Prelude.{◌≡◌, ◌≢◌, Option, Some, None, Ok
 ghost use Rattle.title_fold.specs.Changes.{GivesPossession, GivesTitle};
 ghost use Rattle.title_fold.specs.Rules.{is_sign};
 ghost use Rattle.title_fold.specs.Step.{step_title};
-ghost use Rattle.title_fold.specs.Taken.{IsTaken};
+ghost use Rattle.title_fold.specs.Allowed.{IsAllowed};
 ghost use Rattle.title_fold.specs.Title.{carrier, possessor, title_holder};
 ghost use Rattle.title_fold.specs.declared.title.Title.TheVariants.{Signed, Live, Ended};
 
@@ -13,12 +13,12 @@ use crate::refusal::FoldRefusal;
 use crate::title::Title;
 use ebl_base::{Kind, Party, Transaction};
 
-/// The rules and the table of kinds let through what the table of the taken transactions has, and nothing else.
-pub fn step_makes_what_is_taken()
-    ensures taken { (before : Option Title) (t : Transaction) (after : Title)
-        → step_title before t ≡ Ok after → IsTaken before t after }
+/// The rules and the table of kinds let through what the table of the allowed transactions has, and nothing else.
+pub fn step_makes_what_is_allowed()
+    ensures allowed { (before : Option Title) (t : Transaction) (after : Title)
+        → step_title before t ≡ Ok after → IsAllowed before t after }
     ensures made { (before : Option Title) (t : Transaction) (after : Title)
-        → IsTaken before t after → step_title before t ≡ Ok after }
+        → IsAllowed before t after → step_title before t ≡ Ok after }
 {}
 
 /// A title begins with a SIGN that has no recipient, and its actor is the carrier.

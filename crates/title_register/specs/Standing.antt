@@ -64,7 +64,7 @@ standing_with change s = record {
 abbrev pub over_if : Bool → PartingChange
 over_if over = if over then Over else Same
 
--- a chain that is told, unless a longer one is known
+-- a chain that is recorded, unless a longer one is known
 abbrev pub unless_shorter : Option (List ChainLink) → Option (List ChainLink) → Option (List ChainLink)
 unless_shorter None known1 = None
 unless_shorter (Some chain) known1 =

@@ -226,7 +226,7 @@ fn over_if(over: bool) -> PartingChange
     }
 }
 
-// A chain that is told, unless a longer one is known.
+// A chain that is recorded, unless a longer one is known.
 fn unless_shorter(told: Option<Chain>, known: &Option<Chain>) -> Option<Chain>
     ensures { result ≡ unless_shorter told known.now }
 {

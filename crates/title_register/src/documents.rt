@@ -82,7 +82,7 @@ pub(crate) fn partings_after(frames: &[Frame], partings: usize, frame: &Frame) -
 {
     let most = frames.len();
     prove!(partings <= most);
-    if parts(kept_in(frame)) {
+    if is_parted(kept_in(frame)) {
         partings + 1
     } else {
         partings
@@ -99,7 +99,7 @@ pub(crate) fn kept_in(frame: &Frame) -> &Record
 }
 
 // Whether a record is a Parted.
-fn parts(kept: &Record) -> bool
+fn is_parted(kept: &Record) -> bool
     ensures { result ≡ is_parted kept.now }
 {
     match kept {

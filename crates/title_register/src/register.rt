@@ -284,7 +284,7 @@ impl Register {
         self.numbers.make_room(room.came)?;
         self.numbers.make_room(room.taken)?;
         let mut frames = mem::replace(&mut self.diary, Items::new(alloc)).into_vec();
-        let result = make_place(&mut frames);
+        let result = reserve_frame(&mut frames);
         match result {
             Ok(()) => self.reserved = Some(Reserved { frames, room }),
             Err(NoMemory) => self.diary = Items::from_vec(frames),
@@ -329,8 +329,8 @@ impl Register {
     }
 }
 
-// Takes the place of one more frame.
-fn make_place(frames: &mut Vec<Frame>) -> Result<(), NoMemory>
+// Reserves room for one more frame.
+fn reserve_frame(frames: &mut Vec<Frame>) -> Result<(), NoMemory>
     ensures same { frames.new.items ≡ frames.old.items }
     ensures ok { OnOk result (vec_len frames.new < vec_capacity frames.new) }
 {

@@ -93,7 +93,7 @@ EndsRight-cons t [] before after steps here behind =
       between = before;
       stays = refl;
       after = after;
-      taken = steps;
+      allowed = steps;
       moved = here;
     }
 EndsRight-cons t (u ∷ us) before after steps here behind =
@@ -104,7 +104,7 @@ EndsRight-cons t (u ∷ us) before after steps here behind =
       between = behind.between;
       stays = (after, steps, here, behind.stays);
       after = behind.after;
-      taken = behind.taken;
+      allowed = behind.allowed;
       moved = behind.moved;
     }
 
@@ -157,7 +157,7 @@ pub ends-run : (ts : List Transaction) (before : Option Title) (place : ℕ) (en
     → run ts before true place ≡ ran_to (record { title = Some ends.after; moves_last = true })
 ends-run ts before place ends =
     ap (λ xs. run xs before true place) ends.parts
-    ∙ stays-run ends.front ends.last before ends.between ends.after place ends.stays ends.taken ends.moved
+    ∙ stays-run ends.front ends.last before ends.between ends.after place ends.stays ends.allowed ends.moved
 
 -- ---- as a loop goes on
 

@@ -141,23 +141,23 @@ beyond_needs_both known shown entry front is short =
     (length_of_both known entry) short
     (ap (λ n. nat_eq n (length own) && nat_lt (length own) (length shown)) is ∙ goes_beyond-common own shown)
 
--- ---- the entry at a place
+-- ---- the entry at an index
 
--- the known chain's entry at the place, or else the one that is parting
+-- the known chain's entry at the index, or else the one that is parting
 abbrev pub link_or : Option ChainLink → ChainLink → ChainLink
 link_or (Some link) entry = link
 link_or None entry = entry
 
-own_link_at : (known : List ChainLink) (entry : ChainLink) (place : ℕ)
-    → option_or (slice_get (known ++ entry ∷ []) place) (Some entry) ≡ Some (link_or (slice_get known place) entry)
+own_link_at : (known : List ChainLink) (entry : ChainLink) (index : ℕ)
+    → option_or (slice_get (known ++ entry ∷ []) index) (Some entry) ≡ Some (link_or (slice_get known index) entry)
 own_link_at [] entry zero = refl
-own_link_at [] entry (suc place) = refl
+own_link_at [] entry (suc index) = refl
 own_link_at (x ∷ xs) entry zero = refl
-own_link_at (x ∷ xs) entry (suc place) = own_link_at xs entry place
+own_link_at (x ∷ xs) entry (suc index) = own_link_at xs entry index
 
-pub own_text_at : (known : List ChainLink) (entry : ChainLink) (place : ℕ)
-    → text_at place (known ++ entry ∷ []) ≡ Some (link_or (slice_get known place) entry).text
-own_text_at known entry place =
-    ap (λ last. option_map (λ (l : ChainLink). l.text) (option_or (slice_get (known ++ entry ∷ []) place) last))
+pub own_text_at : (known : List ChainLink) (entry : ChainLink) (index : ℕ)
+    → text_at index (known ++ entry ∷ []) ≡ Some (link_or (slice_get known index) entry).text
+own_text_at known entry index =
+    ap (λ last. option_map (λ (l : ChainLink). l.text) (option_or (slice_get (known ++ entry ∷ []) index) last))
     (last_of-push known entry)
-    ∙ ap (option_map (λ (l : ChainLink). l.text)) (own_link_at known entry place)
+    ∙ ap (option_map (λ (l : ChainLink). l.text)) (own_link_at known entry index)

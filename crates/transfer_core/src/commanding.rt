@@ -19,7 +19,7 @@ ghost use Rattle.bill_diary.specs.Place.{place_of};
 ghost use Rattle.bill_diary.specs.Sound.{IsSound};
 ghost use Rattle.transfer_judge.specs.Plan.{HasAttempts, IsRefusal, Plan, plan_of};
 ghost use Rattle.transfer_judge.specs.PlannedTexts.{IsHandedIn, IsListed};
-ghost use Rattle.platform_machine.specs.Commanding.{FollowsPlan, IsParted, IsSignedEntry, IsSignedManifest, IsThere, Parts, SendsStartWith, StepsAtCommand};
+ghost use Rattle.platform_machine.specs.Commanding.{FollowsPlan, IsParted, IsSignedEntry, IsSignedManifest, IsThere, PartsWith, SendsStartWith, StepsAtCommand};
 ghost use Rattle.platform_machine.specs.Step.{IsDone};
 ghost use Rattle.transfer_core.specs.Decision.{step_by};
 ghost use Rattle.transfer_core.specs.Held.{IsHeld};
@@ -166,7 +166,7 @@ fn parted(
 ) -> Result<Decision, NoMemory>
     requires sound { IsSound me register.now.diary }
     requires held { IsHeld (place_of (history manifest.bill register.now.diary)) }
-    ensures { IfOk result (λ d. Parts register.now.diary link manifest manifest_text to
+    ensures { IfOk result (λ d. PartsWith register.now.diary link manifest manifest_text to
         (step_by register.now.diary d)) }
 {
     let bill = manifest.bill;

@@ -39,9 +39,9 @@ fn unless_beyond(alloc: Global, own: &Chain, shown: &Chain) -> Result<Option<Evi
 fn evidence(alloc: Global, own: &Chain, shown: &Chain) -> Result<Evidence, NoMemory>
     ensures { IfOk result (λ evidence. evidence ≡ evidence_of own.now shown.now) }
 {
-    let place = common_front(own.as_slice(), shown.as_slice());
-    let own = text_at(alloc, place, own.as_slice())?;
-    let theirs = text_at(alloc, place, shown.as_slice())?;
+    let index = common_front(own.as_slice(), shown.as_slice());
+    let own = text_at(alloc, index, own.as_slice())?;
+    let theirs = text_at(alloc, index, shown.as_slice())?;
     Ok(Evidence { own, theirs })
 }
 
@@ -80,9 +80,9 @@ fn evidence_of_both(
 ) -> Result<Evidence, NoMemory>
     ensures { IfOk result (λ evidence. evidence ≡ evidence_of (known.now ++ entry.now ∷ []) shown.now) }
 {
-    let place = front_with(known, entry, shown);
-    let own = Some(own_link_at(place, known, entry).text.copy(alloc)?);
-    let theirs = text_at(alloc, place, shown)?;
+    let index = front_with(known, entry, shown);
+    let own = Some(own_link_at(index, known, entry).text.copy(alloc)?);
+    let theirs = text_at(alloc, index, shown)?;
     Ok(Evidence { own, theirs })
 }
 
@@ -98,11 +98,11 @@ fn front_with(known: &[ChainLink], entry: &ChainLink, shown: &[ChainLink]) -> us
     }
 }
 
-// The known chain's entry at a place, or else the one that is parting.
-fn own_link_at<'a>(place: usize, known: &'a [ChainLink], entry: &'a ChainLink) -> &'a ChainLink
-    ensures { Some result.now.text ≡ text_at place (known.now ++ entry.now ∷ []) }
+// The known chain's entry at an index, or else the one that is parting.
+fn own_link_at<'a>(index: usize, known: &'a [ChainLink], entry: &'a ChainLink) -> &'a ChainLink
+    ensures { Some result.now.text ≡ text_at index (known.now ++ entry.now ∷ []) }
 {
-    match known.get(place) {
+    match known.get(index) {
         Some(link) => link,
         None => entry,
     }
@@ -110,20 +110,20 @@ fn own_link_at<'a>(place: usize, known: &'a [ChainLink], entry: &'a ChainLink) -
 
 // ---- texts
 
-// The text of the entry at a place, or of the last one.
-fn text_at(alloc: Global, place: usize, chain: &[ChainLink]) -> Result<Option<SignedText>, NoMemory>
-    ensures { IfOk result (λ text. text ≡ text_at place chain.now) }
+// The text of the entry at an index, or of the last one.
+fn text_at(alloc: Global, index: usize, chain: &[ChainLink]) -> Result<Option<SignedText>, NoMemory>
+    ensures { IfOk result (λ text. text ≡ text_at index chain.now) }
 {
-    match link_at(place, chain) {
+    match link_at(index, chain) {
         Some(link) => Ok(Some(link.text.copy(alloc)?)),
         None => Ok(None),
     }
 }
 
-fn link_at(place: usize, chain: &[ChainLink]) -> Option<&ChainLink>
-    ensures { option_map (λ link. link.text) (option_copied result) ≡ text_at place chain.now }
+fn link_at(index: usize, chain: &[ChainLink]) -> Option<&ChainLink>
+    ensures { option_map (λ link. link.text) (option_copied result) ≡ text_at index chain.now }
 {
-    match chain.get(place) {
+    match chain.get(index) {
         Some(link) => Some(link),
         None => last_link(chain),
     }

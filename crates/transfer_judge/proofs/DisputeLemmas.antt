@@ -1,4 +1,4 @@
--- The text of a chain's entry at a place past the last one is that of the last one.
+-- The text of a chain's entry at an index past the last one is that of the last one.
 use Rattle.std.proofs.Common.{◌≡◌, ℕ, zero, suc, ◌≤◌, List, [], ◌∷◌, None, length, refl, ap, sym, arith}
 use Rattle.std.specs.Prelude.{option_map, slice_get}
 use Rattle.std.specs.Option.{option_or}
@@ -6,15 +6,15 @@ use Rattle.ebl_base.specs.declared.chain.ChainLink.{ChainLink}
 use Rattle.bill_chain.specs.Chain.{last_of}
 use Rattle.transfer_judge.specs.Dispute.{text_at}
 
--- no entry stands at a place past the last
-pub none_past : (chain : List ChainLink) (place : ℕ) → length chain ≤ place → slice_get chain place ≡ None
-none_past [] place past = refl
+-- no entry stands at an index past the last
+pub none_past : (chain : List ChainLink) (index : ℕ) → length chain ≤ index → slice_get chain index ≡ None
+none_past [] index past = refl
 none_past (link ∷ links) zero past = absurd (omega arith)
-none_past (link ∷ links) (suc place) past = none_past links place (omega arith)
+none_past (link ∷ links) (suc index) past = none_past links index (omega arith)
 
 -- so the last one is taken
-pub text_past : (chain : List ChainLink) (place : ℕ) → length chain ≤ place
-    → option_map (λ link. link.text) (last_of chain) ≡ text_at place chain
-text_past chain place past =
+pub text_past : (chain : List ChainLink) (index : ℕ) → length chain ≤ index
+    → option_map (λ link. link.text) (last_of chain) ≡ text_at index chain
+text_past chain index past =
     sym (ap (λ link. option_map (λ (l : ChainLink). l.text) (option_or link (last_of chain)))
-    (none_past chain place past))
+    (none_past chain index past))

@@ -39,9 +39,9 @@ use Rattle.title_fold.specs.Title.{possessor}
 use Rattle.title_fold.specs.Fold.{fold}
 use Rattle.title_fold.specs.Step.{step_title}
 use Rattle.title_fold.specs.Movement.{moves}
-use Rattle.title_fold.specs.Taken.{Takes}
-use Rattle.title_fold.proofs.StepLemmas.{step_title-taken}
-use Rattle.title_fold.proofs.FoldLemmas.{fold-push-taken}
+use Rattle.title_fold.specs.Allowed.{Allows}
+use Rattle.title_fold.proofs.StepLemmas.{step_title-allowed}
+use Rattle.title_fold.proofs.FoldLemmas.{fold-push-allowed}
 use Rattle.bill_chain.specs.Chain.{transactions_of, destination, platform_with}
 use Rattle.bill_diary.specs.declared.record.Record.{Record}
 use Rattle.bill_diary.specs.declared.record.Record.TheVariants.{Signed, Acted, Attached, Parted}
@@ -133,7 +133,7 @@ module _ (roster : RosterRecord) (keys : Keys) (me : PlatformCode) (diary : List
                 before = a.before;
                 title = a.title;
                 after = a.after;
-                taken = a.taken;
+                allowed = a.allowed;
                 stays = stays;
                 form = record { actor = given.by; recipient = given.form.2; time = given.time };
                 room = out.0;
@@ -217,7 +217,7 @@ stays_put p X moved =
 -- a step that moves goes to a listed platform, where the carrier's is listed
 listed_on : (roster : RosterRecord) (me : PlatformCode) (before : Title) (kind : Kind) (actor : Party)
     (recipient : Option Party) (after : Title)
-    → Takes (Some before) kind actor recipient after → moves (Some before) after ≡ true
+    → Allows (Some before) kind actor recipient after → moves (Some before) after ≡ true
     → missing_party roster me (Some before) kind recipient ≡ None
     → has_platform roster (title.carrier before).platform ≡ true
     → has_platform roster (possessor after).platform ≡ true
@@ -246,7 +246,7 @@ step_listed : (roster : RosterRecord) (me : PlatformCode) (before : Option Title
     → has_platform roster (possessor after).platform ≡ true
 step_listed roster me None t after taken moved none carriers = absurd (let no : false ≡ true = moved in cc)
 step_listed roster me (Some before) t after taken moved none carriers =
-    listed_on roster me before t.kind t.actor t.recipient after (step_title-taken (Some before) t after taken) moved none
+    listed_on roster me before t.kind t.actor t.recipient after (step_title-allowed (Some before) t after taken) moved none
     (carriers before refl)
 
 -- ---- an entry that parts
@@ -266,7 +266,7 @@ pub record PlannedPart (roster : RosterRecord) (me : PlatformCode) (records : Li
   pub title : fold (transactions_of known ++ since) ≡ Ok before
   pub none_missing : missing_party roster me before kind recipient ≡ None
   pub after : Title
-  pub taken : step_title before (transaction_by party now kind recipient) ≡ Ok after
+  pub allowed : step_title before (transaction_by party now kind recipient) ≡ Ok after
   pub moved : moves before after ≡ true
   pub few : length known < 64
   pub room : length since + 1 ≤ 32
@@ -316,7 +316,7 @@ module _ (roster : RosterRecord) (me : PlatformCode) (records : List Record) (pa
         title = a.title;
         none_missing = a.none_missing;
         after = a.after;
-        taken = a.taken;
+        allowed = a.allowed;
         moved = moved;
         few = out.0;
         room = out.1;
@@ -414,7 +414,7 @@ entry_follows roster keys me diary party command now entry documents to link man
             before = p.before;
             title = p.title;
             after = p.after;
-            taken = p.taken;
+            allowed = p.allowed;
             moved = p.moved;
             link_is = record {
               name = l.name;
@@ -432,7 +432,7 @@ entry_follows roster keys me diary party command now entry documents to link man
             names_last = m.names_link;
             documents = m.lists ∙ sym p.documents_is;
           };
-          listed = step_listed roster me p.before (transaction_by party now p.kind p.recipient) p.after p.taken p.moved
+          listed = step_listed roster me p.before (transaction_by party now p.kind p.recipient) p.after p.allowed p.moved
               p.none_missing
               (λ title1 before_is.
               carrier_is_listed roster keys me listed p.bill (newest_first diary) legal.records
@@ -470,7 +470,7 @@ goes_there roster me records party command now entry documents to link is link_i
     transactions_of-push p.known link ∙ ap (λ (ts : List Transaction). transactions_of p.known ++ ts) made
     ∙ sym (append_assoc (transactions_of p.known) p.since (t ∷ [])) in
     let folds : fold (transactions_of (p.known ++ link ∷ [])) ≡ Ok (Some p.after) =
-    ap fold list ∙ fold-push-taken (transactions_of p.known ++ p.since) t p.before p.after p.title p.taken in
+    ap fold list ∙ fold-push-allowed (transactions_of p.known ++ p.since) t p.before p.after p.title p.allowed in
     record {
       known = p.known;
       since = p.since;

@@ -137,7 +137,7 @@ pub record IsPlanned (roster : RosterRecord) (me : PlatformCode) (h : List Recor
   pub title : fold (transactions_of known ++ since) ≡ Ok before
   pub none_missing : missing_party roster me before t.kind t.recipient ≡ None
   pub after : Title
-  pub taken : step_title before t ≡ Ok after
+  pub allowed : step_title before t ≡ Ok after
   pub comes : ((moves before after ≡ true) × Moves me h bill t known since after x)
       ⊎ ((moves before after ≡ false) × Stays bill t since x)
 
@@ -177,7 +177,7 @@ act_planned roster me h bill t x is =
       title = folded (fold (transactions_of known ++ since)) before title;
       none_missing = none;
       after = after;
-      taken = taken;
+      allowed = taken;
       comes = comes known since before after (either (moves before after) _ _ x is4);
     }
   where

@@ -9,11 +9,11 @@ use Rattle.bill_diary.specs.declared.bill_place.BillPlace.{BillPlace}
 use Rattle.bill_diary.specs.Place.{chain_at}
 use Rattle.bill_diary.specs.Receiving.{continues}
 
--- the text of a chain's entry at a place; of the last one where there is none; none where the chain is empty
+-- the text of a chain's entry at an index; of the last one where there is none; none where the chain is empty
 abbrev pub text_at : ℕ → List ChainLink → Option SignedText
-text_at place chain = option_map (λ link. link.text) (option_or (slice_get chain place) (last_of chain))
+text_at index chain = option_map (λ link. link.text) (option_or (slice_get chain index) (last_of chain))
 
--- the texts of both chains at the first place where they have entries of different names, or one of them has none
+-- the texts of both chains at the first index where they have entries of different names, or one of them has none
 abbrev pub evidence_of : List ChainLink → List ChainLink → Evidence
 evidence_of own shown = record {
   own = text_at (common_front own shown) own;

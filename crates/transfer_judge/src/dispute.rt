@@ -41,26 +41,26 @@ fn unless_beyond(alloc: Global, own: &Chain, shown: &Chain) -> Result<Option<Evi
 fn evidence(alloc: Global, own: &Chain, shown: &Chain) -> Result<Evidence, NoMemory>
     ensures { IfOk result (λ evidence. evidence ≡ evidence_of own.now shown.now) }
 {
-    let place = common_front(own.as_slice(), shown.as_slice());
-    let own = text_at(alloc, place, own.as_slice())?;
-    let theirs = text_at(alloc, place, shown.as_slice())?;
+    let index = common_front(own.as_slice(), shown.as_slice());
+    let own = text_at(alloc, index, own.as_slice())?;
+    let theirs = text_at(alloc, index, shown.as_slice())?;
     Ok(Evidence { own, theirs })
 }
 
-// The text of the entry at a place, or of the last one.
-fn text_at(alloc: Global, place: usize, chain: &[ChainLink]) -> Result<Option<SignedText>, NoMemory>
-    ensures { IfOk result (λ text. text ≡ text_at place chain.now) }
+// The text of the entry at an index, or of the last one.
+fn text_at(alloc: Global, index: usize, chain: &[ChainLink]) -> Result<Option<SignedText>, NoMemory>
+    ensures { IfOk result (λ text. text ≡ text_at index chain.now) }
 {
-    match link_at(place, chain) {
+    match link_at(index, chain) {
         Some(link) => Ok(Some(link.text.copy(alloc)?)),
         None => Ok(None),
     }
 }
 
-fn link_at(place: usize, chain: &[ChainLink]) -> Option<&ChainLink>
-    ensures { option_map (λ link. link.text) (option_copied result) ≡ text_at place chain.now }
+fn link_at(index: usize, chain: &[ChainLink]) -> Option<&ChainLink>
+    ensures { option_map (λ link. link.text) (option_copied result) ≡ text_at index chain.now }
 {
-    match chain.get(place) {
+    match chain.get(index) {
         Some(link) => Some(link),
         None => last_link(chain),
     }

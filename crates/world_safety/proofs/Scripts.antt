@@ -2,7 +2,7 @@
 use Rattle.std.proofs.Common.{◌≡◌, inl, inr, ℕ, ◌*◌, ◌≤◌, true, List, [], ◌∷◌, ◌++◌, length, Option, Some, None, Result, Ok, Err, refl, sym, ap, subst, ◌∙◌}
 use Rattle.std.specs.Prelude.{IfSome, codes, map, option_and_then}
 use Rattle.ebl_base.specs.PlatformCode.{code_eq}
-use Rattle.ebl_base.specs.Parts.{parts_of}
+use Rattle.ebl_base.specs.Segments.{segments_of}
 use Rattle.ebl_base.specs.declared.checksum.Checksum.{Checksum}
 use Rattle.ebl_base.specs.declared.platform_code.PlatformCode.{PlatformCode}
 use Rattle.canonical_json.specs.Value.{Value}
@@ -110,9 +110,9 @@ nothing_happened run none = λ front h rest is honest distinct. absurd (never fr
     never [] h rest same = cc same
     never (x ∷ front) h rest same = cc same
 
-pub run_safe : Laws → (script : List ℕ) (rings : List Keys) (run : Run) → HasEnoughRings (parts_of 10 script) rings
+pub run_safe : Laws → (script : List ℕ) (rings : List Keys) (run : Run) → HasEnoughRings (segments_of 10 script) rings
     → IsRunOf script rings run → StaysSafe run
-run_safe laws script rings run enough (fates, is) = on_lines (parts_of 10 script) enough is
+run_safe laws script rings run enough (fates, is) = on_lines (segments_of 10 script) enough is
   where
     on_roster : (line : List ℕ) (lines : List (List ℕ)) (o : Option RosterRecord) → roster_in line ≡ o
         → IfSome o (λ (roster : RosterRecord). 16 * length roster.platforms ≤ length rings)

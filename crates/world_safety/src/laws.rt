@@ -1,6 +1,6 @@
 //! Laws of runs of scripts. Each function does nothing: its contract is the law.
 ghost use Rattle.std.specs.Prelude.{ℕ, List};
-ghost use Rattle.ebl_base.specs.Parts.{parts_of};
+ghost use Rattle.ebl_base.specs.Segments.{segments_of};
 ghost use Rattle.signed_envelope.specs.KeyRing.{Keys};
 ghost use Rattle.platform_world.specs.Run.{IsRunOf, Run};
 ghost use Rattle.world_safety.specs.Safety.{HasEnoughRings, StaysSafe};
@@ -13,7 +13,7 @@ use run_safety::every_run_stays_safe;
 /// whatever its foreign lines bring that is honest: after each event each bill is safe, its line says that nothing
 /// forks, whoever may act is where it ends, and it names a title, whose possessor is there.
 pub fn every_run_of_a_script_stays_safe()
-    ensures { (script : List ℕ) (rings : List Keys) (run : Run) → HasEnoughRings (parts_of 10 script) rings
+    ensures { (script : List ℕ) (rings : List Keys) (run : Run) → HasEnoughRings (segments_of 10 script) rings
         → IsRunOf script rings run → StaysSafe run }
 {
     platforms_are_apart();

@@ -241,16 +241,16 @@ delivery_with number at =
 abbrev number_from : ℕ → Option ℕ
 number_from n = number_in 1 9007199254740991 (pos (min n 9007199254740991))
 
-abbrev place_with : (PlatformCode → BillName → EventRecord) → Option PlatformCode → Option BillName
+abbrev event_at : (PlatformCode → BillName → EventRecord) → Option PlatformCode → Option BillName
     → Result EventRecord EventFault
-place_with made at bill = required EventForm at (λ a. required EventForm bill (λ b. Ok (made a b)))
+event_at made at bill = required EventForm at (λ a. required EventForm bill (λ b. Ok (made a b)))
 
 written_place : (made : PlatformCode → BillName → EventRecord) (at : PlatformCode) (bill : BillName) → IsCode at
     → IsBillName bill
-    → place_with made (code_of (code_text at)) (bill_from (Some (bill_value bill))) ≡ Ok (made at bill)
+    → event_at made (code_of (code_text at)) (bill_from (Some (bill_value bill))) ≡ Ok (made at bill)
 written_place made at bill of_at of_bill =
-    ap (λ a. place_with made a (bill_from (Some (bill_value bill)))) of_at
-    ∙ ap (place_with made (Some at)) (bill_reads bill of_bill)
+    ap (λ a. event_at made a (bill_from (Some (bill_value bill)))) of_at
+    ∙ ap (event_at made (Some at)) (bill_reads bill of_bill)
 
 pub event_of-event_value : (e : EventRecord) → IsEvent e → event_of (event_value e) ≡ Ok e
 event_of-event_value (commands at party now deed) form = written_command at party now deed form.0 form.1 form.2 form.3

@@ -36,8 +36,8 @@ named_bill v =
     option_or (option_map Number (numbered (codes "bill") v)) (option_map Name (required_checksum (codes "bill") v))
 
 -- `at`: a platform's code
-abbrev pub place_at : Value → Option PlatformCode
-place_at v = required_platform (codes "at") v
+abbrev pub platform_at : Value → Option PlatformCode
+platform_at v = required_platform (codes "at") v
 
 -- `reference`: a UUID's text
 abbrev pub named_reference : Value → Option Reference
@@ -95,7 +95,7 @@ command_with at party now (Ok deed) = Ok (commands at party now deed)
 
 abbrev pub command_of : Value → Result EventRecord EventFault
 command_of v =
-    required EventForm (place_at v) (λ at.
+    required EventForm (platform_at v) (λ at.
     required EventForm (required_party (codes "party") v) (λ party.
     required EventForm (moment_at v) (λ now.
     command_with at party now (deed_of v))))
@@ -142,7 +142,7 @@ received_at at (Ok bytes) = Ok (receives at bytes)
 
 abbrev pub foreign_of : Value → Result EventRecord EventFault
 foreign_of v =
-    required EventForm (place_at v) (λ at.
+    required EventForm (platform_at v) (λ at.
     required EventForm (text_of (codes "foreign") v) (λ word.
     received_at at (foreign_under word v)))
 
@@ -166,14 +166,14 @@ if_true mark read = Err EventForm
 abbrev pub resend_of : Value → Result EventRecord EventFault
 resend_of v =
     if_true (flag_of (codes "resend") v) (
-    required EventForm (place_at v) (λ at.
+    required EventForm (platform_at v) (λ at.
     required EventForm (named_bill v) (λ bill.
     Ok (resends at bill))))
 
 abbrev pub question_of : Value → Result EventRecord EventFault
 question_of v =
     if_true (flag_of (codes "ask") v) (
-    required EventForm (place_at v) (λ at.
+    required EventForm (platform_at v) (λ at.
     required EventForm (named_bill v) (λ bill.
     Ok (asks at bill))))
 

@@ -3,7 +3,7 @@ use crate::tests::making::party;
 use ebl_base::{
     ByteList, CallList, Calls, CarrierCode, Chain, ChainLink, CharList, Checksum, ChecksumList,
     Copied, Entry, Evidence, Kind, Moment, Name35, Party, PlatformCode, SignedText, Transaction,
-    TransactionList, first_part,
+    TransactionList, first_segment,
 };
 use std::alloc::Global;
 use std::process::Abort;
@@ -108,7 +108,7 @@ fn parts(rt: HostRuntime) {
         (b"\n\n", b"", b"\n"),
     ];
     for (text, part, rest) in rows {
-        match first_part(b'\n', text) {
+        match first_segment(b'\n', text) {
             Some((front, behind)) => {
                 assert!(rt; front == part, "{text:?}");
                 assert!(rt; behind == rest, "{text:?}");
@@ -116,7 +116,7 @@ fn parts(rt: HostRuntime) {
             None => assert!(rt; false, "{text:?} has a part"),
         }
     }
-    assert!(rt; first_part(b'\n', b"").is_none());
+    assert!(rt; first_segment(b'\n', b"").is_none());
 }
 
 #[test]

@@ -238,7 +238,7 @@ fn one_byte_more(rt: HostRuntime) -> Result<(), Fail> {
     Ok(())
 }
 
-// A front of a frame is none, but for a Begun in front of its Taken.
+// A front of a frame is none, except for a Begun in front of its Taken.
 fn assert_fronts(rt: &impl Abort, alloc: Global, digits: &str, but: usize) -> Result<(), Fail> {
     let bytes = bytes_of(alloc, digits)?;
     for len in 0..bytes.len() {

@@ -251,7 +251,7 @@ fn parted_chains(rt: HostRuntime) -> Result<(), Fail> {
     tell_parted_chains(&rt, &mut world, &mut other)
 }
 
-// Received, and the sender is told.
+// Received, and the sender is informed.
 fn hand_over<R: Abort>(rt: &R, world: &mut World, number: usize) -> Result<(), Fail> {
     assert!(rt; world.deliver(number)?.starts_with("RECE"));
     assert!(rt;

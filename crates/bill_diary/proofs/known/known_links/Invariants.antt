@@ -1,4 +1,4 @@
--- What was told is told by the records behind those that are left.
+-- What was recorded, by the records behind those that are left.
 use Rattle.std.proofs.Common.{◌≡◌, List, ◌++◌, map, vec_len}
 use Rattle.bill_diary.specs.declared.record.Record.{Record}
 use Rattle.bill_diary.specs.KnownChains.{IsToldBy}

@@ -2,7 +2,7 @@ use Rattle.std.proofs.Common.{◌∙◌, ℕ, length, refl, sym, ap, subst}
 use Rattle.std.specs.Prelude.{Option}
 use Rattle.std.proofs.KnownBytes.{Appends-nil}
 use Rattle.std.proofs.lemmas.List.{length-map}
-use Rattle.ebl_base.specs.Parts.{parts_of}
+use Rattle.ebl_base.specs.Segments.{segments_of}
 use Rattle.platform_world.specs.Run as runs
 use Rattle.platform_world.specs.Run.{RunsScript}
 use Rattle.ebl_cli.specs.Drive.{first_bad_line, output_of, racks_for, racks_needed}
@@ -16,8 +16,8 @@ use Rattle.ebl_cli.proofs.drive.drive.Goals as goal
 
 pub returns-in_default-clause-cause : goal.returns-in_default-clause-cause
 returns-in_default-clause-cause g c =
-    subst (λ (s : Status). IsCausedBy s (first_bad_line (parts_of 10 c.args.script.now)) (length c.args.racks.items)
-    (racks_for (parts_of 10 c.args.script.now)) (written_among (racks_for (parts_of 10 c.args.script.now)) (lengths_of g.D.Disk.seen c.args.racks.items)))
+    subst (λ (s : Status). IsCausedBy s (first_bad_line (segments_of 10 c.args.script.now)) (length c.args.racks.items)
+    (racks_for (segments_of 10 c.args.script.now)) (written_among (racks_for (segments_of 10 c.args.script.now)) (lengths_of g.D.Disk.seen c.args.racks.items)))
     (sym c.at_once.ensures.status) (bad_empty c.args.script.now c.in_default.ensures.parts)
 
 pub returns-in_default-clause-ran : goal.returns-in_default-clause-ran
@@ -42,17 +42,17 @@ returns-in_default-clause-ends g c =
 
 pub returns-in_default-clause-racks : goal.returns-in_default-clause-racks
 returns-in_default-clause-racks g c =
-    handed_at_once g.D.Disk.faults g.G.KeyRing.faults (racks_for (parts_of 10 c.args.script.now)) c.args.racks.items
+    handed_at_once g.D.Disk.faults g.G.KeyRing.faults (racks_for (segments_of 10 c.args.script.now)) c.args.racks.items
     c.at_once.result c.at_once.ensures.racks c.at_once.ensures.fates
     (λ place is. bad_is_no_open 1 place (sym c.at_once.ensures.status ∙ is))
 
 pub returns-in-Ok-None-clause-cause : goal.returns-in-Ok-None-clause-cause
 returns-in-Ok-None-clause-cause g c =
     let is = rw (c.in-Ok-None.field-0-is) at c.in-Ok-None.ensures.roster in
-    subst (λ (s : Status). IsCausedBy s (first_bad_line (parts_of 10 c.args.script.now)) (length c.args.racks.items)
-    (racks_for (parts_of 10 c.args.script.now)) (written_among (racks_for (parts_of 10 c.args.script.now)) (lengths_of g.D.Disk.seen c.args.racks.items)))
+    subst (λ (s : Status). IsCausedBy s (first_bad_line (segments_of 10 c.args.script.now)) (length c.args.racks.items)
+    (racks_for (segments_of 10 c.args.script.now)) (written_among (racks_for (segments_of 10 c.args.script.now)) (lengths_of g.D.Disk.seen c.args.racks.items)))
     (sym c.at_once-in-Ok-None.ensures.status)
-    (bad_first_line c.args.script.now c.in-Some.line.now (parts_of 10 c.in-Some.rest.now) c.in-Some.ensures.parts (sym is))
+    (bad_first_line c.args.script.now c.in-Some.line.now (segments_of 10 c.in-Some.rest.now) c.in-Some.ensures.parts (sym is))
 
 pub returns-in-Ok-None-clause-ran : goal.returns-in-Ok-None-clause-ran
 returns-in-Ok-None-clause-ran g c served =
@@ -61,7 +61,7 @@ returns-in-Ok-None-clause-ran g c served =
     (λ fates run. RunsScript c.args.script.now (keys_of g.G.KeyRing.keys c.args.racks.items) fates run)
     c.args.racks.items c.at_once-in-Ok-None.result (runs.bad_line 1) (BadScript 1) (g.K.Sink.written c.args.sink.now)
     c.at_once-in-Ok-None.ensures.status c.at_once-in-Ok-None.ensures.fates
-    (runs_no_roster c.args.script.now c.in-Some.line.now (parts_of 10 c.in-Some.rest.now)
+    (runs_no_roster c.args.script.now c.in-Some.line.now (segments_of 10 c.in-Some.rest.now)
     (keys_of g.G.KeyRing.keys c.args.racks.items) c.in-Some.ensures.parts (sym is))
     (output_of bad_at_once, refl, refl, Appends-nil (g.K.Sink.written c.args.sink.now))
 
@@ -78,14 +78,14 @@ returns-in-Ok-None-clause-ends g c =
 
 pub returns-in-Ok-None-clause-racks : goal.returns-in-Ok-None-clause-racks
 returns-in-Ok-None-clause-racks g c =
-    handed_at_once g.D.Disk.faults g.G.KeyRing.faults (racks_for (parts_of 10 c.args.script.now)) c.args.racks.items
+    handed_at_once g.D.Disk.faults g.G.KeyRing.faults (racks_for (segments_of 10 c.args.script.now)) c.args.racks.items
     c.at_once-in-Ok-None.result c.at_once-in-Ok-None.ensures.racks c.at_once-in-Ok-None.ensures.fates
     (λ place is. bad_is_no_open 1 place (sym c.at_once-in-Ok-None.ensures.status ∙ is))
 
 pub returns-in-Err-clause-cause : goal.returns-in-Err-clause-cause
 returns-in-Err-clause-cause g c =
-    subst (λ (s : Status). IsCausedBy s (first_bad_line (parts_of 10 c.args.script.now)) (length c.args.racks.items)
-    (racks_for (parts_of 10 c.args.script.now)) (written_among (racks_for (parts_of 10 c.args.script.now)) (lengths_of g.D.Disk.seen c.args.racks.items)))
+    subst (λ (s : Status). IsCausedBy s (first_bad_line (segments_of 10 c.args.script.now)) (length c.args.racks.items)
+    (racks_for (segments_of 10 c.args.script.now)) (written_among (racks_for (segments_of 10 c.args.script.now)) (lengths_of g.D.Disk.seen c.args.racks.items)))
     (sym c.at_once-in-Err.ensures.status) tt
 
 pub returns-in-Err-clause-ran : goal.returns-in-Err-clause-ran
@@ -110,7 +110,7 @@ returns-in-Err-clause-ends g c =
 
 pub returns-in-Err-clause-racks : goal.returns-in-Err-clause-racks
 returns-in-Err-clause-racks g c =
-    handed_at_once g.D.Disk.faults g.G.KeyRing.faults (racks_for (parts_of 10 c.args.script.now)) c.args.racks.items
+    handed_at_once g.D.Disk.faults g.G.KeyRing.faults (racks_for (segments_of 10 c.args.script.now)) c.args.racks.items
     c.at_once-in-Err.result c.at_once-in-Err.ensures.racks c.at_once-in-Err.ensures.fates
     (λ place is. memory_is_no_open place (sym c.at_once-in-Err.ensures.status ∙ is))
 
@@ -118,11 +118,11 @@ pub returns-in-Ok-Some-clause-cause : goal.returns-in-Ok-Some-clause-cause
 returns-in-Ok-Some-clause-cause g c =
     let is = rw (c.in-Ok-Some.field-0-is) at c.in-Ok-Some.ensures.roster in
     let lengths = lengths_of g.D.Disk.seen c.args.racks.items in
-    let needed = racks_behind c.args.script.now c.in-Some.line.now (parts_of 10 c.in-Some.rest.now) c.in-Ok-Some.roster
+    let needed = racks_behind c.args.script.now c.in-Some.line.now (segments_of 10 c.in-Some.rest.now) c.in-Ok-Some.roster
     c.in-Some.ensures.parts (sym is) in
-    let bad = bad_behind c.args.script.now c.in-Some.line.now (parts_of 10 c.in-Some.rest.now) c.in-Ok-Some.roster
+    let bad = bad_behind c.args.script.now c.in-Some.line.now (segments_of 10 c.in-Some.rest.now) c.in-Ok-Some.roster
     c.in-Some.ensures.parts (sym is) in
-    subst (λ (n : ℕ). IsCausedBy c.drive_roster.result.status (first_bad_line (parts_of 10 c.args.script.now)) (length c.args.racks.items) n (written_among n lengths)) (sym needed)
+    subst (λ (n : ℕ). IsCausedBy c.drive_roster.result.status (first_bad_line (segments_of 10 c.args.script.now)) (length c.args.racks.items) n (written_among n lengths)) (sym needed)
     (subst (λ (o : Option ℕ). IsCausedBy c.drive_roster.result.status o (length c.args.racks.items)
     (racks_needed c.in-Ok-Some.roster) (written_among (racks_needed c.in-Ok-Some.roster) lengths)) bad c.drive_roster.ensures.cause)
 
@@ -130,12 +130,12 @@ pub returns-in-Ok-Some-clause-ran : goal.returns-in-Ok-Some-clause-ran
 returns-in-Ok-Some-clause-ran g c served =
     let is = rw (c.in-Ok-Some.field-0-is) at c.in-Ok-Some.ensures.roster in
     let lengths = lengths_of g.D.Disk.seen c.args.racks.items in
-    let needed = racks_behind c.args.script.now c.in-Some.line.now (parts_of 10 c.in-Some.rest.now) c.in-Ok-Some.roster
+    let needed = racks_behind c.args.script.now c.in-Some.line.now (segments_of 10 c.in-Some.rest.now) c.in-Ok-Some.roster
     c.in-Some.ensures.parts (sym is) in
     let ran = c.drive_roster.ensures.ran (rw needed at served) in
     record {
       run = ran.run;
-      runs = runs_behind_roster c.args.script.now c.in-Some.line.now (parts_of 10 c.in-Some.rest.now) c.in-Ok-Some.roster
+      runs = runs_behind_roster c.args.script.now c.in-Some.line.now (segments_of 10 c.in-Some.rest.now) c.in-Ok-Some.roster
           (keys_of g.G.KeyRing.keys c.args.racks.items) c.drive_roster.result.fates ran.run c.in-Some.ensures.parts
           (sym is) ran.runs;
       wrote = ran.wrote;
@@ -145,7 +145,7 @@ returns-in-Ok-Some-clause-ran g c served =
 pub returns-in-Ok-Some-clause-ends : goal.returns-in-Ok-Some-clause-ends
 returns-in-Ok-Some-clause-ends g c =
     let is = rw (c.in-Ok-Some.field-0-is) at c.in-Ok-Some.ensures.roster in
-    let needed = racks_behind c.args.script.now c.in-Some.line.now (parts_of 10 c.in-Some.rest.now) c.in-Ok-Some.roster
+    let needed = racks_behind c.args.script.now c.in-Some.line.now (segments_of 10 c.in-Some.rest.now) c.in-Ok-Some.roster
     c.in-Some.ensures.parts (sym is) in
     let lengths = lengths_of g.D.Disk.seen c.args.racks.items in
     let rings = keys_of g.G.KeyRing.keys c.args.racks.items in
@@ -159,7 +159,7 @@ returns-in-Ok-Some-clause-ends g c =
 pub returns-in-Ok-Some-clause-racks : goal.returns-in-Ok-Some-clause-racks
 returns-in-Ok-Some-clause-racks g c =
     let is = rw (c.in-Ok-Some.field-0-is) at c.in-Ok-Some.ensures.roster in
-    let needed = racks_behind c.args.script.now c.in-Some.line.now (parts_of 10 c.in-Some.rest.now) c.in-Ok-Some.roster
+    let needed = racks_behind c.args.script.now c.in-Some.line.now (segments_of 10 c.in-Some.rest.now) c.in-Ok-Some.roster
     c.in-Some.ensures.parts (sym is) in
     subst (λ (n : ℕ). AreHandedBack g.D.Disk.faults g.G.KeyRing.faults n c.args.racks.items c.drive_roster.result) (sym needed)
     c.drive_roster.ensures.racks

@@ -2,7 +2,7 @@ use Rattle.std.proofs.Common.{◌≡◌, ◌≤◌, ◌*◌, ◌∙◌, inl, Lis
 use Rattle.std.specs.Prelude.{Option}
 use Rattle.std.proofs.lemmas.Bool.{false≢true}
 use Rattle.std.proofs.lemmas.List.{length-map}
-use Rattle.ebl_base.specs.Parts.{parts_of}
+use Rattle.ebl_base.specs.Segments.{segments_of}
 use Rattle.platform_world.specs.declared.fate.Fate.{Fate}
 use Rattle.ebl_cli.specs.Drive.{first_bad, output_of, racks_needed, serve}
 use Rattle.ebl_cli.specs.Racks.{IsUnfit, keys_of, lengths_of, written_among}
@@ -35,15 +35,15 @@ returns-in-Ok-clause-cause g c =
     let needed : 16 * length c.platforms.result.now ≡ racks_needed c.args.roster = ap (λ ps. 16 * length ps) c.platforms.ensures in
     let blank : written_among (racks_needed c.args.roster) lengths ≡ None =
     ap (λ (n : ℕ). written_among n lengths) (sym needed) ∙ c.in-Ok.ensures.blank in
-    subst (λ (o : Option ℕ). IsCausedBy c.drive_world.result.status (first_bad c.args.roster 1 (parts_of 10 c.args.lines.now))
+    subst (λ (o : Option ℕ). IsCausedBy c.drive_world.result.status (first_bad c.args.roster 1 (segments_of 10 c.args.lines.now))
     (length c.args.racks.items) (racks_needed c.args.roster) o) (sym blank)
-    (subst (λ (n : ℕ). IsCausedBy c.drive_world.result.status (first_bad c.args.roster 1 (parts_of 10 c.args.lines.now))
+    (subst (λ (n : ℕ). IsCausedBy c.drive_world.result.status (first_bad c.args.roster 1 (segments_of 10 c.args.lines.now))
     n (racks_needed c.args.roster) None) c.measure.ensures.measured.length_is c.drive_world.ensures.cause)
 
 pub returns-in-Ok-clause-ran : goal.returns-in-Ok-clause-ran
 returns-in-Ok-clause-ran g c served =
     ran_behind g.D.Disk.tells g.D.Disk.seen g.D.Disk.may_leave g.D.Disk.faults g.G.KeyRing.keys g.G.KeyRing.faults
-    c.args.racks.items c.measure.new.racks.items c.args.roster (parts_of 10 c.args.lines.now) c.drive_world.result
+    c.args.racks.items c.measure.new.racks.items c.args.roster (segments_of 10 c.args.lines.now) c.drive_world.result
     (g.K.Sink.written c.args.sink.now) (g.K.Sink.written c.drive_world.new.sink) c.measure.ensures.measured
     c.drive_world.ensures.ran
 
@@ -69,7 +69,7 @@ returns-in-Ok-clause-unwritten g c before = absurd (c.drive_world.ensures.touche
 
 pub returns-in-Err-clause-cause : goal.returns-in-Err-clause-cause
 returns-in-Err-clause-cause g c =
-    let bad = first_bad c.args.roster 1 (parts_of 10 c.args.lines.now) in
+    let bad = first_bad c.args.roster 1 (segments_of 10 c.args.lines.now) in
     let needed : 16 * length c.platforms.result.now ≡ racks_needed c.args.roster = ap (λ ps. 16 * length ps) c.platforms.ensures in
     let why = subst (λ (n : ℕ). IsUnfit g.D.Disk.seen g.D.Disk.faults n c.args.racks.items c.measure.new.racks.items c.in-Err.unfit) needed c.in-Err.ensures.unfit in
     subst (λ (s : Status). IsCausedBy s bad (length c.args.racks.items) (racks_needed c.args.roster)
@@ -79,13 +79,13 @@ returns-in-Err-clause-cause g c =
 
 pub returns-in-Err-clause-ran : goal.returns-in-Err-clause-ran
 returns-in-Err-clause-ran g c served =
-    let bad = first_bad c.args.roster 1 (parts_of 10 c.args.lines.now) in
+    let bad = first_bad c.args.roster 1 (segments_of 10 c.args.lines.now) in
     let needed : 16 * length c.platforms.result.now ≡ racks_needed c.args.roster = ap (λ ps. 16 * length ps) c.platforms.ensures in
     let why = subst (λ (n : ℕ). IsUnfit g.D.Disk.seen g.D.Disk.faults n c.args.racks.items c.measure.new.racks.items c.in-Err.unfit) needed c.in-Err.ensures.unfit in
     let now = g.K.Sink.written c.args.sink.now in
     record {
       run = never_begun;
-      runs = subst (λ (fs : List Fate). RunsBehind c.args.roster (parts_of 10 c.args.lines.now)
+      runs = subst (λ (fs : List Fate). RunsBehind c.args.roster (segments_of 10 c.args.lines.now)
           (keys_of g.G.KeyRing.keys c.args.racks.items) fs never_begun) (sym c.at_once.ensures.fates) (inl (refl, refl));
       wrote = subst (λ (s : Status). EndsAs s (λ out. out ≡ output_of never_begun) now now) (sym c.at_once.ensures.status)
           (refused_wrote g.D.Disk.seen g.D.Disk.faults (racks_needed c.args.roster) c.args.racks.items
@@ -98,7 +98,7 @@ returns-in-Err-clause-refused g c unserved = (c.at_once.ensures.fates, refl)
 
 pub returns-in-Err-clause-racks : goal.returns-in-Err-clause-racks
 returns-in-Err-clause-racks g c =
-    let bad = first_bad c.args.roster 1 (parts_of 10 c.args.lines.now) in
+    let bad = first_bad c.args.roster 1 (segments_of 10 c.args.lines.now) in
     let needed : 16 * length c.platforms.result.now ≡ racks_needed c.args.roster = ap (λ ps. 16 * length ps) c.platforms.ensures in
     let why = subst (λ (n : ℕ). IsUnfit g.D.Disk.seen g.D.Disk.faults n c.args.racks.items c.measure.new.racks.items c.in-Err.unfit) needed c.in-Err.ensures.unfit in
     let further = subst (λ (n : ℕ). drop n c.measure.new.racks.items ≡ drop n c.args.racks.items) needed c.measure.ensures.further in
@@ -110,9 +110,9 @@ returns-in-Err-clause-racks g c =
 pub returns-in-Err-clause-after_read : goal.returns-in-Err-clause-after_read
 returns-in-Err-clause-after_read g c =
     subst IsCommandEnd (sym c.at_once.ensures.status)
-    (refused_ends c.in-Err.unfit (first_bad c.args.roster 1 (parts_of 10 c.args.lines.now)) c.refuse-status.result c.refuse-status.ensures)
+    (refused_ends c.in-Err.unfit (first_bad c.args.roster 1 (segments_of 10 c.args.lines.now)) c.refuse-status.result c.refuse-status.ensures)
 
 pub returns-in-Err-clause-write_fault : goal.returns-in-Err-clause-write_fault
 returns-in-Err-clause-write_fault g c is =
-    absurd (refused_put c.in-Err.unfit (first_bad c.args.roster 1 (parts_of 10 c.args.lines.now)) c.refuse-status.result
+    absurd (refused_put c.in-Err.unfit (first_bad c.args.roster 1 (segments_of 10 c.args.lines.now)) c.refuse-status.result
     c.refuse-status.ensures (sym c.at_once.ensures.status ∙ is))

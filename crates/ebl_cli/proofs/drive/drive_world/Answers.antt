@@ -1,7 +1,7 @@
 use Rattle.std.proofs.Common.{◌≡◌, ◌≤◌, ◌++◌, ◌∙◌, inl, List, Some, None, drop, length, refl, sym, ap, subst, arith}
 use Rattle.std.specs.Prelude.{reverse}
 use Rattle.std.proofs.lemmas.List.{length-map}
-use Rattle.ebl_base.specs.Parts.{parts_of}
+use Rattle.ebl_base.specs.Segments.{segments_of}
 use Rattle.platform_world.specs.declared.fate.Fate.{Fate}
 use Rattle.platform_world.specs.World.{WorldRecord}
 use Rattle.ebl_cli.specs.Drive.{first_bad, output_of, racks_needed}
@@ -35,7 +35,7 @@ returns-in-Ok-clause-ran g c =
     c.close.ensures.fates ∙ ran.fates_are ∙ ap (λ (fs : List Fate). fs ++ ran.fates) c.in-Ok.ensures.fates in
     record {
       run = ran.run;
-      runs = runs_opened c.args.roster (parts_of 10 c.args.lines.now) (keys_of g.G.KeyRing.keys c.args.racks.items) _
+      runs = runs_opened c.args.roster (segments_of 10 c.args.lines.now) (keys_of g.G.KeyRing.keys c.args.racks.items) _
           ran.fates c.close.result.fates ran.run c.in-Ok.ensures.opening fates_are ran.runs;
       wrote = subst (λ (s : Status). EndsAs s (λ out. out ≡ output_of ran.run) (g.K.Sink.written c.args.sink.now)
           (g.K.Sink.written c.run_events-status.new.sink)) (sym c.close.ensures.status) ran.wrote;
@@ -51,11 +51,11 @@ returns-in-Ok-clause-cause g c =
     let enough = serve_enough (racks_needed c.args.roster) lengths c.requires.serve in
     let given : racks_needed c.args.roster ≤ length c.args.racks.items =
     omega (arith, enough, length-map c.args.racks.items (λ rack. length (g.D.Disk.seen rack.disk))) in
-    let caused = subst (λ (w : WorldRecord). IsCausedBy c.run_events-status.result (first_bad w.roster 1 (parts_of 10 c.args.lines.now)) 0 0 None)
+    let caused = subst (λ (w : WorldRecord). IsCausedBy c.run_events-status.result (first_bad w.roster 1 (segments_of 10 c.args.lines.now)) 0 0 None)
     c.in-Ok.ensures.opening c.run_events-status.ensures.cause in
-    subst (λ (s : Status). IsCausedBy s (first_bad c.args.roster 1 (parts_of 10 c.args.lines.now)) (length c.args.racks.items)
+    subst (λ (s : Status). IsCausedBy s (first_bad c.args.roster 1 (segments_of 10 c.args.lines.now)) (length c.args.racks.items)
     (racks_needed c.args.roster) None) (sym c.close.ensures.status)
-    (caused_with c.run_events-status.result (first_bad c.args.roster 1 (parts_of 10 c.args.lines.now)) (length c.args.racks.items)
+    (caused_with c.run_events-status.result (first_bad c.args.roster 1 (segments_of 10 c.args.lines.now)) (length c.args.racks.items)
     (racks_needed c.args.roster) given c.run_events-status.ensures.after_open caused)
 
 pub returns-in-Ok-clause-racks : goal.returns-in-Ok-clause-racks
@@ -101,9 +101,9 @@ returns-in-Err-clause-cause g c =
     let given : racks_needed c.args.roster ≤ length c.args.racks.items =
     omega (arith, enough, length-map c.args.racks.items (λ rack. length (g.D.Disk.seen rack.disk))) in
     let status = c.at_once.ensures.status ∙ c.status_by.ensures in
-    subst (λ (s : Status). IsCausedBy s (first_bad c.args.roster 1 (parts_of 10 c.args.lines.now)) (length c.args.racks.items)
+    subst (λ (s : Status). IsCausedBy s (first_bad c.args.roster 1 (segments_of 10 c.args.lines.now)) (length c.args.racks.items)
     (racks_needed c.args.roster) None) (sym status)
-    (unopened_caused c.in-Err.fault (first_bad c.args.roster 1 (parts_of 10 c.args.lines.now)) (length c.args.racks.items)
+    (unopened_caused c.in-Err.fault (first_bad c.args.roster 1 (segments_of 10 c.args.lines.now)) (length c.args.racks.items)
     (racks_needed c.args.roster) given)
 
 pub returns-in-Err-clause-ran : goal.returns-in-Err-clause-ran
@@ -112,7 +112,7 @@ returns-in-Err-clause-ran g c =
     let now = g.K.Sink.written c.args.sink.now in
     record {
       run = never_begun;
-      runs = subst (λ (fs : List Fate). RunsBehind c.args.roster (parts_of 10 c.args.lines.now)
+      runs = subst (λ (fs : List Fate). RunsBehind c.args.roster (segments_of 10 c.args.lines.now)
           (keys_of g.G.KeyRing.keys c.args.racks.items) fs never_begun) (sym c.at_once.ensures.fates) (inl (refl, refl));
       wrote = subst (λ (s : Status). EndsAs s (λ out. out ≡ output_of never_begun) now now) (sym status)
           (unopened_wrote c.in-Err.fault now);

@@ -1,6 +1,6 @@
 -- So many lines were answered, and what was written is their answers.
 use Rattle.std.proofs.Common.{◌≡◌, ◌+◌, ◌≤◌, length}
-use Rattle.ebl_base.specs.Parts.{parts_of}
+use Rattle.ebl_base.specs.Segments.{segments_of}
 use Rattle.ebl_cli.specs.Drive.{first_bad}
 use Rattle.ebl_cli.proofs.RunLemmas.{Reached}
 use Rattle.ebl_cli.proofs.drive.run_events.Given as goal
@@ -10,8 +10,8 @@ invariant-loop-line g l =
     let written = g.K.Sink.written in
     let roster = l.fn.world.platforms.roster in
     record {
-      reached : Reached g.M.Machine.seen g.M.Machine.faults roster (parts_of 10 l.fn.lines) l.fn.world (parts_of 10 l.rest) l.n l.world (written l.fn.sink) (written l.sink);
-      left : first_bad roster l.n (parts_of 10 l.rest) ≡ first_bad roster 1 (parts_of 10 l.fn.lines);
+      reached : Reached g.M.Machine.seen g.M.Machine.faults roster (segments_of 10 l.fn.lines) l.fn.world (segments_of 10 l.rest) l.n l.world (written l.fn.sink) (written l.sink);
+      left : first_bad roster l.n (segments_of 10 l.rest) ≡ first_bad roster 1 (segments_of 10 l.fn.lines);
       numbered : l.n ≤ 100000;
       counted : length l.world.fates + 1 ≡ l.n;
       same_roster : l.world.platforms.roster ≡ roster;

@@ -1,6 +1,6 @@
 use Rattle.std.proofs.Common.{◌≡◌, ◌∙◌, List, ℕ, None, drop, length, sym, ap, subst, true}
 use Rattle.std.specs.Prelude.{IfSome}
-use Rattle.ebl_base.specs.Parts.{parts_of}
+use Rattle.ebl_base.specs.Segments.{segments_of}
 use Rattle.platform_world.specs.Run as runs
 use Rattle.platform_world.specs.Run.{RunsScript}
 use Rattle.rehearsal.specs.Roster.{made_roster}
@@ -18,7 +18,7 @@ use Rattle.ebl_cli.proofs.run.run_ebl.Goals as goal
 
 pub returns-in-Ok-clause-safe : goal.returns-in-Ok-clause-safe
 returns-in-Ok-clause-safe g c =
-    of_script (λ (script : List ℕ). serve (racks_for (parts_of 10 script)) (lengths_of g.D.Disk.seen c.args.racks.items) ≡ true
+    of_script (λ (script : List ℕ). serve (racks_for (segments_of 10 script)) (lengths_of g.D.Disk.seen c.args.racks.items) ≡ true
     → RanSafely g.D.Disk.seen g.D.Disk.may_leave g.D.Disk.faults g.G.KeyRing.keys g.G.KeyRing.faults script c.args.racks.items
     c.run_command.result (g.K.Sink.written c.args.sink.now) (g.K.Sink.written c.run_command.new.sink))
     _ c.in-Some.command (g.S.Source.left c.args.source.now) c.in-Ok.text.items c.in-Some.ensures.command c.in-Ok.ensures.ok
@@ -83,10 +83,10 @@ returns-in-Err-clause-open_fault g c place is =
 pub returns-in-Err-clause-cause : goal.returns-in-Err-clause-cause
 returns-in-Err-clause-cause g c driven =
     if_told _ (g.S.Source.left c.args.source.now) (λ script.
-    subst (λ (s : Status). IsCausedBy s (first_bad_line (parts_of 10 script)) (length c.args.racks.items)
-    (racks_for (parts_of 10 script)) (written_among (racks_for (parts_of 10 script)) (lengths_of g.D.Disk.seen c.args.racks.items)))
+    subst (λ (s : Status). IsCausedBy s (first_bad_line (segments_of 10 script)) (length c.args.racks.items)
+    (racks_for (segments_of 10 script)) (written_among (racks_for (segments_of 10 script)) (lengths_of g.D.Disk.seen c.args.racks.items)))
     (sym (c.at_once-in-Err.ensures.status ∙ c.status_for.ensures))
-    (unread_caused c.in-Err.fault _ (length c.args.racks.items) (racks_for (parts_of 10 script)) _))
+    (unread_caused c.in-Err.fault _ (length c.args.racks.items) (racks_for (segments_of 10 script)) _))
 
 pub returns-in-Err-clause-rehearsal_cause : goal.returns-in-Err-clause-rehearsal_cause
 returns-in-Err-clause-rehearsal_cause g c seed bills steps named =

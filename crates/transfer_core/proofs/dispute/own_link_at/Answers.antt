@@ -7,5 +7,5 @@ pub returns-in-None : goal.returns-in-None
 returns-in-None c =
     let known = c.args.known.now in
     let entry = c.args.entry.now in
-    sym (own_text_at known entry c.args.place
-    ∙ ap (λ link. Some (link_or link entry).text) (slice_get_past known c.args.place c.in-None.ensures.lookup.3))
+    sym (own_text_at known entry c.args.index
+    ∙ ap (λ link. Some (link_or link entry).text) (slice_get_past known c.args.index c.in-None.ensures.lookup.3))

@@ -6,6 +6,6 @@ use Rattle.transfer_judge.proofs.dispute.link_at.Goals as goal
 
 pub returns-in-None : goal.returns-in-None
 returns-in-None c =
-    let past : length c.args.chain.now ≤ c.args.place = omega (arith, c.in-None.ensures.lookup.3) in
+    let past : length c.args.chain.now ≤ c.args.index = omega (arith, c.in-None.ensures.lookup.3) in
     ap (option_map (λ (link : ChainLink). link.text)) c.last_link.ensures
-    ∙ text_past c.args.chain.now c.args.place past
+    ∙ text_past c.args.chain.now c.args.index past

@@ -2,7 +2,7 @@ use Rattle.std.proofs.Common.{arith, nat_eq}
 use Rattle.std.proofs.lemmas.List.Sums.{prefix_len-le-length}
 use Rattle.std.proofs.Math.Bool.{not}
 use Rattle.std.proofs.lemmas.Grind.{common_steps}
-use Rattle.ebl_base.proofs.parts.len_before.Goals as goal
+use Rattle.ebl_base.proofs.segments.len_before.Goals as goal
 
 pub returns-clause-len : goal.returns-clause-len
 returns-clause-len c =
