@@ -22,17 +22,23 @@ use title_fold::{FoldRefusal, Title};
 pub fn may_act(alloc: Global, d: &Diary, bill: Checksum) -> Result<bool, NoMemory>
     ensures { IfOk result (λ may. may ≡ may_act_by (history bill d.now)) }
 {
-    let frames = d.as_slice();
-    let Some(known) = known_links(alloc, History::of(frames, bill))? else {
+    may_act_by(alloc, History::of(d.as_slice(), bill))
+}
+
+/// The same by what is left of the bill's history.
+pub fn may_act_by(alloc: Global, h: History) -> Result<bool, NoMemory>
+    ensures { IfOk result (λ may. may ≡ may_act_by h.entry) }
+{
+    let Some(known) = known_links(alloc, h.restart())? else {
         return Ok(false);
     };
-    if parting(History::of(frames, bill)).is_some() {
+    if parting(h.restart()).is_some() {
         return Ok(false);
     }
-    if is_left(known.last(), History::of(frames, bill)) {
+    if is_left(known.last(), h.restart()) {
         return Ok(false);
     }
-    let made = since(alloc, History::of(frames, bill))?;
+    let made = since(alloc, h)?;
     Ok(!is_ended(known.title_with(made.as_slice())))
 }
 

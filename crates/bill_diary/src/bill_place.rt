@@ -5,7 +5,7 @@ ghost use Rattle.bill_diary.specs.History.{history};
 ghost use Rattle.bill_diary.specs.Known.{known};
 ghost use Rattle.bill_diary.specs.Place.{is_settled, known_at, place_of, tag_of};
 
-use crate::frame::{Diary, Frame};
+use crate::frame::Diary;
 use crate::known::known_chain;
 use crate::parting::{is_settled, parting};
 use crate::since::since;
@@ -70,35 +70,38 @@ impl BillPlace {
 pub fn place(alloc: Global, d: &Diary, bill: Checksum) -> Result<BillPlace, NoMemory>
     ensures { IfOk result (λ place. place ≡ place_of (history bill d.now)) }
 {
-    let frames = d.as_slice();
-    let Some(chain) = known_chain(alloc, History::of(frames, bill))? else {
+    place_of(alloc, History::of(d.as_slice(), bill))
+}
+
+/// The place of a bill by what is left of its history.
+///
+/// It costs what [`place`] costs, for the records that are left.
+pub fn place_of(alloc: Global, h: History) -> Result<BillPlace, NoMemory>
+    ensures { IfOk result (λ place. place ≡ place_of h.entry) }
+{
+    let Some(chain) = known_chain(alloc, h.restart())? else {
         return Ok(BillPlace::Absent);
     };
-    place_with(alloc, frames, bill, chain)
+    place_with(alloc, h, chain)
 }
 
 // The place of a bill whose known chain this is.
-fn place_with(
-    alloc: Global,
-    frames: &[Frame],
-    bill: Checksum,
-    chain: Chain,
-) -> Result<BillPlace, NoMemory>
-    requires { known (history bill frames.now) ≡ Some chain }
-    ensures { IfOk result (λ place. place ≡ place_of (history bill frames.now)) }
+fn place_with(alloc: Global, h: History, chain: Chain) -> Result<BillPlace, NoMemory>
+    requires { known h ≡ Some chain }
+    ensures { IfOk result (λ place. place ≡ place_of h.entry) }
 {
-    if let Some(link) = parting(History::of(frames, bill)) {
+    if let Some(link) = parting(h.restart()) {
         return Ok(BillPlace::Parting {
             known: chain,
             entry: link.copy(alloc)?,
         });
     }
-    if is_left(last_link(chain.as_slice()), History::of(frames, bill)) {
+    if is_left(last_link(chain.as_slice()), h.restart()) {
         return Ok(BillPlace::Gone { known: chain });
     }
     Ok(BillPlace::Held {
         known: chain,
-        since: since(alloc, History::of(frames, bill))?,
+        since: since(alloc, h)?,
     })
 }
 

@@ -20,9 +20,9 @@ mod since;
 mod titles;
 mod walk;
 
-pub use acting::may_act;
+pub use acting::{may_act, may_act_by};
 pub use begun::taken_chain;
-pub use bill_place::{BillPlace, place};
+pub use bill_place::{BillPlace, place, place_of};
 pub use documents::{count_parted, pieces};
 pub use frame::{Diary, Frame};
 pub use index::DiaryIndex;
