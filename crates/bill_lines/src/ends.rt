@@ -4,17 +4,17 @@ ghost use Rattle.std.specs.Option.{option_map_or, option_or};
 ghost use Rattle.std.specs.Result.{result_ok};
 ghost use Rattle.title_fold.specs.Fold.{fold};
 ghost use Rattle.bill_chain.specs.Chain.{destination, transactions_of};
-ghost use Rattle.bill_diary.specs.Place.{may_act_by, place_of};
+ghost use Rattle.bill_diary.specs.Place.{place_of};
 ghost use Rattle.closed_family.specs.Histories.{is_signed, signs};
 ghost use Rattle.bill_diary.specs.History.{record_at};
 ghost use Rattle.closed_family.specs.Safe.{front_of};
 ghost use Rattle.bill_lines.specs.Bills.{acting, further_at, signed_on};
 ghost use Rattle.bill_lines.specs.Diaries.{histories_in, platforms_in};
 
-use crate::diaries::{PlatformDiary, diary_on, history_on};
+use crate::diaries::{PlatformDiary, history_on};
 use crate::forks::is_same;
 use bill_chain::{destination, fold_after_chain};
-use bill_diary::{BillPlace, History, Record, RecordRef, may_act, place};
+use bill_diary::{BillPlace, History, Record, RecordRef, may_act_by, place_of};
 use ebl_base::{ChainLink, Checksum, Items, NoMemory, PlatformCode, Transaction, TransactionList};
 use std::alloc::Global;
 use title_fold::Title;
@@ -118,11 +118,8 @@ fn place_on(
 ) -> Result<BillPlace, NoMemory>
     ensures { IfOk result (λ place. place ≡ place_of (option_map_or (histories_in bill diaries.now) p [])) }
 {
-    let Some(p) = p else {
-        return Ok(BillPlace::Absent);
-    };
-    match diary_on(diaries, p) {
-        Some(d) => place(alloc, d.diary, bill),
+    match p {
+        Some(p) => place_of(alloc, history_on(diaries, bill, p)),
         None => Ok(BillPlace::Absent),
     }
 }
@@ -159,23 +156,9 @@ pub(crate) fn acting(
 {
     let mut list = Vec::new(alloc);
     for p in platforms {
-        if may_act_on(alloc, bill, diaries, *p)? {
+        if may_act_by(alloc, history_on(diaries, bill, *p))? {
             list.push(*p)?;
         }
     }
     Ok(list)
-}
-
-fn may_act_on(
-    alloc: Global,
-    bill: Checksum,
-    diaries: &[PlatformDiary],
-    p: PlatformCode,
-) -> Result<bool, NoMemory>
-    ensures { IfOk result (λ may. may ≡ may_act_by (histories_in bill diaries.now p)) }
-{
-    match diary_on(diaries, p) {
-        Some(d) => may_act(alloc, d.diary, bill),
-        None => Ok(false),
-    }
 }

@@ -8,6 +8,6 @@ mod forks;
 mod lines;
 mod standing;
 
-pub use diaries::PlatformDiary;
+pub use diaries::{DiaryRef, PlatformDiary};
 pub use lines::{bill_line, bill_standing};
 pub use standing::Standing;

@@ -7,7 +7,7 @@ use super::making::{
 };
 use super::steps::{Step, diary};
 use bill_diary::Diary;
-use bill_lines::{PlatformDiary, bill_line};
+use bill_lines::{DiaryRef, PlatformDiary, bill_line};
 use ebl_base::ByteList;
 use std::alloc::Global;
 use std::test::Fail;
@@ -23,15 +23,15 @@ fn line_of(
     let diaries = [
         PlatformDiary {
             platform: at_alph,
-            diary: alph,
+            diary: DiaryRef::Whole(alph),
         },
         PlatformDiary {
             platform: at_beta,
-            diary: beta,
+            diary: DiaryRef::Whole(beta),
         },
         PlatformDiary {
             platform: at_gamm,
-            diary: gamm,
+            diary: DiaryRef::Whole(gamm),
         },
     ];
     let settled = [at_alph, at_beta, at_gamm];
@@ -162,7 +162,7 @@ fn a_loose_shard_lets_nobody_act(rt: HostRuntime) -> Result<(), Fail> {
     let alph = diary(alloc, bill, &ISSUED)?;
     let diaries = [PlatformDiary {
         platform: code(At::Alph)?,
-        diary: &alph,
+        diary: DiaryRef::Whole(&alph),
     }];
     let line = bill_line(alloc, 7, bill.name, &diaries, &[])?;
     assert_eq!(rt; line.as_slice(), LOOSE.as_bytes());
