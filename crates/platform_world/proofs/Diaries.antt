@@ -1,5 +1,5 @@
 -- The diaries of a bill's shards are what its histories come from.
-use Rattle.std.proofs.Common.{◌≡◌, ℕ, ◌+◌, ◌*◌, ◌<◌, Bool, true, false, cond, List, [], ◌∷◌, ◌++◌, Option, Some, None, take, drop, map, refl, sym, ap, ◌∙◌, arith}
+use Rattle.std.proofs.Common.{◌≡◌, ℕ, zero, suc, ◌+◌, ◌*◌, ◌<◌, Bool, true, false, cond, List, [], ◌∷◌, ◌++◌, Option, Some, None, length, take, drop, map, refl, sym, ap, ◌∙◌, arith}
 use Rattle.std.proofs.Math.Bool.{not}
 use Rattle.std.specs.Prelude.{filter, find, is_some, option_map, slice_get}
 use Rattle.std.specs.Option.{option_map_or}
@@ -10,7 +10,7 @@ use Rattle.ebl_base.specs.declared.checksum.Checksum.{Checksum}
 use Rattle.ebl_base.specs.declared.platform_code.PlatformCode.{PlatformCode}
 use Rattle.bill_diary.specs.declared.frame.Frame.{Frame}
 use Rattle.bill_diary.specs.History.{history}
-use Rattle.bill_lines.specs.Diaries.{histories_in, platforms_in}
+use Rattle.bill_lines.specs.Diaries.{frames_of, histories_in, platforms_in}
 use Rattle.bill_lines.specs.Lines.{bill_line}
 use Rattle.bill_lines.specs.Standing.{standing_by}
 use Rattle.bill_lines.specs.declared.diaries.PlatformDiary.{PlatformDiary}
@@ -38,9 +38,9 @@ by_given bill [] p = refl
 by_given bill (d ∷ ds) p = on_test (code_eq d.platform p) (by_given bill ds p)
   where
     on_test : (test : Bool) → histories_in bill ds p ≡ histories_by bill (map given_diary ds) p
-        → option_map_or (λ (x : PlatformDiary). history bill x.diary.now)
+        → option_map_or (λ (x : PlatformDiary). history bill (frames_of x.diary))
         (cond test (Some d) (find (λ (x : PlatformDiary). code_eq x.platform p) ds)) []
-        ≡ cond test (history bill d.diary.now) (histories_by bill (map given_diary ds) p)
+        ≡ cond test (history bill (frames_of d.diary)) (histories_by bill (map given_diary ds) p)
     on_test true further = refl
     on_test false further = further
 
@@ -101,6 +101,13 @@ same_platforms i ds ps shards same =
 
 -- ---- one diary more
 
+-- a shard stands at a place among all of them
+pub some_shard : {M : Type 0} (shards : List M) (place : ℕ) → place < length shards
+    → (m : M) × (slice_get shards place ≡ Some m)
+some_shard [] place within = absurd (omega arith)
+some_shard (m ∷ ms) zero within = (m, refl)
+some_shard (m ∷ ms) (suc place) within = some_shard ms place (omega arith)
+
 -- what is still to be given
 abbrev pub left_from : ℕ → ℕ → List PlatformCode → List ShardState → List ShardDiary
 left_from i place ps shards = map (shard_diary i) (grouped (drop place ps) (drop (16 * place) shards))
@@ -124,7 +131,7 @@ one_left i place p ps shards s small here there =
 -- those that are given and those that are left are all
 pub one_more_given : (i place : ℕ) (ps : List PlatformCode) (shards : List ShardState) (ds : List PlatformDiary)
     (d : PlatformDiary) (s : ShardState) → i < 16 → drop place ps ≡ d.platform ∷ drop (place + 1) ps
-    → slice_get shards (16 * place + i) ≡ Some s → d.diary.now ≡ s.diary
+    → slice_get shards (16 * place + i) ≡ Some s → frames_of d.diary ≡ s.diary
     → map given_diary ds ++ left_from i place ps shards ≡ map (shard_diary i) (grouped ps shards)
     → map given_diary (ds ++ d ∷ []) ++ left_from i (place + 1) ps shards ≡ map (shard_diary i) (grouped ps shards)
 one_more_given i place ps shards ds d s small here there same so_far =

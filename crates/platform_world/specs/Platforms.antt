@@ -9,6 +9,7 @@ use Rattle.party_roster.specs.RosterRecord.{RosterRecord}
 use Rattle.platform_requests.specs.Request.{RequestRecord}
 use Rattle.platform_requests.specs.declared.outcome.Outcome.{Outcome}
 use Rattle.bill_diary.specs.declared.frame.Frame.{Frame}
+use Rattle.bill_lines.specs.Diaries.{frames_of}
 use Rattle.bill_lines.specs.declared.diaries.PlatformDiary.{PlatformDiary}
 use Rattle.platform_world.specs.Machine.{MachineRecord, shard_state}
 use Rattle.platform_world.specs.declared.fate.Fate.{Fate}
@@ -98,7 +99,7 @@ shard_diary i state = record {
 }
 
 abbrev pub given_diary : PlatformDiary → ShardDiary
-given_diary d = record { platform = d.platform; diary = d.diary.now }
+given_diary d = record { platform = d.platform; diary = frames_of d.diary }
 
 -- ---- requests
 

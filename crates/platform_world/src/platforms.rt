@@ -3,13 +3,13 @@
 //! (1) There are sixteen shards for each platform of the roster, in its order, each for its platform and the roster,
 //!     and each over a disk that tells its content.
 //! (2) There is room to give all racks back: those of the shards behind the ones that none of them needed.
-ghost use Rattle.std.specs.Prelude.{◌≡◌, ◌*◌, ◌+◌, ◌-◌, ◌∷◌, ◌++◌, ◌<◌, ◌≤◌, Bool, [], true, filter, if◌then◌else◌, length, map, reverse, IfOk, IsErrOf, OnErr, OnOk, vec_capacity, vec_len};
+ghost use Rattle.std.specs.Prelude.{◌≡◌, ◌*◌, ◌+◌, ◌-◌, ◌∷◌, ◌++◌, ◌<◌, ◌≤◌, Bool, [], true, filter, if◌then◌else◌, length, map, reverse, slice_get, IfOk, IfSome, IsErrOf, OnErr, OnOk, vec_capacity, vec_len};
 ghost use Rattle.party_roster.specs.RosterRecord.{has_platform};
 ghost use Rattle.platform_machine.specs.Machine.{MayBeAsked};
 ghost use Rattle.platform_requests.specs.Request.{request_view};
 ghost use Rattle.answer_lines.specs.Lines.{IsWritable};
 ghost use Rattle.answer_lines.specs.declared.answer.Answer.TheVariants.{Replied};
-ghost use Rattle.bill_lines.specs.Diaries.{histories_in, platforms_in};
+ghost use Rattle.bill_lines.specs.Diaries.{frames_of, histories_in, platforms_in};
 ghost use Rattle.closed_family.specs.Family.{histories_of};
 ghost use Rattle.platform_world.specs.Machine.{AreForListed, disk_times, ring_times, shard_state};
 ghost use Rattle.platform_world.specs.Platforms.{AllTell, AreShardsOf, EachRose, TakesAt, AllHold, failures_at, given_diary, grouped, index_of, place_of, shard_diary, states_of, times_if};
@@ -20,7 +20,8 @@ ghost use Rattle.platform_world.specs.World.{ShardState, is_settled, member_of, 
 use crate::fate::{Fate, FateEnd};
 use crate::machine::{Machine, Unread};
 use crate::taking::{Taken, note, take_at};
-use bill_lines::PlatformDiary;
+use bill_diary::DiaryIndex;
+use bill_lines::{DiaryRef, PlatformDiary};
 use ebl_base::{Checksum, Items, Moment, NoMemory, PlatformCode};
 use party_roster::Roster;
 use platform_requests::{Request, SHARDS, shard_of_bill};
@@ -243,12 +244,22 @@ impl<M: Machine> Platforms<M> {
         settled_for_shard(alloc, self.roster.platforms(), self.shards.as_slice(), bill)
     }
 
-    /// The diaries of a bill's shards, one for each platform, in the roster's order.
-    pub(crate) fn diaries_of(
-        &self,
+    /// The diaries of all shards in their order, each indexed by its bills. It goes over each diary once.
+    pub(crate) fn indices(&self, alloc: Global) -> Result<Vec<DiaryIndex<'_>>, NoMemory>
+        ensures { IfOk result (λ indices. indices.items ≡ map (λ m. (M.seen m).diary) self.now.shards) }
+    {
+        indices_of(alloc, self.shards.as_slice())
+    }
+
+    /// The diaries of a bill's shards, one for each platform, in the roster's order: by their indices, if those of all
+    /// shards are given.
+    pub(crate) fn diaries_of<'a>(
+        &'a self,
         alloc: Global,
+        indices: Option<&'a [DiaryIndex<'a>]>,
         bill: Checksum,
-    ) -> Result<Vec<PlatformDiary<'_>>, NoMemory>
+    ) -> Result<Vec<PlatformDiary<'a>>, NoMemory>
+        requires { IfSome indices (λ given. given.now ≡ map (λ m. (M.seen m).diary) self.now.shards) }
         ensures platforms { IfOk result (λ diaries. platforms_in diaries.items ≡ self.now.roster.platforms) }
         ensures histories { IfOk result (λ diaries. histories_in bill diaries.items
             ≡ histories_of bill (map member_of (states_of M.seen self.now))) }
@@ -258,6 +269,7 @@ impl<M: Machine> Platforms<M> {
             alloc,
             self.roster.platforms(),
             self.shards.as_slice(),
+            indices,
             shard,
         )
     }
@@ -278,24 +290,39 @@ pub(crate) fn racks_of<M: Machine>(shards: Vec<M>, spare: Vec<M::Rack>) -> Vec<M
     racks
 }
 
+// The diaries of these shards, each indexed by its bills.
+fn indices_of<'a, M: Machine>(
+    alloc: Global,
+    shards: &'a [M],
+) -> Result<Vec<DiaryIndex<'a>>, NoMemory>
+    ensures { IfOk result (λ indices. indices.items ≡ map (λ m. (M.seen m).diary) shards.now) }
+{
+    let mut indices = Vec::with_capacity(alloc, shards.len())?;
+    for machine in shards {
+        indices.push(DiaryIndex::of(alloc, machine.diary().as_slice())?)?;
+    }
+    Ok(indices)
+}
+
 // The diaries of the shard of this number on each platform.
 fn diaries_of_shard<'a, M: Machine>(
     alloc: Global,
     platforms: &[PlatformCode],
     shards: &'a [M],
+    indices: Option<&'a [DiaryIndex<'a>]>,
     shard: usize,
 ) -> Result<Vec<PlatformDiary<'a>>, NoMemory>
     requires shard { shard < 16 }
     requires sixteen { length shards.now ≡ 16 * length platforms.now }
+    requires indexed { IfSome indices (λ given. given.now ≡ map (λ m. (M.seen m).diary) shards.now) }
     ensures { IfOk result (λ diaries. map given_diary diaries.items
         ≡ map (shard_diary shard) (grouped platforms.now (map (λ m. shard_state (M.seen m)) shards.now))) }
 {
     let mut diaries = Vec::with_capacity(alloc, platforms.len())?;
     for (place, platform) in platforms.iter().enumerate() {
-        let machine = &shards[16 * place + shard];
         diaries.push(PlatformDiary {
             platform: *platform,
-            diary: machine.diary(),
+            diary: diary_at(shards, indices, 16 * place + shard),
         })?;
     }
     Ok(diaries)
@@ -333,6 +360,22 @@ fn push_unless(
         settled.push(platform)?;
     }
     Ok(())
+}
+
+// The diary of the shard at a place: by its index, if those of all shards are given.
+fn diary_at<'a, M: Machine>(
+    shards: &'a [M],
+    indices: Option<&'a [DiaryIndex<'a>]>,
+    place: usize,
+) -> DiaryRef<'a>
+    requires within { place < length shards.now }
+    requires indexed { IfSome indices (λ given. given.now ≡ map (λ m. (M.seen m).diary) shards.now) }
+    ensures { (m : M) → slice_get shards.now place ≡ Some m → frames_of result ≡ (M.seen m).diary }
+{
+    match indices {
+        Some(given) => DiaryRef::Indexed(&given[place]),
+        None => DiaryRef::Whole(shards[place].diary()),
+    }
 }
 
 // The place of a platform among these; their number, if it isn't among them.

@@ -28,6 +28,7 @@ use crate::platforms::Platforms;
 use crate::saying::{line_of, send, sign};
 use crate::signed_bills::SignedBills;
 use answer_lines::{Answer, Parcel};
+use bill_diary::DiaryIndex;
 use bill_lines::{Standing, bill_line, bill_standing};
 use ebl_base::{ByteList, Checksum, Items, Moment, NoMemory, PlatformCode};
 use holder_commands::Command;
@@ -105,30 +106,44 @@ impl<M: Machine> World<M> {
 
     /// A line for each bill that the script signed, in their order.
     ///
-    /// For each of them it goes over the diaries of the bill's shards a few times.
+    /// It goes once over the diaries of all shards, and then for each bill a few times over the bill's own records.
     pub fn bill_lines(&self, alloc: Global) -> Result<ByteList, NoMemory>
         ensures { IfOk result (λ text. text ≡ bill_lines (world_of M.seen self.now)) }
     {
-        self.lines_of(alloc, self.signed.as_slice())
+        let indices = self.platforms.indices(alloc)?;
+        self.lines_of(alloc, indices.as_slice(), self.signed.as_slice())
     }
 
-    // A line for each of these bills, numbered from 1.
-    fn lines_of(&self, alloc: Global, bills: &[Checksum]) -> Result<ByteList, NoMemory>
+    // A line for each of these bills, numbered from 1, by the indices of all shards' diaries.
+    fn lines_of(
+        &self,
+        alloc: Global,
+        indices: &[DiaryIndex],
+        bills: &[Checksum],
+    ) -> Result<ByteList, NoMemory>
+        requires { indices.now ≡ map (λ m. (M.seen m).diary) self.now.platforms.shards }
         ensures { IfOk result (λ text. text ≡ bill_lines_from (world_of M.seen self.now) 1 bills.now) }
     {
         let mut text = ByteList::new(alloc);
         for (place, bill) in bills.iter().enumerate() {
-            let line = self.bill_line(alloc, place as u64 + 1, *bill)?;
+            let line = self.bill_line(alloc, indices, place as u64 + 1, *bill)?;
             text.extend_from_slice(line.as_slice())?;
         }
         Ok(text)
     }
 
     // The line of a bill of this number.
-    fn bill_line(&self, alloc: Global, number: u64, bill: Checksum) -> Result<ByteList, NoMemory>
+    fn bill_line(
+        &self,
+        alloc: Global,
+        indices: &[DiaryIndex],
+        number: u64,
+        bill: Checksum,
+    ) -> Result<ByteList, NoMemory>
+        requires { indices.now ≡ map (λ m. (M.seen m).diary) self.now.platforms.shards }
         ensures { IfOk result (λ line. line ≡ bill_line_in (world_of M.seen self.now) number bill) }
     {
-        let diaries = self.platforms.diaries_of(alloc, bill)?;
+        let diaries = self.platforms.diaries_of(alloc, Some(indices), bill)?;
         let settled = self.platforms.settled_for(alloc, bill)?;
         bill_line(alloc, number, bill, diaries.as_slice(), settled.as_slice())
     }
@@ -152,7 +167,7 @@ impl<M: Machine> World<M> {
     pub fn standing(&self, alloc: Global, bill: Checksum) -> Result<Standing, NoMemory>
         ensures { IfOk result (λ standing. standing ≡ standing_in (world_of M.seen self.now) bill) }
     {
-        let diaries = self.platforms.diaries_of(alloc, bill)?;
+        let diaries = self.platforms.diaries_of(alloc, None, bill)?;
         bill_standing(alloc, bill, diaries.as_slice())
     }
 

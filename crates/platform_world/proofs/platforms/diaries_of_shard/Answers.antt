@@ -1,13 +1,16 @@
-use Rattle.std.proofs.Common.{◌≡◌, ◌+◌, ◌*◌, ◌<◌, ◌++◌, suc, [], length, drop, get_or, map, refl, sym, ap, subst, ◌∙◌, arith}
+use Rattle.std.proofs.Common.{◌≡◌, ◌+◌, ◌*◌, ◌<◌, ◌++◌, suc, [], length, drop, get_or, map, sym, ap, subst, ◌∙◌, arith}
 use Rattle.std.specs.Prelude.{List, ◌∷◌, option_map}
 use Rattle.std.proofs.Math.Seq.{drop-cons}
-use Rattle.std.proofs.lemmas.Option.{slice_get-map, slice_get_read}
+use Rattle.std.proofs.lemmas.Option.{slice_get-map}
 use Rattle.ebl_base.specs.declared.platform_code.PlatformCode.{PlatformCode}
 use Rattle.bill_lines.specs.declared.diaries.PlatformDiary.{PlatformDiary}
 use Rattle.platform_world.specs.Machine.{shard_state}
 use Rattle.platform_world.specs.Platforms.{given_diary, grouped, shard_diary}
-use Rattle.platform_world.proofs.Diaries.{left_from, one_more_given}
+use Rattle.platform_world.proofs.Diaries.{left_from, one_more_given, some_shard}
 use Rattle.platform_world.proofs.platforms.diaries_of_shard.Goals as goal
+
+pub diary_at-requires-clause-within : goal.diary_at-requires-clause-within
+diary_at-requires-clause-within g c = omega (arith, c.requires.sixteen, c.requires.shard, c.loop-place-test.true)
 
 pub loop-place-preserved : goal.loop-place-preserved
 loop-place-preserved g c =
@@ -15,14 +18,13 @@ loop-place-preserved g c =
     let place = c.loop-place.place in
     let ps = c.args.platforms.now in
     let shards = c.args.shards.now in
-    let m = c.index-shards-place.result in
     let states = map (λ x. shard_state (g.M.Machine.seen x)) shards in
     let inside : 16 * place + i < length shards =
     omega (arith, c.requires.sixteen, c.requires.shard, c.loop-place-test.true) in
-    let there = slice_get_read shards (length shards) (16 * place + i) m refl inside c.index-shards-place.is in
+    let (m, there) = some_shard shards (16 * place + i) inside in
     let none : PlatformCode = record { bytes = [] } in
     let p = get_or ps place none in
-    let d : PlatformDiary = record { platform = p; diary = c.diary.result } in
+    let d : PlatformDiary = record { platform = p; diary = c.diary_at.result } in
     let next : suc place ≡ place + 1 = omega arith in
     subst (λ (ds : List PlatformDiary). map given_diary ds ++ left_from i (place + 1) ps states
     ≡ map (shard_diary i) (grouped ps states)) (sym c.in_ok-push.ensures.items)
@@ -30,4 +32,4 @@ loop-place-preserved g c =
     (drop-cons ps place none c.loop-place-test.true ∙ ap (λ k. p ∷ drop k ps) next)
     (slice_get-map (λ x. shard_state (g.M.Machine.seen x)) shards (16 * place + i)
     ∙ ap (option_map (λ x. shard_state (g.M.Machine.seen x))) there)
-    c.diary.ensures c.loop-place.invariant)
+    (c.diary_at.ensures m there) c.loop-place.invariant)

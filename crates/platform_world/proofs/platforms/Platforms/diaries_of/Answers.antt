@@ -1,5 +1,5 @@
-use Rattle.std.proofs.Common.{◌≡◌, ◌*◌, length, map, sym, ap, ◌∙◌}
-use Rattle.std.specs.Prelude.{List}
+use Rattle.std.proofs.Common.{◌≡◌, ◌*◌, length, map, sym, ap, subst, ◌∙◌}
+use Rattle.std.specs.Prelude.{IfSome, List}
 use Rattle.std.proofs.lemmas.List.{length-map}
 use Rattle.std.proofs.lemmas.Result.{IfOk-weaker}
 use Rattle.ebl_base.specs.declared.platform_code.PlatformCode.{PlatformCode}
@@ -17,6 +17,11 @@ diaries_of_shard-requires-clause-sixteen g c =
     ap length c.as_slice.ensures.value ∙ sym (length-map c.self.inside.shards.items g.M.Machine.seen)
     ∙ count c.self.inside.roster (map g.M.Machine.seen c.self.inside.shards.items) c.self.invariant.0
     ∙ ap (λ (ps : List PlatformCode). 16 * length ps) (sym c.platforms.ensures)
+
+pub diaries_of_shard-requires-clause-indexed : goal.diaries_of_shard-requires-clause-indexed
+diaries_of_shard-requires-clause-indexed g c =
+    subst (λ xs. IfSome c.args.indices (λ given. given.now ≡ map (λ m. (g.M.Machine.seen m).diary) xs))
+    (sym (c.as_slice.ensures.value ∙ ap (λ (v : PlatformsRecord _ _). v.shards) c.self.view_is)) c.requires
 
 pub returns-clause-platforms : goal.returns-clause-platforms
 returns-clause-platforms g c =

@@ -1,4 +1,4 @@
-use Rattle.std.proofs.Common.{◌≡◌, ap, subst, ◌∙◌}
+use Rattle.std.proofs.Common.{◌≡◌, ap, map, subst, sym, ◌∙◌}
 use Rattle.std.specs.Prelude.{List}
 use Rattle.std.proofs.lemmas.Result.{IfOk-weaker}
 use Rattle.ebl_base.specs.declared.platform_code.PlatformCode.{PlatformCode}
@@ -9,6 +9,10 @@ use Rattle.platform_world.specs.Run.{bill_line_in}
 use Rattle.platform_world.specs.State.{WorldState, world_of}
 use Rattle.platform_world.proofs.Diaries.{line_of_world}
 use Rattle.platform_world.proofs.world.World.bill_line.Goals as goal
+
+pub diaries_of-requires : goal.diaries_of-requires
+diaries_of-requires g c =
+    c.requires ∙ ap (λ (w : WorldState _ _). map (λ m. (g.M.Machine.seen m).diary) w.platforms.shards) (sym c.self.view_is)
 
 pub returns : goal.returns
 returns g c =
