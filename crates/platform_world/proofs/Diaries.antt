@@ -101,45 +101,45 @@ same_platforms i ds ps shards same =
 
 -- ---- one diary more
 
--- a shard stands at a place among all of them
-pub some_shard : {M : Type 0} (shards : List M) (place : ℕ) → place < length shards
-    → (m : M) × (slice_get shards place ≡ Some m)
-some_shard [] place within = absurd (omega arith)
+-- a shard stands at a position among all of them
+pub some_shard : {M : Type 0} (shards : List M) (position : ℕ) → position < length shards
+    → (m : M) × (slice_get shards position ≡ Some m)
+some_shard [] position within = absurd (omega arith)
 some_shard (m ∷ ms) zero within = (m, refl)
-some_shard (m ∷ ms) (suc place) within = some_shard ms place (omega arith)
+some_shard (m ∷ ms) (suc position) within = some_shard ms position (omega arith)
 
 -- what is still to be given
 abbrev pub left_from : ℕ → ℕ → List PlatformCode → List ShardState → List ShardDiary
-left_from i place ps shards = map (shard_diary i) (grouped (drop place ps) (drop (16 * place) shards))
+left_from i position ps shards = map (shard_diary i) (grouped (drop position ps) (drop (16 * position) shards))
 
--- the shard of this number on the platform at a place is at sixteen times the place
-one_left : (i place : ℕ) (p : PlatformCode) (ps : List PlatformCode) (shards : List ShardState) (s : ShardState)
-    → i < 16 → drop place ps ≡ p ∷ drop (place + 1) ps → slice_get shards (16 * place + i) ≡ Some s
-    → left_from i place ps shards ≡ record { platform = p; diary = s.diary } ∷ left_from i (place + 1) ps shards
-one_left i place p ps shards s small here there =
-    let rest = drop (16 * place) shards in
-    let next : 16 * place + 16 ≡ 16 * (place + 1) = omega arith in
+-- the shard of this number on the platform at a position is at sixteen times the position
+one_left : (i position : ℕ) (p : PlatformCode) (ps : List PlatformCode) (shards : List ShardState) (s : ShardState)
+    → i < 16 → drop position ps ≡ p ∷ drop (position + 1) ps → slice_get shards (16 * position + i) ≡ Some s
+    → left_from i position ps shards ≡ record { platform = p; diary = s.diary } ∷ left_from i (position + 1) ps shards
+one_left i position p ps shards s small here there =
+    let rest = drop (16 * position) shards in
+    let next : 16 * position + 16 ≡ 16 * (position + 1) = omega arith in
     ap (λ (qs : List PlatformCode). map (shard_diary i) (grouped qs rest)) here
     ∙ ap (λ (o : Option ShardState).
     record { platform = p; diary = option_map_or (λ (x : ShardState). x.diary) o [] }
-    ∷ map (shard_diary i) (grouped (drop (place + 1) ps) (drop 16 rest)))
-    (slice_get-take 16 rest i small ∙ slice_get-drop (16 * place) shards i ∙ there)
+    ∷ map (shard_diary i) (grouped (drop (position + 1) ps) (drop 16 rest)))
+    (slice_get-take 16 rest i small ∙ slice_get-drop (16 * position) shards i ∙ there)
     ∙ ap (λ (xs : List ShardState).
-    record { platform = p; diary = s.diary } ∷ map (shard_diary i) (grouped (drop (place + 1) ps) xs))
-    (drop-drop 16 (16 * place) shards ∙ ap (λ (k : ℕ). drop k shards) next)
+    record { platform = p; diary = s.diary } ∷ map (shard_diary i) (grouped (drop (position + 1) ps) xs))
+    (drop-drop 16 (16 * position) shards ∙ ap (λ (k : ℕ). drop k shards) next)
 
 -- those that are given and those that are left are all
-pub one_more_given : (i place : ℕ) (ps : List PlatformCode) (shards : List ShardState) (ds : List PlatformDiary)
-    (d : PlatformDiary) (s : ShardState) → i < 16 → drop place ps ≡ d.platform ∷ drop (place + 1) ps
-    → slice_get shards (16 * place + i) ≡ Some s → frames_of d.diary ≡ s.diary
-    → map given_diary ds ++ left_from i place ps shards ≡ map (shard_diary i) (grouped ps shards)
-    → map given_diary (ds ++ d ∷ []) ++ left_from i (place + 1) ps shards ≡ map (shard_diary i) (grouped ps shards)
-one_more_given i place ps shards ds d s small here there same so_far =
-    ap (λ (xs : List ShardDiary). xs ++ left_from i (place + 1) ps shards) (map-append given_diary ds (d ∷ []))
-    ∙ append_assoc (map given_diary ds) (given_diary d ∷ []) (left_from i (place + 1) ps shards)
+pub one_more_given : (i position : ℕ) (ps : List PlatformCode) (shards : List ShardState) (ds : List PlatformDiary)
+    (d : PlatformDiary) (s : ShardState) → i < 16 → drop position ps ≡ d.platform ∷ drop (position + 1) ps
+    → slice_get shards (16 * position + i) ≡ Some s → frames_of d.diary ≡ s.diary
+    → map given_diary ds ++ left_from i position ps shards ≡ map (shard_diary i) (grouped ps shards)
+    → map given_diary (ds ++ d ∷ []) ++ left_from i (position + 1) ps shards ≡ map (shard_diary i) (grouped ps shards)
+one_more_given i position ps shards ds d s small here there same so_far =
+    ap (λ (xs : List ShardDiary). xs ++ left_from i (position + 1) ps shards) (map-append given_diary ds (d ∷ []))
+    ∙ append_assoc (map given_diary ds) (given_diary d ∷ []) (left_from i (position + 1) ps shards)
     ∙ ap (λ (x : List Frame). map given_diary ds
-    ++ record { platform = d.platform; diary = x } ∷ left_from i (place + 1) ps shards) same
-    ∙ ap (λ (xs : List ShardDiary). map given_diary ds ++ xs) (sym (one_left i place d.platform ps shards s small here there))
+    ++ record { platform = d.platform; diary = x } ∷ left_from i (position + 1) ps shards) same
+    ∙ ap (λ (xs : List ShardDiary). map given_diary ds ++ xs) (sym (one_left i position d.platform ps shards s small here there))
     ∙ so_far
 
 -- ---- settled platforms
@@ -149,7 +149,7 @@ settled_of bill states = map (λ (s : PlatformState). s.platform) (filter (is_se
 
 -- those that are still to be looked at
 abbrev pub settled_from : Checksum → ℕ → List PlatformCode → List ShardState → List PlatformCode
-settled_from bill place ps shards = settled_of bill (grouped (drop place ps) (drop (16 * place) shards))
+settled_from bill position ps shards = settled_of bill (grouped (drop position ps) (drop (16 * position) shards))
 
 settled_first : (bill : Checksum) (state : PlatformState) (states : List PlatformState)
     → settled_of bill (state ∷ states)
@@ -162,25 +162,25 @@ settled_first bill state states = on_test (is_settled bill state)
     on_test false = refl
 
 -- one platform at a time, by whether its shard of the bill is loose
-pub one_more_settled : (bill : Checksum) (place : ℕ) (p : PlatformCode) (ps : List PlatformCode) (shards : List ShardState)
-    (s : ShardState) → shard_of_bill bill < 16 → drop place ps ≡ p ∷ drop (place + 1) ps
-    → slice_get shards (16 * place + shard_of_bill bill) ≡ Some s
-    → settled_from bill place ps shards
-    ≡ cond (not (is_some s.loose)) (p ∷ settled_from bill (place + 1) ps shards) (settled_from bill (place + 1) ps shards)
-one_more_settled bill place p ps shards s small here there =
-    let rest = drop (16 * place) shards in
-    let next : 16 * place + 16 ≡ 16 * (place + 1) = omega arith in
-    let more = drop-drop 16 (16 * place) shards ∙ ap (λ (k : ℕ). drop k shards) next in
+pub one_more_settled : (bill : Checksum) (position : ℕ) (p : PlatformCode) (ps : List PlatformCode) (shards : List ShardState)
+    (s : ShardState) → shard_of_bill bill < 16 → drop position ps ≡ p ∷ drop (position + 1) ps
+    → slice_get shards (16 * position + shard_of_bill bill) ≡ Some s
+    → settled_from bill position ps shards
+    ≡ cond (not (is_some s.loose)) (p ∷ settled_from bill (position + 1) ps shards) (settled_from bill (position + 1) ps shards)
+one_more_settled bill position p ps shards s small here there =
+    let rest = drop (16 * position) shards in
+    let next : 16 * position + 16 ≡ 16 * (position + 1) = omega arith in
+    let more = drop-drop 16 (16 * position) shards ∙ ap (λ (k : ℕ). drop k shards) next in
     ap (λ (qs : List PlatformCode). settled_of bill (grouped qs rest)) here
-    ∙ settled_first bill (record { platform = p; shards = take 16 rest }) (grouped (drop (place + 1) ps) (drop 16 rest))
+    ∙ settled_first bill (record { platform = p; shards = take 16 rest }) (grouped (drop (position + 1) ps) (drop 16 rest))
     ∙ ap (λ (o : Option ShardState).
     cond (option_map_or (λ (x : ShardState). not (is_some x.loose)) o true)
-    (p ∷ settled_of bill (grouped (drop (place + 1) ps) (drop 16 rest)))
-    (settled_of bill (grouped (drop (place + 1) ps) (drop 16 rest))))
-    (slice_get-take 16 rest (shard_of_bill bill) small ∙ slice_get-drop (16 * place) shards (shard_of_bill bill) ∙ there)
+    (p ∷ settled_of bill (grouped (drop (position + 1) ps) (drop 16 rest)))
+    (settled_of bill (grouped (drop (position + 1) ps) (drop 16 rest))))
+    (slice_get-take 16 rest (shard_of_bill bill) small ∙ slice_get-drop (16 * position) shards (shard_of_bill bill) ∙ there)
     ∙ ap (λ (xs : List ShardState).
-    cond (not (is_some s.loose)) (p ∷ settled_of bill (grouped (drop (place + 1) ps) xs))
-    (settled_of bill (grouped (drop (place + 1) ps) xs))) more
+    cond (not (is_some s.loose)) (p ∷ settled_of bill (grouped (drop (position + 1) ps) xs))
+    (settled_of bill (grouped (drop (position + 1) ps) xs))) more
 
 pub settled_step : (loose : Bool) (old rest : List PlatformCode) (p : PlatformCode)
     → (old ++ cond loose [] (p ∷ [])) ++ rest ≡ old ++ cond (not loose) (p ∷ rest) rest

@@ -42,7 +42,7 @@ module _ {D G : Type 0} (tells : D → Bool) (faults : D → ℕ) (roster : Rost
   opened_push (q ∷ ps) (y ∷ rs) [] p r s are is = absurd are
   opened_push (q ∷ ps) (y ∷ rs) (x ∷ ss) p r s are is = (are.0, opened_push ps rs ss p r s are.1 is)
 
-  -- by their places, among further racks
+  -- by their positions, among further racks
   pub on_racks : (ps : List PlatformCode) (rs more : List (Rack D G)) (ss : List (JournaledShardRecord D G))
       → AreOpened tells faults roster ps rs ss → AreOnRacks faults (rs ++ more) ss
   on_racks [] [] more [] are k rack shard was is = cc is
@@ -264,11 +264,11 @@ module _ {D G : Type 0} (tells : D → Bool) (faults : D → ℕ) (roster : Rost
       }
 
   pub stopped_at : (needed : ℕ) (shards : List (JournaledShardRecord D G)) (before after : List (Rack D G))
-      (fault : OpenFault) (place : ℕ) (why : WorldFault)
+      (fault : OpenFault) (position : ℕ) (why : WorldFault)
       → IsOpening tells faults roster codes given shards (reverse before) → FailsAtLast faults before after fault
-      → length shards ≡ place → place < needed → ((i : ℕ) → why ≡ world.OpenFault i → (i ≡ place) × (fault ≡ Disk))
+      → length shards ≡ position → position < needed → ((i : ℕ) → why ≡ world.OpenFault i → (i ≡ position) × (fault ≡ Disk))
       → IsStopped tells faults roster needed given shards (reverse after) why
-  stopped_at needed shards before after fault place why so fails at few cause =
+  stopped_at needed shards before after fault position why so fails at few cause =
       let (taken_length, shards_length) = opened_lengths tells faults roster so.front so.taken shards so.opened in
       let was = next_of before fails.front fails.old fails.was in
       let is = next_of after fails.front fails.new fails.is in

@@ -56,7 +56,7 @@ use Rattle.platform_world.specs.Step.{IsAt, message_parcel, reply_bill, reply_co
 use Rattle.platform_world.specs.World.{PlatformState, ShardState, WorldRecord, loose_frame, shard_at, with_shard}
 use Rattle.platform_world.proofs.Attempts.{attempts_within}
 
--- what holds of all items holds of the one at a place
+-- what holds of all items holds of the one at a position
 at_place : {X : Type 0} (P : X → Type 0) (xs : List X) (k : ℕ) (x : X) → All P xs → slice_get xs k ≡ Some x → P x
 at_place P [] k x all is = cc is
 at_place P (y ∷ ys) zero x all is = let same : y ≡ x = cc is in subst P same (All-head P y ys all)
@@ -71,7 +71,7 @@ at_number P xs n x all is = on_test (nat_eq n 0) is
 
 -- ---- diaries
 
--- a shard at a place is the one that was put there, or one that was there before
+-- a shard at a position is the one that was put there, or one that was there before
 set_or_before : (shards : List ShardState) (i k : ℕ) (new s : ShardState)
     → slice_get (slice_set shards i new) k ≡ Some s → (s ≡ new) ⊎ (slice_get shards k ≡ Some s)
 set_or_before [] i k new s is = inr is

@@ -13,33 +13,33 @@ use Rattle.platform_world.proofs.Shards.{codes-length}
 
 -- ---- the platform of a shard
 
--- by the shard's place among all
+-- by the shard's position among all
 code-at : (ps : List PlatformCode) (n : ℕ) (d : PlatformCode) → n < 16 * length ps
     → get_or (codes_of ps) n d ≡ get_or ps (n / 16) d
 code-at [] n d h = absurd (omega (arith, h))
 code-at (p ∷ ps) n d h = elim (cases_lt n 16) [
   | inl first ↦
-      let place : n / 16 ≡ 0 = omega (arith, first) in
+      let position : n / 16 ≡ 0 = omega (arith, first) in
       let long : n < length (replicate 16 p) = omega (arith, first, length-replicate 16 p) in
       get_or_append_left (replicate 16 p) (codes_of ps) d n long ∙ get_or-replicate 16 n p d first
-      ∙ ap (λ (k : ℕ). get_or (p ∷ ps) k d) (sym place)
+      ∙ ap (λ (k : ℕ). get_or (p ∷ ps) k d) (sym position)
   | inr later ↦
-      let place : n / 16 ≡ suc ((n - 16) / 16) = omega (arith, later) in
+      let position : n / 16 ≡ suc ((n - 16) / 16) = omega (arith, later) in
       get_or-append_right (replicate 16 p) (codes_of ps) 16 n d (length-replicate 16 p) later
       ∙ code-at ps (n - 16) d (omega (arith, h, later))
-      ∙ ap (λ (k : ℕ). get_or (p ∷ ps) k d) (sym place)
+      ∙ ap (λ (k : ℕ). get_or (p ∷ ps) k d) (sym position)
 ]
 
-at-place : {X : Type 0} (xs : List X) (n : ℕ) (d : X) → n < length xs → slice_get xs n ≡ Some (get_or xs n d)
-at-place [] n d h = absurd (omega (arith, h))
-at-place (x ∷ xs) zero d h = refl
-at-place (x ∷ xs) (suc n) d h = at-place xs n d (omega (arith, h))
+at-position : {X : Type 0} (xs : List X) (n : ℕ) (d : X) → n < length xs → slice_get xs n ≡ Some (get_or xs n d)
+at-position [] n d h = absurd (omega (arith, h))
+at-position (x ∷ xs) zero d h = refl
+at-position (x ∷ xs) (suc n) d h = at-position xs n d (omega (arith, h))
 
--- the platform of the shard at this place
+-- the platform of the shard at this position
 pub code-there : (ps : List PlatformCode) (n : ℕ) (d : PlatformCode) → n < 16 * length ps
     → slice_get (codes_of ps) n ≡ Some (get_or ps (n / 16) d)
 code-there ps n d h =
-    at-place (codes_of ps) n d (omega (arith, h, codes-length ps)) ∙ ap (λ (p : PlatformCode). Some p) (code-at ps n d h)
+    at-position (codes_of ps) n d (omega (arith, h, codes-length ps)) ∙ ap (λ (p : PlatformCode). Some p) (code-at ps n d h)
 
 -- all of them
 codes-all : (ps : List PlatformCode) (n : ℕ) → n ≡ 16 * length ps → take n (codes_of ps) ≡ codes_of ps

@@ -15,7 +15,7 @@ use Rattle.party_roster.specs.RosterRecord.{RosterRecord, has_platform}
 use Rattle.platform_requests.specs.Request.{RequestRecord}
 use Rattle.platform_requests.specs.declared.outcome.Outcome.{Outcome}
 use Rattle.platform_world.specs.Machine.{IsSameMachine, MachineRecord, shard_state}
-use Rattle.platform_world.specs.Platforms.{AllTell, AreShardsOf, EachRose, PlatformsRecord, TakesAt, codes_of, grouped, index_of, place_of, states_of, times_if}
+use Rattle.platform_world.specs.Platforms.{AllTell, AreShardsOf, EachRose, PlatformsRecord, TakesAt, codes_of, grouped, index_of, position_of, states_of, times_if}
 use Rattle.platform_world.specs.Shard.{IsResolved, TakesAs, loosened}
 use Rattle.platform_world.specs.Start.{IsLoosenedAt, IsReadAt}
 use Rattle.platform_world.specs.World.{ShardState, shard_at, shards_in, with_shard}
@@ -34,27 +34,27 @@ codes-length (p ∷ ps) =
     ∙ ap (λ (n : ℕ). 16 + n) (codes-length ps)
     ∙ next
 
--- ---- the place of a listed platform
+-- ---- the position of a listed platform
 
 same_test : (p q : PlatformCode) → code_eq p q ≡ true → code_eq q p ≡ true
 same_test p q h = (code_eq-Decides q p).1 (sym ((code_eq-Decides p q).0 h))
 
-pub listed-place : (p : PlatformCode) (ps : List PlatformCode) → is_member code_eq ps p ≡ true
-    → place_of p ps < length ps
-listed-place p [] h = absurd (let no : false ≡ true = h in cc)
-listed-place p (q ∷ qs) h = on_test (code_eq q p) refl (λ later. listed-place p qs later)
+pub listed-position : (p : PlatformCode) (ps : List PlatformCode) → is_member code_eq ps p ≡ true
+    → position_of p ps < length ps
+listed-position p [] h = absurd (let no : false ≡ true = h in cc)
+listed-position p (q ∷ qs) h = on_test (code_eq q p) refl (λ later. listed-position p qs later)
   where
     on_first : (b : Bool) → code_eq p q ≡ b → code_eq q p ≡ false → (b || is_member code_eq qs p) ≡ true
-        → (is_member code_eq qs p ≡ true → place_of p qs < length qs) → suc (place_of p qs) < suc (length qs)
+        → (is_member code_eq qs p ≡ true → position_of p qs < length qs) → suc (position_of p qs) < suc (length qs)
     on_first true is isnt there rest = absurd (let yes : code_eq q p ≡ true = same_test p q is in cc)
-    on_first false is isnt there rest = let later : place_of p qs < length qs = rest there in omega (arith, later)
+    on_first false is isnt there rest = let later : position_of p qs < length qs = rest there in omega (arith, later)
 
-    on_test : (b : Bool) → code_eq q p ≡ b → (is_member code_eq qs p ≡ true → place_of p qs < length qs)
-        → cond b 0 (suc (place_of p qs)) < suc (length qs)
+    on_test : (b : Bool) → code_eq q p ≡ b → (is_member code_eq qs p ≡ true → position_of p qs < length qs)
+        → cond b 0 (suc (position_of p qs)) < suc (length qs)
     on_test true is rest = omega arith
     on_test false is rest = on_first (code_eq p q) refl is h rest
 
--- ---- the platform at a place
+-- ---- the platform at a position
 
 in_front : (n i : ℕ) (q : PlatformCode) (rest : List PlatformCode) → i < n
     → slice_get (replicate n q ++ rest) i ≡ Some q
@@ -69,21 +69,21 @@ behind (suc n) k q rest =
     let next : suc n + k ≡ suc (n + k) = omega arith in
     ap (slice_get (q ∷ (replicate n q ++ rest))) next ∙ behind n k q rest
 
-pub codes-at : (p : PlatformCode) (i : ℕ) (ps : List PlatformCode) → i < 16 → place_of p ps < length ps
+pub codes-at : (p : PlatformCode) (i : ℕ) (ps : List PlatformCode) → i < 16 → position_of p ps < length ps
     → slice_get (codes_of ps) (index_of p i ps) ≡ Some p
 codes-at p i [] small listed = absurd (omega (arith, listed))
 codes-at p i (q ∷ qs) small listed = on_test (code_eq q p) refl listed (λ later. codes-at p i qs small later)
   where
-    on_test : (b : Bool) → code_eq q p ≡ b → cond b 0 (suc (place_of p qs)) < suc (length qs)
-        → (place_of p qs < length qs → slice_get (codes_of qs) (index_of p i qs) ≡ Some p)
-        → slice_get (replicate 16 q ++ codes_of qs) (16 * cond b 0 (suc (place_of p qs)) + i) ≡ Some p
+    on_test : (b : Bool) → code_eq q p ≡ b → cond b 0 (suc (position_of p qs)) < suc (length qs)
+        → (position_of p qs < length qs → slice_get (codes_of qs) (index_of p i qs) ≡ Some p)
+        → slice_get (replicate 16 q ++ codes_of qs) (16 * cond b 0 (suc (position_of p qs)) + i) ≡ Some p
     on_test true is h rest =
         let first : 16 * 0 + i ≡ i = omega arith in
         ap (slice_get (replicate 16 q ++ codes_of qs)) first ∙ in_front 16 i q (codes_of qs) small
         ∙ ap (λ (x : PlatformCode). Some x) ((code_eq-Decides q p).0 is)
     on_test false is h rest =
-        let later : place_of p qs < length qs = omega (arith, h) in
-        let next : 16 * suc (place_of p qs) + i ≡ 16 + index_of p i qs = omega arith in
+        let later : position_of p qs < length qs = omega (arith, h) in
+        let next : 16 * suc (position_of p qs) + i ≡ 16 + index_of p i qs = omega arith in
         ap (slice_get (replicate 16 q ++ codes_of qs)) next ∙ behind 16 (index_of p i qs) q (codes_of qs) ∙ rest later
 
 -- ---- the shards
@@ -96,7 +96,7 @@ module _ (roster : RosterRecord) (machines : List MachineRecord) (are : AreShard
   count = sym (length-map machines (λ (m : MachineRecord). m.me)) ∙ ap length are.of ∙ codes-length roster.platforms
 
   pub me-at : (p : PlatformCode) (i : ℕ) (m : MachineRecord) → i < 16
-      → place_of p roster.platforms < length roster.platforms
+      → position_of p roster.platforms < length roster.platforms
       → slice_get machines (index_of p i roster.platforms) ≡ Some m → m.me ≡ p
   me-at p i m small listed there =
       same_some m.me p (ap (option_map (λ (x : MachineRecord). x.me)) (sym there)
@@ -105,7 +105,7 @@ module _ (roster : RosterRecord) (machines : List MachineRecord) (are : AreShard
       ∙ codes-at p i roster.platforms small listed)
 
   pub roster-at : (p : PlatformCode) (i : ℕ) (m : MachineRecord) → i < 16
-      → place_of p roster.platforms < length roster.platforms
+      → position_of p roster.platforms < length roster.platforms
       → slice_get machines (index_of p i roster.platforms) ≡ Some m → m.roster ≡ roster
   roster-at p i m small listed there =
       same_some m.roster roster (ap (option_map (λ (x : MachineRecord). x.roster)) (sym there)
@@ -135,16 +135,16 @@ module _ {M R : Type 0} (seen : M → MachineRecord) where
   pub within : (s : PlatformsRecord M R) (p : PlatformCode) (i : ℕ) → AreShardsOf s.roster (map seen s.shards)
       → has_platform s.roster p ≡ true → i < 16 → index_of p i s.roster.platforms < length s.shards
   within s p i are listed small =
-      let before : place_of p s.roster.platforms < length s.roster.platforms =
-      listed-place p s.roster.platforms listed in
+      let before : position_of p s.roster.platforms < length s.roster.platforms =
+      listed-position p s.roster.platforms listed in
       let all = shard_count seen s.roster s.shards are in
       omega (arith, before, all, small)
 
   module _ (s : PlatformsRecord M R) (p : PlatformCode) (i : ℕ) (m : M) (are : AreShardsOf s.roster (map seen s.shards))
       (listed : has_platform s.roster p ≡ true) (small : i < 16)
       (there : slice_get s.shards (index_of p i s.roster.platforms) ≡ Some m) where
-    is_listed : place_of p s.roster.platforms < length s.roster.platforms
-    is_listed = listed-place p s.roster.platforms listed
+    is_listed : position_of p s.roster.platforms < length s.roster.platforms
+    is_listed = listed-position p s.roster.platforms listed
 
     seen_there : slice_get (map seen s.shards) (index_of p i s.roster.platforms) ≡ Some (seen m)
     seen_there = slice_get-map seen s.shards (index_of p i s.roster.platforms) ∙ ap (option_map seen) there

@@ -27,7 +27,7 @@ pub record IsOnRack {D G : Type 0} (faults : D → ℕ) (rack : Rack D G) (shard
   pub ring : shard.ring ≡ rack.ring
   pub later : faults rack.disk ≤ faults shard.written.journal.disk
 
--- each of these shards is on the rack at its place
+-- each of these shards is on the rack at its position
 abbrev pub AreOnRacks : {D G : Type 0} → (D → ℕ) → List (Rack D G) → List (JournaledShardRecord D G) → Type 0
 AreOnRacks {D} {G} faults racks shards =
     (k : ℕ) (rack : Rack D G) (shard : JournaledShardRecord D G) → slice_get racks k ≡ Some rack
@@ -64,7 +64,7 @@ AreOpened tells faults roster (p ∷ ps) (rack ∷ racks) (shard ∷ shards) =
     IsOpened tells faults roster p rack shard × AreOpened tells faults roster ps racks shards
 AreOpened tells faults roster ps racks shards = ⊥
 
--- each of these racks is the one at its place
+-- each of these racks is the one at its position
 abbrev pub AreSame : {D G : Type 0} → (D → ℕ) → List (Rack D G) → List (Rack D G) → Type 0
 AreSame faults [] [] = Unit {0}
 AreSame faults (old ∷ olds) (new ∷ news) = IsSameRack faults old new × AreSame faults olds news
@@ -124,10 +124,10 @@ pub record IsStopped {D G : Type 0} (tells : D → Bool) (faults : D → ℕ) (r
   pub further : drop needed (taken ++ left) ≡ drop needed given
   pub failed : (i : ℕ) → fault ≡ world.OpenFault i → (i ≡ length taken) × FirstFailed faults tail left
 
--- the count of faults of the disk at this place rose
-pub record RoseAt {D G : Type 0} (faults : D → ℕ) (place : ℕ) (before after : List (Rack D G)) : Type 0 where
+-- the count of faults of the disk at this position rose
+pub record RoseAt {D G : Type 0} (faults : D → ℕ) (position : ℕ) (before after : List (Rack D G)) : Type 0 where
   pub old : Rack D G
   pub new : Rack D G
-  pub was : slice_get before place ≡ Some old
-  pub is : slice_get after place ≡ Some new
+  pub was : slice_get before position ≡ Some old
+  pub is : slice_get after position ≡ Some new
   pub rose : Rose (faults old.disk) (faults new.disk)

@@ -16,22 +16,22 @@ use Rattle.platform_world.specs.declared.fate.Fate.{Fate}
 use Rattle.platform_world.specs.declared.fate.FateEnd.{FateEnd}
 use Rattle.platform_world.specs.Shard.{TakesAs}
 use Rattle.platform_world.specs.Happening.{starts_again}
-use Rattle.platform_world.specs.Step.{ShardPlace, disk_failed_at}
+use Rattle.platform_world.specs.Step.{FailedShard, disk_failed_at}
 use Rattle.platform_world.specs.World.{PlatformState, ShardState, shard_at, with_shard}
 
--- the place of a platform; their number, if it isn't among them
-abbrev pub place_of : PlatformCode → List PlatformCode → ℕ
-place_of p [] = 0
-place_of p (q ∷ qs) = if code_eq q p then 0 else suc (place_of p qs)
+-- the position of a platform among these; their number, if it isn't among them
+abbrev pub position_of : PlatformCode → List PlatformCode → ℕ
+position_of p [] = 0
+position_of p (q ∷ qs) = if code_eq q p then 0 else suc (position_of p qs)
 
 -- each platform with the next sixteen shards
 abbrev pub grouped : List PlatformCode → List ShardState → List PlatformState
 grouped [] shards = []
 grouped (p ∷ ps) shards = record { platform = p; shards = take 16 shards } ∷ grouped ps (drop 16 shards)
 
--- the place of a platform's shard of this number among all shards
+-- the position of a platform's shard of this number among all shards
 abbrev pub index_of : PlatformCode → ℕ → List PlatformCode → ℕ
-index_of p i ps = 16 * place_of p ps + i
+index_of p i ps = 16 * position_of p ps + i
 
 -- ---- the shards as code keeps them
 
@@ -69,8 +69,8 @@ AllHold holds rack seen shards = All (λ m. holds (rack m) (seen m)) shards
 abbrev pub times_if : ℕ → ℕ → ℕ → ℕ
 times_if times index k = if nat_eq index k then times else 0
 
--- how often something failed at each index, where it failed at this place, if it did
-abbrev pub times_at : List PlatformCode → Option ShardPlace → ℕ → ℕ
+-- how often something failed at each index, where it failed at this position, if it did
+abbrev pub times_at : List PlatformCode → Option FailedShard → ℕ → ℕ
 times_at ps None k = 0
 times_at ps (Some at) k = times_if 1 (index_of at.platform at.number ps) k
 

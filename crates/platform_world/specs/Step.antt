@@ -195,19 +195,19 @@ IsCutShort w happening (fate ∷ more) left =
 -- ---- faults
 
 -- a platform's shard, by its number
-pub record ShardPlace : Type 0 where
+pub record FailedShard : Type 0 where
   pub platform : PlatformCode
   pub number : ℕ
 
 -- where the disk failed, if what happens ended so: at the shard that was asked, or at the first of those read again
 -- that couldn't be read
-abbrev pub disk_failed_at : Happening → FateEnd → Option ShardPlace
+abbrev pub disk_failed_at : Happening → FateEnd → Option FailedShard
 disk_failed_at (asks a) Failed = Some (record { platform = a.at; number = shard_of a.request })
 disk_failed_at (asks a) (Stuck i) = Some (record { platform = a.at; number = shard_of a.request })
 disk_failed_at (starts_again at) (Stuck i) = Some (record { platform = at; number = i })
 disk_failed_at happening end = None
 
 -- where the ring failed to sign
-abbrev pub ring_failed_at : Happening → FateEnd → Option ShardPlace
+abbrev pub ring_failed_at : Happening → FateEnd → Option FailedShard
 ring_failed_at (asks a) SignFault = Some (record { platform = a.at; number = shard_of a.request })
 ring_failed_at happening end = None

@@ -5,7 +5,7 @@ ghost use Rattle.platform_requests.specs.declared.message.Message.{Message};
 ghost use Rattle.platform_requests.specs.declared.reply.Reply.{Reply};
 ghost use Rattle.platform_world.specs.declared.parcels.ReplyPath.{ReplyPath};
 ghost use Rattle.platform_world.specs.Happening.{Asking};
-ghost use Rattle.platform_world.specs.Platforms.{grouped, index_of, place_of};
+ghost use Rattle.platform_world.specs.Platforms.{grouped, index_of, position_of};
 ghost use Rattle.platform_world.specs.Step.{IsPathOf, parcels_of, sends};
 ghost use Rattle.platform_world.specs.World.{ShardState, shard_at, shards_in, with_shard};
 
@@ -16,13 +16,13 @@ pub fn parcels_go_the_way_of_their_request()
 {}
 
 /// Among the shards of all platforms in one list, sixteen for each, a platform's shard is at sixteen times the
-/// platform's place and its own number: there it is found, and there it is replaced.
-pub fn shards_are_at_their_places()
+/// platform's position and its own number: there it is found, and there it is replaced.
+pub fn shards_are_at_their_positions()
     ensures found { (p : PlatformCode) (i : ℕ) (ps : List PlatformCode) (shards : List ShardState)
-        → i < 16 → place_of p ps < length ps
+        → i < 16 → position_of p ps < length ps
         → shard_at p i (grouped ps shards) ≡ slice_get shards (index_of p i ps) }
     ensures replaced { (p : PlatformCode) (i : ℕ) (shard : ShardState) (ps : List PlatformCode)
-        (shards : List ShardState) → i < 16 → place_of p ps < length ps
+        (shards : List ShardState) → i < 16 → position_of p ps < length ps
         → with_shard p i shard (grouped ps shards) ≡ grouped ps (slice_set shards (index_of p i ps) shard) }
 {}
 

@@ -19,12 +19,12 @@ mod world;
 pub use fate::{Fate, FateEnd, FateList, ShardList};
 pub use happening::{Asking, Happening, Sender, comes_to};
 pub use laws::{
-    grouped_shards_are_the_same, parcels_go_the_way_of_their_request, shards_are_at_their_places,
+    grouped_shards_are_the_same, parcels_go_the_way_of_their_request, shards_are_at_their_positions,
 };
 pub use machine::{Machine, Unread};
 pub use opening::WorldFault;
 pub use parcels::{ReplyKind, ReplyPath, parcels_of};
 pub use platforms::Platforms;
 pub use script::{event_in, roster_in};
-pub use taking::Taken;
+pub use taking::ShardAnswer;
 pub use world::World;

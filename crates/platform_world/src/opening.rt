@@ -22,7 +22,7 @@ use std::alloc::Global;
 /// Why a world wasn't opened.
 #[derive(Clone, Copy, Debug, PartialEq, Eq)]
 pub enum WorldFault {
-    /// The disk of the rack at this place failed.
+    /// The disk of the rack at this position failed.
     OpenFault(usize),
     /// Memory ran out.
     NoMemory,
@@ -96,12 +96,12 @@ fn open_shards<D: Disk + Drop, G: KeyRing + Drop>(
     ensures room { vec_len racks.new + vec_len shards.new ≤ vec_capacity racks.new }
 {
     make_room(shards, needed)?;
-    for place in 0..needed {
-        let me = platform_at(roster.platforms(), place);
+    for position in 0..needed {
+        let me = platform_at(roster.platforms(), position);
         let by = roster.copy(alloc)?;
         match open_next(alloc, me, by, racks) {
             Ok(shard) => shards.push_reserved(shard),
-            Err(fault) => return Err(fault_at(place, fault)),
+            Err(fault) => return Err(fault_at(position, fault)),
         }
     }
     Ok(())
@@ -129,7 +129,7 @@ fn open_next<D: Disk + Drop, G: KeyRing + Drop>(
     requires blank { IsBlankAtLast D.tells D.seen racks.old.items }
     ensures ok { IfOk result (λ shard. OpensLast D.tells D.faults by me racks.old.items shard racks.new.items) }
     ensures err { IfErr result (λ fault. FailsAtLast D.faults racks.old.items racks.new.items fault) }
-    ensures undamaged { (place : ℕ) → IsErrOf result (OpenFault.Damaged place) → ⊥ }
+    ensures undamaged { (position : ℕ) → IsErrOf result (OpenFault.Damaged position) → ⊥ }
     ensures ok_len { OnOk result (vec_len racks.new + 1 ≡ vec_len racks.old) }
     ensures err_len { OnErr result (vec_len racks.new ≡ vec_len racks.old) }
     ensures capacity { vec_capacity racks.new ≡ vec_capacity racks.old }
@@ -144,21 +144,21 @@ fn open_next<D: Disk + Drop, G: KeyRing + Drop>(
     }
 }
 
-// The fault of the rack at this place. A blank disk is never damaged.
-fn fault_at(place: usize, fault: OpenFault) -> WorldFault
+// The fault of the rack at this position. A blank disk is never damaged.
+fn fault_at(position: usize, fault: OpenFault) -> WorldFault
     requires undamaged { (at : ℕ) → fault ≡ OpenFault.Damaged at → ⊥ }
-    ensures { (i : ℕ) → result ≡ WorldFault.OpenFault i → (i ≡ place) × (fault ≡ OpenFault.Disk) }
+    ensures { (i : ℕ) → result ≡ WorldFault.OpenFault i → (i ≡ position) × (fault ≡ OpenFault.Disk) }
 {
     match fault {
         OpenFault::NoMemory => WorldFault::NoMemory,
-        OpenFault::Disk | OpenFault::Damaged(_) => WorldFault::OpenFault(place),
+        OpenFault::Disk | OpenFault::Damaged(_) => WorldFault::OpenFault(position),
     }
 }
 
-// The platform of the shard at this place among all.
-fn platform_at(platforms: &[PlatformCode], place: usize) -> PlatformCode
-    requires { place < 16 * length platforms.now }
-    ensures { slice_get (codes_of platforms.now) place ≡ Some result }
+// The platform of the shard at this position among all.
+fn platform_at(platforms: &[PlatformCode], position: usize) -> PlatformCode
+    requires { position < 16 * length platforms.now }
+    ensures { slice_get (codes_of platforms.now) position ≡ Some result }
 {
-    platforms[place / SHARDS as usize]
+    platforms[position / SHARDS as usize]
 }

@@ -12,14 +12,14 @@ ghost use Rattle.answer_lines.specs.declared.answer.Answer.TheVariants.{Replied}
 ghost use Rattle.bill_lines.specs.Diaries.{frames_of, histories_in, platforms_in};
 ghost use Rattle.closed_family.specs.Family.{histories_of};
 ghost use Rattle.platform_world.specs.Machine.{AreForListed, disk_times, ring_times, shard_state};
-ghost use Rattle.platform_world.specs.Platforms.{AllTell, AreShardsOf, EachRose, TakesAt, AllHold, failures_at, given_diary, grouped, index_of, place_of, shard_diary, states_of, times_if};
+ghost use Rattle.platform_world.specs.Platforms.{AllTell, AreShardsOf, EachRose, TakesAt, AllHold, failures_at, given_diary, grouped, index_of, position_of, shard_diary, states_of, times_if};
 ghost use Rattle.platform_world.specs.Shard.{IsResolved};
 ghost use Rattle.platform_world.specs.Start.{AreLoosened, AreReadAgain, IsLoosenedAt, IsReadAt};
 ghost use Rattle.platform_world.specs.World.{ShardState, is_settled, member_of, shard_at};
 
 use crate::fate::{Fate, FateEnd};
 use crate::machine::{Machine, Unread};
-use crate::taking::{Taken, note, take_at};
+use crate::taking::{ShardAnswer, note, take_at};
 use bill_diary::DiaryIndex;
 use bill_lines::{DiaryRef, PlatformDiary};
 use ebl_base::{Checksum, Items, Moment, NoMemory, PlatformCode};
@@ -84,7 +84,7 @@ impl<M: Machine> Platforms<M> {
         now: Moment,
         request: Request,
         room: Vec<u32>,
-    ) -> Taken
+    ) -> ShardAnswer
         requires listed { has_platform self.old.roster at ≡ true }
         requires shard { shard < 16 }
         requires asked { (s found : ShardState) (kept : Bool) → shard_at at shard (states_of M.seen self.old) ≡ Some s
@@ -220,8 +220,8 @@ impl<M: Machine> Platforms<M> {
         ensures index { result ≡ index_of at shard self.now.roster.platforms }
         ensures within { result < length self.now.shards }
     {
-        let place = place_of(self.roster.platforms(), at);
-        16 * place + shard as usize
+        let position = position_of(self.roster.platforms(), at);
+        16 * position + shard as usize
     }
 
     /// The racks of all shards in their order, and then those that none of them needed. It allocates nothing.
@@ -319,10 +319,10 @@ fn diaries_of_shard<'a, M: Machine>(
         ≡ map (shard_diary shard) (grouped platforms.now (map (λ m. shard_state (M.seen m)) shards.now))) }
 {
     let mut diaries = Vec::with_capacity(alloc, platforms.len())?;
-    for (place, platform) in platforms.iter().enumerate() {
+    for (position, platform) in platforms.iter().enumerate() {
         diaries.push(PlatformDiary {
             platform: *platform,
-            diary: diary_at(shards, indices, 16 * place + shard),
+            diary: diary_at(shards, indices, 16 * position + shard),
         })?;
     }
     Ok(diaries)
@@ -341,8 +341,8 @@ fn settled_for_shard<M: Machine>(
 {
     let shard = shard_of_bill(bill) as usize;
     let mut settled = Vec::with_capacity(alloc, platforms.len())?;
-    for (place, platform) in platforms.iter().enumerate() {
-        let loose = shards[16 * place + shard].is_loose();
+    for (position, platform) in platforms.iter().enumerate() {
+        let loose = shards[16 * position + shard].is_loose();
         push_unless(&mut settled, loose, *platform)?;
     }
     Ok(settled)
@@ -362,29 +362,29 @@ fn push_unless(
     Ok(())
 }
 
-// The diary of the shard at a place: by its index, if those of all shards are given.
+// The diary of the shard at a position: by its index, if those of all shards are given.
 fn diary_at<'a, M: Machine>(
     shards: &'a [M],
     indices: Option<&'a [DiaryIndex<'a>]>,
-    place: usize,
+    position: usize,
 ) -> DiaryRef<'a>
-    requires within { place < length shards.now }
+    requires within { position < length shards.now }
     requires indexed { IfSome indices (λ given. given.now ≡ map (λ m. (M.seen m).diary) shards.now) }
-    ensures { (m : M) → slice_get shards.now place ≡ Some m → frames_of result ≡ (M.seen m).diary }
+    ensures { (m : M) → slice_get shards.now position ≡ Some m → frames_of result ≡ (M.seen m).diary }
 {
     match indices {
-        Some(given) => DiaryRef::Indexed(&given[place]),
-        None => DiaryRef::Whole(shards[place].diary()),
+        Some(given) => DiaryRef::Indexed(&given[position]),
+        None => DiaryRef::Whole(shards[position].diary()),
     }
 }
 
-// The place of a platform among these; their number, if it isn't among them.
-fn place_of(platforms: &[PlatformCode], p: PlatformCode) -> usize
-    ensures { result ≡ place_of p platforms.now }
+// The position of a platform among these; their number, if it isn't among them.
+fn position_of(platforms: &[PlatformCode], p: PlatformCode) -> usize
+    ensures { result ≡ position_of p platforms.now }
 {
-    let mut place = 0;
-    while place < platforms.len() && platforms[place] != p {
-        place += 1;
+    let mut position = 0;
+    while position < platforms.len() && platforms[position] != p {
+        position += 1;
     }
-    place
+    position
 }

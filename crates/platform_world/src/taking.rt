@@ -18,7 +18,7 @@ use std::alloc::Global;
 
 /// What became of a request, and its outcome.
 #[derive(Drop)]
-pub struct Taken {
+pub struct ShardAnswer {
     pub fate: Fate,
     pub outcome: Outcome,
 }
@@ -32,7 +32,7 @@ pub(crate) fn take_at<M: Machine>(
     now: Moment,
     request: Request,
     room: Vec<u32>,
-) -> Taken
+) -> ShardAnswer
     requires told { M.tells machine.old ≡ true }
     requires asked { (kept : Bool) (found : ShardState) → IsResolved (shard_state (M.seen machine.old)) kept found
         → MayBeAsked found.diary now (request_view request) }
@@ -50,7 +50,7 @@ pub(crate) fn take_at<M: Machine>(
     match machine.settle(alloc) {
         Ok(kept) => {
             let outcome = machine.take(alloc, now, request);
-            Taken {
+            ShardAnswer {
                 fate: Fate {
                     end: end_by(&outcome.reply),
                     kept: Items::from_vec(kept_at(kept, shard, room)),
@@ -98,7 +98,7 @@ pub(crate) fn note(numbers: &mut Vec<u32>, kept: bool, shard: u32)
 }
 
 // The loose shard of this number couldn't be read again.
-fn unread(alloc: Global, shard: u32, why: Unread) -> Taken
+fn unread(alloc: Global, shard: u32, why: Unread) -> ShardAnswer
     ensures end { result.fate.end ≡ end_of shard why }
     ensures none_kept { result.fate.kept ≡ [] }
     ensures outcome { result.outcome ≡ refusal_of (reply_of why) }
@@ -107,7 +107,7 @@ fn unread(alloc: Global, shard: u32, why: Unread) -> Taken
         Unread::Disk => (FateEnd::Stuck(shard), Reply::Disk),
         Unread::NoMemory => (FateEnd::Short, Reply::NoMemory),
     };
-    Taken {
+    ShardAnswer {
         fate: Fate {
             end,
             kept: Items::new(alloc),

@@ -125,8 +125,8 @@ impl<M: Machine> World<M> {
         ensures { IfOk result (λ text. text ≡ bill_lines_from (world_of M.seen self.now) 1 bills.now) }
     {
         let mut text = ByteList::new(alloc);
-        for (place, bill) in bills.iter().enumerate() {
-            let line = self.bill_line(alloc, indices, place as u64 + 1, *bill)?;
+        for (position, bill) in bills.iter().enumerate() {
+            let line = self.bill_line(alloc, indices, position as u64 + 1, *bill)?;
             text.extend_from_slice(line.as_slice())?;
         }
         Ok(text)

@@ -23,8 +23,8 @@ returns-in_err-make_room-clause-err g c =
     racks (none_opened g.D.Disk.tells g.D.Disk.faults roster (codes_of roster.platforms) (reverse racks) racks refl)
     (omega arith)))
 
-pub loop-place-init : goal.loop-place-init
-loop-place-init g c =
+pub loop-position-init : goal.loop-position-init
+loop-position-init g c =
     let roster = c.args.roster.now in
     let racks = c.args.racks.now.items in
     record {
@@ -42,40 +42,40 @@ pub returns-in_err-by-clause-err : goal.returns-in_err-by-clause-err
 returns-in_err-by-clause-err g c =
     let is : c.from_residual-in_err-by.result ≡ Err world.NoMemory = search rules in
     subst (λ (r : _). IfErr r (λ fault. IsStopped g.D.Disk.tells g.D.Disk.faults c.args.roster.now
-    c.args.needed (reverse c.args.racks.now.items) c.loop-place.shards.items (reverse c.loop-place.racks.items) fault)) (sym is)
+    c.args.needed (reverse c.args.racks.now.items) c.loop-position.shards.items (reverse c.loop-position.racks.items) fault)) (sym is)
     (stopped_before g.D.Disk.tells g.D.Disk.faults c.args.roster.now (codes_of c.args.roster.now.platforms)
-    (reverse c.args.racks.now.items) c.args.needed c.loop-place.shards.items c.loop-place.racks.items
-    c.loop-place.invariant.opening (omega (arith, c.loop-place.invariant.count, c.loop-place-test.true)))
+    (reverse c.args.racks.now.items) c.args.needed c.loop-position.shards.items c.loop-position.racks.items
+    c.loop-position.invariant.opening (omega (arith, c.loop-position.invariant.count, c.loop-position-test.true)))
 
 pub open_next-requires-clause-blank : goal.open_next-requires-clause-blank
 open_next-requires-clause-blank g c =
     blank_at_last g.D.Disk.tells g.D.Disk.faults c.args.roster.now (codes_of c.args.roster.now.platforms)
-    (reverse c.args.racks.now.items) g.D.Disk.seen c.args.needed c.loop-place.shards.items c.loop-place.racks.items
-    c.loop-place.invariant.opening (omega (arith, c.loop-place.invariant.count, c.loop-place-test.true))
+    (reverse c.args.racks.now.items) g.D.Disk.seen c.args.needed c.loop-position.shards.items c.loop-position.racks.items
+    c.loop-position.invariant.opening (omega (arith, c.loop-position.invariant.count, c.loop-position-test.true))
     c.requires.blank
 
 pub returns-in-Err-clause-err : goal.returns-in-Err-clause-err
 returns-in-Err-clause-err g c =
     stopped_at g.D.Disk.tells g.D.Disk.faults c.args.roster.now (codes_of c.args.roster.now.platforms)
-    (reverse c.args.racks.now.items) c.args.needed c.loop-place.shards.items c.loop-place.racks.items
-    c.open_next.new.racks.items c.in-Err.fault c.loop-place.place c.fault_at.result c.loop-place.invariant.opening
-    c.in-Err.ensures.err c.loop-place.invariant.count c.loop-place-test.true c.fault_at.ensures
+    (reverse c.args.racks.now.items) c.args.needed c.loop-position.shards.items c.loop-position.racks.items
+    c.open_next.new.racks.items c.in-Err.fault c.loop-position.position c.fault_at.result c.loop-position.invariant.opening
+    c.in-Err.ensures.err c.loop-position.invariant.count c.loop-position-test.true c.fault_at.ensures
 
-pub loop-place-preserved : goal.loop-place-preserved
-loop-place-preserved g c =
+pub loop-position-preserved : goal.loop-position-preserved
+loop-position-preserved g c =
     let roster = c.args.roster.now in
-    let old = c.loop-place.invariant in
-    let shards = c.loop-place.shards.items in
+    let old = c.loop-position.invariant in
+    let shards = c.loop-position.shards.items in
     let there : slice_get (codes_of roster.platforms) (length shards) ≡ Some c.platform_at-me.result =
     ap (slice_get (codes_of roster.platforms)) old.count
-    ∙ ap (λ (ps : List PlatformCode). slice_get (codes_of ps) c.loop-place.place) (sym c.platforms.ensures)
+    ∙ ap (λ (ps : List PlatformCode). slice_get (codes_of ps) c.loop-position.position) (sym c.platforms.ensures)
     ∙ c.platform_at-me.ensures in
     record {
       opening = one_opened g.D.Disk.tells g.D.Disk.faults roster (codes_of roster.platforms)
-          (reverse c.args.racks.now.items) shards c.push_reserved.new.self.items c.loop-place.racks.items
+          (reverse c.args.racks.now.items) shards c.push_reserved.new.self.items c.loop-position.racks.items
           c.open_next.new.racks.items c.platform_at-me.result c.in-Ok.shard old.opening there
           (subst (λ (r : RosterRecord). OpensLast g.D.Disk.tells g.D.Disk.faults r c.platform_at-me.result
-          c.loop-place.racks.items c.in-Ok.shard c.open_next.new.racks.items) c.in_ok-by.ensures c.in-Ok.ensures.ok)
+          c.loop-position.racks.items c.in-Ok.shard c.open_next.new.racks.items) c.in_ok-by.ensures c.in-Ok.ensures.ok)
           c.push_reserved.ensures.items;
       count = ap length c.push_reserved.ensures.items ∙ length_push shards c.in-Ok.shard
           ∙ ap (λ (n : _). n + 1) old.count;

@@ -10,26 +10,26 @@ use Rattle.platform_world.proofs.Diaries.{left_from, one_more_given, some_shard}
 use Rattle.platform_world.proofs.platforms.diaries_of_shard.Goals as goal
 
 pub diary_at-requires-clause-within : goal.diary_at-requires-clause-within
-diary_at-requires-clause-within g c = omega (arith, c.requires.sixteen, c.requires.shard, c.loop-place-test.true)
+diary_at-requires-clause-within g c = omega (arith, c.requires.sixteen, c.requires.shard, c.loop-position-test.true)
 
-pub loop-place-preserved : goal.loop-place-preserved
-loop-place-preserved g c =
+pub loop-position-preserved : goal.loop-position-preserved
+loop-position-preserved g c =
     let i = c.args.shard in
-    let place = c.loop-place.place in
+    let position = c.loop-position.position in
     let ps = c.args.platforms.now in
     let shards = c.args.shards.now in
     let states = map (λ x. shard_state (g.M.Machine.seen x)) shards in
-    let inside : 16 * place + i < length shards =
-    omega (arith, c.requires.sixteen, c.requires.shard, c.loop-place-test.true) in
-    let (m, there) = some_shard shards (16 * place + i) inside in
+    let inside : 16 * position + i < length shards =
+    omega (arith, c.requires.sixteen, c.requires.shard, c.loop-position-test.true) in
+    let (m, there) = some_shard shards (16 * position + i) inside in
     let none : PlatformCode = record { bytes = [] } in
-    let p = get_or ps place none in
+    let p = get_or ps position none in
     let d : PlatformDiary = record { platform = p; diary = c.diary_at.result } in
-    let next : suc place ≡ place + 1 = omega arith in
-    subst (λ (ds : List PlatformDiary). map given_diary ds ++ left_from i (place + 1) ps states
+    let next : suc position ≡ position + 1 = omega arith in
+    subst (λ (ds : List PlatformDiary). map given_diary ds ++ left_from i (position + 1) ps states
     ≡ map (shard_diary i) (grouped ps states)) (sym c.in_ok-push.ensures.items)
-    (one_more_given i place ps states c.loop-place.diaries.items d (shard_state (g.M.Machine.seen m)) c.requires.shard
-    (drop-cons ps place none c.loop-place-test.true ∙ ap (λ k. p ∷ drop k ps) next)
-    (slice_get-map (λ x. shard_state (g.M.Machine.seen x)) shards (16 * place + i)
+    (one_more_given i position ps states c.loop-position.diaries.items d (shard_state (g.M.Machine.seen m)) c.requires.shard
+    (drop-cons ps position none c.loop-position-test.true ∙ ap (λ k. p ∷ drop k ps) next)
+    (slice_get-map (λ x. shard_state (g.M.Machine.seen x)) shards (16 * position + i)
     ∙ ap (option_map (λ x. shard_state (g.M.Machine.seen x))) there)
-    (c.diary_at.ensures m there) c.loop-place.invariant)
+    (c.diary_at.ensures m there) c.loop-position.invariant)
