@@ -6,6 +6,7 @@ tools/model.py, which has the rules once more. Texts from outside are signed wit
 can derive.
 """
 import base64
+import itertools
 import json
 import os
 import sys
@@ -270,6 +271,37 @@ def two_bills_of_two_carriers():
     script.deliver(4, "DONE", bill=2, place="GONE")
     at_gamm = {"acts": ["GAMM"], "end": "GAMM", "entries": 1, "possessor": AGENT}
     script.write(at_gamm, at_gamm)
+
+
+def in_shard_of(document, count):
+    """Further documents whose bills are in the same shard as a document's: only their references differ."""
+    shard = int(model.bill_of(document)[:2], 16) % model.SHARDS
+    for number in itertools.count(2):
+        other = dict(document, transportDocumentReference="OCNL%07d" % number)
+        if int(model.bill_of(other)[:2], 16) % model.SHARDS == shard:
+            yield other
+            count -= 1
+            if not count:
+                return
+
+
+def bills_of_one_shard():
+    """Three bills of one shard, whose records are mixed: one is received elsewhere, one stays, one is on its way."""
+    script = Script("bills_of_one_shard")
+    script.issue()
+    for number, document in enumerate(in_shard_of(DOCUMENT, 2), 2):
+        script.sign(document, bill=number)
+    for number in (3, 2):
+        script.act("ALPH", "ISSUE", CARRIER, EXPORT, number=number, bill=number, state="LIVE")
+    script.act("ALPH", "TRANSFER", EXPORT, IMPORT, sent=[1], place="PARTING")
+    script.act("ALPH", "ENDORSE", EXPORT, BANK, number=2, holder=BANK)
+    script.act("ALPH", "TRANSFER", EXPORT, AGENT, number=3, sent=[2], place="PARTING")
+    script.deliver(1, "RECE", [3])
+    script.act("ALPH", "TRANSFER", EXPORT, BANK, number=2, possessor=BANK)
+    script.deliver(3, "DONE", bill=1, place="GONE")
+    script.write({"acts": ["BETA"], "end": "BETA", "entries": 1, "possessor": IMPORT},
+                 {"acts": ["ALPH"], "end": "ALPH", "entries": 0, "possessor": BANK},
+                 {"acts": [], "end": "ALPH", "entries": 0, "possessor": EXPORT})
 
 
 # ---- bodies from outside
@@ -719,13 +751,13 @@ def bad_line():
 
 def main():
     for make in (transfer_to_another_platform, repeated_delivery, restart_while_parting, uploaded_documents,
-                 start_delivered_twice,
-                 restart_between_uploads, unknown_receiver, return_before_the_answer, to_another_platform, surrender,
-                 two_bills_of_two_carriers, chain_without_its_middle, parted_chains, texts_of_disputes, forked_chains,
-                 refused_bodies, ignored_replies, foreign_uploads, asked_documents, other_partys_platform,
-                 no_bill_before_not_ours, not_the_carrier, documents_of_no_bill, nobody_here, asker_of_no_platform,
-                 rules_of_titles, no_message, unknown_reference, attached_twice, documents_limit, transactions_limit,
-                 entries_limit, every_reply, bad_line):
+                 start_delivered_twice, restart_between_uploads, unknown_receiver, return_before_the_answer,
+                 to_another_platform, surrender, two_bills_of_two_carriers, bills_of_one_shard,
+                 chain_without_its_middle, parted_chains, texts_of_disputes, forked_chains, refused_bodies,
+                 ignored_replies, foreign_uploads, asked_documents, other_partys_platform, no_bill_before_not_ours,
+                 not_the_carrier, documents_of_no_bill, nobody_here, asker_of_no_platform, rules_of_titles, no_message,
+                 unknown_reference, attached_twice, documents_limit, transactions_limit, entries_limit, every_reply,
+                 bad_line):
         make()
 
 
