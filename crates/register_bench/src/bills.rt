@@ -9,13 +9,15 @@ use std::alloc::Global;
 use title_register::Register;
 use upload_state::reference_of;
 
-/// A register, and who acts in it, and when.
+/// A register, who acts in it, and when, and how many entries a chain has that comes back.
 #[derive(Drop)]
 pub(crate) struct Bills {
     register: Register,
     carrier: Party,
     exporter: Party,
+    importer: Party,
     time: Moment,
+    entries: u8,
 }
 
 // The name of a bill by its number, or of one of its entries: spread as a checksum is.
@@ -39,12 +41,14 @@ fn manifest(alloc: Global, bill: Checksum, last: Checksum) -> Manifest {
 
 impl Bills {
     /// No bill.
-    pub(crate) fn new(alloc: Global) -> Option<Bills> {
+    pub(crate) fn new(alloc: Global, entries: u8) -> Option<Bills> {
         Some(Bills {
             register: Register::new(alloc),
             carrier: Party::from_text(b"ALPH/CARRIER")?,
             exporter: Party::from_text(b"ALPH/EXPORT")?,
+            importer: Party::from_text(b"BETA/IMPORT")?,
             time: Moment::try_new(0)?,
+            entries,
         })
     }
 
@@ -63,18 +67,31 @@ impl Bills {
         }
     }
 
-    fn link(&self, alloc: Global, bill: Checksum, name: Checksum) -> ChainLink {
-        ChainLink {
+    // An entry by its number, of a bill that goes to and fro; the first one has what was done before.
+    fn link(&self, alloc: Global, bill: u32, number: u8) -> Result<ChainLink, NoMemory> {
+        let sign = self.transaction(Kind::Sign, self.carrier, None);
+        let issue = self.transaction(Kind::Issue, self.carrier, Some(self.exporter));
+        let there = self.transaction(Kind::Transfer, self.exporter, Some(self.importer));
+        let back = self.transaction(Kind::Transfer, self.importer, Some(self.exporter));
+        let (platform, transactions) = if number == 1 {
+            let all = Items::from_slice(alloc, &[sign, issue, there])?;
+            (self.exporter.platform, all)
+        } else if number % 2 == 1 {
+            (self.exporter.platform, Items::from_slice(alloc, &[there])?)
+        } else {
+            (self.importer.platform, Items::from_slice(alloc, &[back])?)
+        };
+        Ok(ChainLink {
             text: SignedText(Items::new(alloc)),
-            name,
+            name: name(bill, number),
             entry: Entry {
-                platform: self.carrier.platform,
-                bill,
+                platform,
+                bill: name(bill, 0),
                 previous: None,
                 attempt: 1,
-                transactions: Items::new(alloc),
+                transactions,
             },
-        }
+        })
     }
 
     /// A bill more, signed and issued.
@@ -92,22 +109,20 @@ impl Bills {
             .ok()
     }
 
-    /// The first so many of four frames, of the bill of this number.
+    /// The first so many of five frames, of the bill of this number.
     pub(crate) fn row(&mut self, alloc: Global, number: u32, events: u32) -> Option<()> {
         if events == 0 {
             return Some(());
         }
-        let bill = name(number, 0);
-        let transaction = self.transaction(Kind::Endorse, self.exporter, Some(self.exporter));
-        self.write(alloc, Frame::One(Record::Acted { bill, transaction }))
-            .ok()?;
+        self.endorse(alloc, number).ok()?;
         if events == 1 {
             return Some(());
         }
+        let bill = name(number, 0);
         let entry = name(number, 1);
         let parted = Record::Parted {
             bill,
-            link: self.link(alloc, bill, entry),
+            link: self.link(alloc, number, 1).ok()?,
             manifest: manifest(alloc, bill, entry),
             manifest_text: SignedText(Items::new(alloc)),
         };
@@ -120,27 +135,32 @@ impl Bills {
         if events == 3 {
             return Some(());
         }
-        let last = name(number, 2);
         let begun = Record::Begun {
             bill,
-            chain: self.chain(alloc, bill, entry, last).ok()?,
-            manifest: manifest(alloc, bill, last),
+            chain: self.chain(alloc, number).ok()?,
+            manifest: manifest(alloc, bill, name(number, self.entries)),
             body: Items::new(alloc),
         };
-        self.write(alloc, Frame::BegunTaken(begun)).ok()
+        self.write(alloc, Frame::BegunTaken(begun)).ok()?;
+        if events == 4 {
+            return Some(());
+        }
+        self.endorse(alloc, number).ok()
     }
 
-    // A chain of two entries.
-    fn chain(
-        &self,
-        alloc: Global,
-        bill: Checksum,
-        first: Checksum,
-        last: Checksum,
-    ) -> Result<Chain, NoMemory> {
+    // The exporter endorses the bill to itself.
+    fn endorse(&mut self, alloc: Global, number: u32) -> Result<(), NoMemory> {
+        let bill = name(number, 0);
+        let transaction = self.transaction(Kind::Endorse, self.exporter, Some(self.exporter));
+        self.write(alloc, Frame::One(Record::Acted { bill, transaction }))
+    }
+
+    // The chain by which the bill of this number comes back.
+    fn chain(&self, alloc: Global, number: u32) -> Result<Chain, NoMemory> {
         let mut chain = Items::new(alloc);
-        chain.push(self.link(alloc, bill, first))?;
-        chain.push(self.link(alloc, bill, last))?;
+        for before in 0..self.entries {
+            chain.push(self.link(alloc, number, before + 1)?)?;
+        }
         Ok(chain)
     }
 
@@ -148,7 +168,7 @@ impl Bills {
     pub(crate) fn ask(&self, number: u32, asked: u32) -> u32 {
         let register = &self.register;
         let bill = name(number, 0);
-        let entry = name(number, 2);
+        let entry = name(number, self.entries);
         let found = match asked {
             1 => register.may_act(bill),
             2 => register.title(bill).is_ok(),

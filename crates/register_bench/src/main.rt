@@ -7,10 +7,10 @@ use bills::Bills;
 use std::process::ExitCode;
 use std::{env, io};
 
-const USAGE: &str = "usage: register_bench BILLS ROWS EVENTS ASKED
-  BILLS bills are signed and issued; then, of each of ROWS bills among them, the first EVENTS of four frames are added:
-  an endorsement, an entry that parts, its settling, and a chain by which the bill comes back; and then ROWS times the
-  look-up of number ASKED is asked, 0 for none";
+const USAGE: &str = "usage: register_bench BILLS ROWS EVENTS ASKED ENTRIES
+  BILLS bills are signed and issued; then, of each of ROWS bills among them, the first EVENTS of five frames are added:
+  an endorsement, an entry that parts, its settling, a chain of ENTRIES entries by which the bill comes back, and an
+  endorsement; and then ROWS times the look-up of number ASKED is asked, 0 for none";
 
 fn main(rt: HostRuntime) -> ExitCode {
     match run(&rt) {
@@ -26,14 +26,15 @@ fn main(rt: HostRuntime) -> ExitCode {
 // Whether the words were right; none where memory ran out.
 fn run(rt: &HostRuntime) -> Option<bool> {
     let words = words(rt).ok()?;
-    let [bills, rows, events, asked] = words.as_slice() else {
+    let [bills, rows, events, asked, entries] = words.as_slice() else {
         return Some(false);
     };
     let bills = bills.as_str().parse::<u32>().ok()?;
     let rows = rows.as_str().parse::<u32>().ok()?;
     let events = events.as_str().parse::<u32>().ok()?;
     let asked = asked.as_str().parse::<u32>().ok()?;
-    let mut made = Bills::new(rt.alloc())?;
+    let entries = entries.as_str().parse::<u8>().ok()?;
+    let mut made = Bills::new(rt.alloc(), entries)?;
     for number in 0..bills {
         made.fill(rt.alloc(), number)?;
     }
