@@ -321,15 +321,14 @@ impl<D: Disk, G: KeyRing> JournaledShard<D, G> {
         (self.written.close(), self.ring)
     }
 
-    /// Hands out the disk, the ring and the register, which has the diary.
-    pub fn close_whole(self) -> (D, G, Register)
+    /// Hands out the disk, the ring and the diary.
+    pub fn close_whole(self) -> (D, G, Diary)
         ensures disk { result.0 ≡ self.written.journal.disk }
         ensures ring { result.1 ≡ self.ring }
-        ensures diary { result.2.diary ≡ self.written.diary }
-        ensures room { result.2.room ≡ None }
+        ensures diary { result.2 ≡ self.written.diary }
     {
-        let (disk, register) = self.written.close_whole();
-        (disk, self.ring, register)
+        let (disk, diary) = self.written.close_whole();
+        (disk, self.ring, diary)
     }
 }
 

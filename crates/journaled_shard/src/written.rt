@@ -19,7 +19,7 @@ ghost use Rattle.journaled_shard.specs.View.{written_view};
 ghost use Rattle.journaled_shard.specs.Written.{AreNamed, HasDiary, HasNamesOf, IsKeptOrDropped, IsLeft, IsNamedIfAny, IsOnDisk, IsRead, IsStill, IsWritten};
 
 use crate::unwritten::Unwritten;
-use bill_diary::Frame;
+use bill_diary::{Diary, Frame};
 use bill_journal::{AppendFault, FrameAt, Framed, Journal, OpenFault, no_journal_is_damaged};
 use disk_model::Disk;
 use ebl_base::{MAX_FRAME_CONTENT, NoMemory};
@@ -152,11 +152,12 @@ impl<D: Disk> Written<D> {
         self.journal.close()
     }
 
-    // The disk and the register.
-    pub(crate) fn close_whole(self) -> (D, Register)
-        ensures { result ≡ (self.journal.disk, self.register) }
+    // The disk and the diary.
+    pub(crate) fn close_whole(self) -> (D, Diary)
+        requires { self.register.room ≡ None }
+        ensures { result ≡ (self.journal.disk, self.register.diary) }
     {
-        (self.journal.close(), self.register)
+        (self.journal.close(), self.register.into_diary())
     }
 }
 

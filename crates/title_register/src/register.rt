@@ -80,6 +80,15 @@ impl Register {
         &self.diary
     }
 
+    /// The diary alone, while no room is taken: what is kept beside it is dropped.
+    pub fn into_diary(self) -> Diary
+        requires { self.room ≡ None }
+        ensures { result ≡ self.diary }
+    {
+        let Register { diary, .. } = self;
+        diary
+    }
+
     /// The frames of the diary, in the order in which they were written. A frame's number is its place among them,
     /// counted from 0.
     pub fn frames(&self) -> &[Frame]
