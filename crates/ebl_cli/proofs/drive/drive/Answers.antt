@@ -18,7 +18,7 @@ pub returns-in_default-clause-cause : goal.returns-in_default-clause-cause
 returns-in_default-clause-cause g c =
     subst (λ (s : Status). IsCausedBy s (first_bad_line (segments_of 10 c.args.script.now)) (length c.args.racks.items)
     (racks_for (segments_of 10 c.args.script.now)) (written_among (racks_for (segments_of 10 c.args.script.now)) (lengths_of g.D.Disk.seen c.args.racks.items)))
-    (sym c.at_once.ensures.status) (bad_empty c.args.script.now c.in_default.ensures.parts)
+    (sym c.at_once.ensures.status) (bad_empty c.args.script.now c.in_default.ensures.first)
 
 pub returns-in_default-clause-ran : goal.returns-in_default-clause-ran
 returns-in_default-clause-ran g c served =
@@ -26,7 +26,7 @@ returns-in_default-clause-ran g c served =
     (λ fates run. RunsScript c.args.script.now (keys_of g.G.KeyRing.keys c.args.racks.items) fates run)
     c.args.racks.items c.at_once.result (runs.bad_line 1) (BadScript 1) (g.K.Sink.written c.args.sink.now)
     c.at_once.ensures.status c.at_once.ensures.fates
-    (runs_empty c.args.script.now (keys_of g.G.KeyRing.keys c.args.racks.items) c.in_default.ensures.parts)
+    (runs_empty c.args.script.now (keys_of g.G.KeyRing.keys c.args.racks.items) c.in_default.ensures.first)
     (output_of bad_at_once, refl, refl, Appends-nil (g.K.Sink.written c.args.sink.now))
 
 pub returns-in_default-clause-ends : goal.returns-in_default-clause-ends
@@ -52,7 +52,7 @@ returns-in-Ok-None-clause-cause g c =
     subst (λ (s : Status). IsCausedBy s (first_bad_line (segments_of 10 c.args.script.now)) (length c.args.racks.items)
     (racks_for (segments_of 10 c.args.script.now)) (written_among (racks_for (segments_of 10 c.args.script.now)) (lengths_of g.D.Disk.seen c.args.racks.items)))
     (sym c.at_once-in-Ok-None.ensures.status)
-    (bad_first_line c.args.script.now c.in-Some.line.now (segments_of 10 c.in-Some.rest.now) c.in-Some.ensures.parts (sym is))
+    (bad_first_line c.args.script.now c.in-Some.line.now (segments_of 10 c.in-Some.rest.now) c.in-Some.ensures.first (sym is))
 
 pub returns-in-Ok-None-clause-ran : goal.returns-in-Ok-None-clause-ran
 returns-in-Ok-None-clause-ran g c served =
@@ -62,7 +62,7 @@ returns-in-Ok-None-clause-ran g c served =
     c.args.racks.items c.at_once-in-Ok-None.result (runs.bad_line 1) (BadScript 1) (g.K.Sink.written c.args.sink.now)
     c.at_once-in-Ok-None.ensures.status c.at_once-in-Ok-None.ensures.fates
     (runs_no_roster c.args.script.now c.in-Some.line.now (segments_of 10 c.in-Some.rest.now)
-    (keys_of g.G.KeyRing.keys c.args.racks.items) c.in-Some.ensures.parts (sym is))
+    (keys_of g.G.KeyRing.keys c.args.racks.items) c.in-Some.ensures.first (sym is))
     (output_of bad_at_once, refl, refl, Appends-nil (g.K.Sink.written c.args.sink.now))
 
 pub returns-in-Ok-None-clause-ends : goal.returns-in-Ok-None-clause-ends
@@ -119,9 +119,9 @@ returns-in-Ok-Some-clause-cause g c =
     let is = rw (c.in-Ok-Some.field-0-is) at c.in-Ok-Some.ensures.roster in
     let lengths = lengths_of g.D.Disk.seen c.args.racks.items in
     let needed = racks_behind c.args.script.now c.in-Some.line.now (segments_of 10 c.in-Some.rest.now) c.in-Ok-Some.roster
-    c.in-Some.ensures.parts (sym is) in
+    c.in-Some.ensures.first (sym is) in
     let bad = bad_behind c.args.script.now c.in-Some.line.now (segments_of 10 c.in-Some.rest.now) c.in-Ok-Some.roster
-    c.in-Some.ensures.parts (sym is) in
+    c.in-Some.ensures.first (sym is) in
     subst (λ (n : ℕ). IsCausedBy c.drive_roster.result.status (first_bad_line (segments_of 10 c.args.script.now)) (length c.args.racks.items) n (written_among n lengths)) (sym needed)
     (subst (λ (o : Option ℕ). IsCausedBy c.drive_roster.result.status o (length c.args.racks.items)
     (racks_needed c.in-Ok-Some.roster) (written_among (racks_needed c.in-Ok-Some.roster) lengths)) bad c.drive_roster.ensures.cause)
@@ -131,12 +131,12 @@ returns-in-Ok-Some-clause-ran g c served =
     let is = rw (c.in-Ok-Some.field-0-is) at c.in-Ok-Some.ensures.roster in
     let lengths = lengths_of g.D.Disk.seen c.args.racks.items in
     let needed = racks_behind c.args.script.now c.in-Some.line.now (segments_of 10 c.in-Some.rest.now) c.in-Ok-Some.roster
-    c.in-Some.ensures.parts (sym is) in
+    c.in-Some.ensures.first (sym is) in
     let ran = c.drive_roster.ensures.ran (rw needed at served) in
     record {
       run = ran.run;
       runs = runs_behind_roster c.args.script.now c.in-Some.line.now (segments_of 10 c.in-Some.rest.now) c.in-Ok-Some.roster
-          (keys_of g.G.KeyRing.keys c.args.racks.items) c.drive_roster.result.fates ran.run c.in-Some.ensures.parts
+          (keys_of g.G.KeyRing.keys c.args.racks.items) c.drive_roster.result.fates ran.run c.in-Some.ensures.first
           (sym is) ran.runs;
       wrote = ran.wrote;
       left = ran.left;
@@ -146,7 +146,7 @@ pub returns-in-Ok-Some-clause-ends : goal.returns-in-Ok-Some-clause-ends
 returns-in-Ok-Some-clause-ends g c =
     let is = rw (c.in-Ok-Some.field-0-is) at c.in-Ok-Some.ensures.roster in
     let needed = racks_behind c.args.script.now c.in-Some.line.now (segments_of 10 c.in-Some.rest.now) c.in-Ok-Some.roster
-    c.in-Some.ensures.parts (sym is) in
+    c.in-Some.ensures.first (sym is) in
     let lengths = lengths_of g.D.Disk.seen c.args.racks.items in
     let rings = keys_of g.G.KeyRing.keys c.args.racks.items in
     drives_by c.args.script.now rings lengths c.drive_roster.result.fates c.drive_roster.result.status
@@ -160,6 +160,6 @@ pub returns-in-Ok-Some-clause-racks : goal.returns-in-Ok-Some-clause-racks
 returns-in-Ok-Some-clause-racks g c =
     let is = rw (c.in-Ok-Some.field-0-is) at c.in-Ok-Some.ensures.roster in
     let needed = racks_behind c.args.script.now c.in-Some.line.now (segments_of 10 c.in-Some.rest.now) c.in-Ok-Some.roster
-    c.in-Some.ensures.parts (sym is) in
+    c.in-Some.ensures.first (sym is) in
     subst (λ (n : ℕ). AreHandedBack g.D.Disk.faults g.G.KeyRing.faults n c.args.racks.items c.drive_roster.result) (sym needed)
     c.drive_roster.ensures.racks

@@ -23,7 +23,7 @@ returns-then-n-ge-MOST_LINES-clause-ran g c =
     let roster = c.args.world.now.platforms.roster in
     let written = g.K.Sink.written in
     let reached : Reached seen faults roster (segments_of 10 c.args.lines.now) c.args.world.now (c.in-Some.line.now ∷ segments_of 10 c.in-Some.after.now) c.loop-line.n c.loop-line.world (written c.args.sink.now) (written c.loop-line.sink) =
-    rw c.in-Some.ensures.parts at c.loop-line.invariant.reached in
+    rw c.in-Some.ensures.first at c.loop-line.invariant.reached in
     rw c.from.ensures (ends_too_many seen faults roster (segments_of 10 c.args.lines.now) c.args.world.now c.in-Some.line.now
     (segments_of 10 c.in-Some.after.now) c.loop-line.world c.loop-line.n (written c.args.sink.now) (written c.loop-line.sink)
     reached c.if-n-ge-MOST_LINES.true)
@@ -35,7 +35,7 @@ returns-in-Err-put-clause-ran g c =
     let roster = c.args.world.now.platforms.roster in
     let written = g.K.Sink.written in
     let reached : Reached seen faults roster (segments_of 10 c.args.lines.now) c.args.world.now (c.in-Some.line.now ∷ segments_of 10 c.in-Some.after.now) c.loop-line.n c.loop-line.world (written c.args.sink.now) (written c.loop-line.sink) =
-    rw c.in-Some.ensures.parts at c.loop-line.invariant.reached in
+    rw c.in-Some.ensures.first at c.loop-line.invariant.reached in
     let answered = answered_at seen faults c.loop-line.world.platforms.roster roster c.in-Some.line.now c.loop-line.world
     (Some c.in-Ok-Some.answer) c.answer_of_line.new.world c.loop-line.invariant.same_roster
     (rw (c.in-Ok-Some.field-0-is) at c.in-Ok-Some.ensures.answered) in
@@ -55,7 +55,7 @@ returns-in-Ok-None-clause-ran g c =
     let roster = c.args.world.now.platforms.roster in
     let written = g.K.Sink.written in
     let reached : Reached seen faults roster (segments_of 10 c.args.lines.now) c.args.world.now (c.in-Some.line.now ∷ segments_of 10 c.in-Some.after.now) c.loop-line.n c.loop-line.world (written c.args.sink.now) (written c.loop-line.sink) =
-    rw c.in-Some.ensures.parts at c.loop-line.invariant.reached in
+    rw c.in-Some.ensures.first at c.loop-line.invariant.reached in
     let outside = answered_at seen faults c.loop-line.world.platforms.roster roster c.in-Some.line.now c.loop-line.world
     None c.answer_of_line.new.world c.loop-line.invariant.same_roster
     (rw (c.in-Ok-None.field-0-is) at c.in-Ok-None.ensures.answered) in
@@ -71,7 +71,7 @@ returns-in-Err-clause-ran g c =
     let roster = c.args.world.now.platforms.roster in
     let written = g.K.Sink.written in
     let reached : Reached seen faults roster (segments_of 10 c.args.lines.now) c.args.world.now (c.in-Some.line.now ∷ segments_of 10 c.in-Some.after.now) c.loop-line.n c.loop-line.world (written c.args.sink.now) (written c.loop-line.sink) =
-    rw c.in-Some.ensures.parts at c.loop-line.invariant.reached in
+    rw c.in-Some.ensures.first at c.loop-line.invariant.reached in
     ends_cut seen faults roster (segments_of 10 c.args.lines.now) c.args.world.now c.in-Some.line.now
     (segments_of 10 c.in-Some.after.now) c.loop-line.world c.loop-line.n (written c.args.sink.now) (written c.loop-line.sink)
     reached c.answer_of_line.new.world c.if-n-ge-MOST_LINES.false
@@ -85,7 +85,7 @@ loop-line-preserved g c =
     let roster = c.args.world.now.platforms.roster in
     let written = g.K.Sink.written in
     let reached : Reached seen faults roster (segments_of 10 c.args.lines.now) c.args.world.now (c.in-Some.line.now ∷ segments_of 10 c.in-Some.after.now) c.loop-line.n c.loop-line.world (written c.args.sink.now) (written c.loop-line.sink) =
-    rw c.in-Some.ensures.parts at c.loop-line.invariant.reached in
+    rw c.in-Some.ensures.first at c.loop-line.invariant.reached in
     let answered = answered_at seen faults c.loop-line.world.platforms.roster roster c.in-Some.line.now c.loop-line.world
     (Some c.in-Ok-Some.answer) c.answer_of_line.new.world c.loop-line.invariant.same_roster
     (rw (c.in-Ok-Some.field-0-is) at c.in-Ok-Some.ensures.answered) in
@@ -100,7 +100,7 @@ loop-line-preserved g c =
           (written c.args.sink.now) (written c.loop-line.sink) (written c.put.new.self) reached
           c.if-n-ge-MOST_LINES.false counted answered wrote;
       left = sym (first_bad_behind roster c.loop-line.n c.in-Some.line.now (segments_of 10 c.in-Some.after.now) answered.0
-          c.if-n-ge-MOST_LINES.false answered.1) ∙ (rw c.in-Some.ensures.parts at c.loop-line.invariant.left);
+          c.if-n-ge-MOST_LINES.false answered.1) ∙ (rw c.in-Some.ensures.first at c.loop-line.invariant.left);
       numbered = omega (arith, c.if-n-ge-MOST_LINES.false);
       counted = omega (arith, counts, c.loop-line.invariant.counted);
       same_roster = c.in-Ok-Some.ensures.roster ∙ c.loop-line.invariant.same_roster;
@@ -111,7 +111,7 @@ loop-line-preserved g c =
 pub returns-clause-ran : goal.returns-clause-ran
 returns-clause-ran g c =
     let written = g.K.Sink.written in
-    let reached = rw c.in_default.ensures.parts at c.loop-line.invariant.reached in
+    let reached = rw c.in_default.ensures.first at c.loop-line.invariant.reached in
     ends_last g.M.Machine.seen g.M.Machine.faults c.args.world.now.platforms.roster (segments_of 10 c.args.lines.now)
     c.args.world.now c.loop-line.world c.loop-line.n c.put_bill_lines.result (written c.args.sink.now)
     (written c.loop-line.sink) (written c.put_bill_lines.new.sink) reached c.put_bill_lines.ensures.ends
