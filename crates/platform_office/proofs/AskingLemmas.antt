@@ -220,22 +220,6 @@ module _ {D G : Type 0} (tells : D → Bool) (keys : G → Keys) where
           (found_length old.written.diary new.written.diary old.written.loose found));
     }
 
-    -- or could not be
-    pub stuck_order : (i : ℕ) (old new : JournaledShardRecord D G) → IsStill old.written new.written
-        → IsLegalWith new.roster (keys new.ring) new.me new.written.diary new.written.loose
-        → (tells new.written.journal.disk ≡ true → IsOnDisk seen may_leave new.written)
-        → IsInOrder tells keys seen may_leave i old → IsInOrder tells keys seen may_leave i new
-    stuck_order i old new still legal on_disk at = record {
-      legal = legal;
-      own = subst (All (IsOfShard i)) (sym still.diary) at.own;
-      own_loose = subst (λ (o : Option Frame). IfSome o (IsOfShard i)) (sym still.loose) at.own_loose;
-      on_disk = on_disk;
-      few = (let few = at.few in let long = ap length still.diary in
-          let loose : one_if (is_some new.written.loose) ≡ one_if (is_some old.written.loose) =
-          ap (λ (o : Option Frame). one_if (is_some o)) still.loose in
-          omega arith);
-    }
-
   -- what a call says of a request over a journal that was read
   pub record TakeSays (now : Moment) (request : RequestRecord) (out : Outcome) (old new : JournaledShardRecord D G)
       : Type 0 where
@@ -353,19 +337,3 @@ module _ {D G : Type 0} (tells : D → Bool) (keys : G → Keys) where
             says.legal.dropped));
         own = all_own i old.written.diary new.written.diary grows_own at.own;
       }
-
--- ---- a request that was not taken
-
--- nothing changed, and the reply is a failure
-pub stuck_served : (roster : RosterRecord) (keys : Keys) (me : PlatformCode) (tells : Bool) (number : ℕ) (now : Moment)
-    (request : RequestRecord) (diary : List Frame) (out : Outcome) → IsOfReading out.reply → out.messages ≡ []
-    → ((place : ℕ) → tells ≡ true → out.reply ≡ replies.Damaged place → ⊥) → IsLegal roster keys me diary
-    → All (IsOfShard number) diary → IsServed roster keys me tells number now request diary diary out
-stuck_served roster keys me tells number now request diary out is nothing undamaged legal own = record {
-  step = λ fine. let clash : true ≡ false = sym (reading_fails out.reply is) ∙ fine in cc clash;
-  refused = λ refusal. (refl, nothing);
-  full = λ full. absurd (reading_not_full out.reply is full);
-  undamaged = undamaged;
-  legal = legal;
-  own = own;
-}
