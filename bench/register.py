@@ -58,8 +58,8 @@ def peak(given):
 
 def memory(program, events, entries):
     """What a bill takes of which so many of the frames were added."""
-    few, many = (peak(words(program, bills, bills if events else 0, events, 0, entries)) for bills in (10000, 30000))
-    return (many - few) // 20000
+    few, many = (peak(words(program, bills, bills if events else 0, events, 0, entries)) for bills in (5000, 15000))
+    return (many - few) // 10000
 
 
 def main():
