@@ -1,57 +1,25 @@
 //! Offices on disks in memory, and commands on one bill, which is of shard 4.
 ghost use Rattle.std.specs.Prelude.{◌≡◌, All, IfSome, vec_len, []};
 ghost use Rattle.ebl_base.specs.Moment.{IsMoment};
-ghost use Rattle.ebl_base.specs.Party.{IsParty};
 ghost use Rattle.holder_commands.specs.Command.{command_view};
 ghost use Rattle.holder_commands.specs.Form.{IsCommand};
-ghost use Rattle.party_roster.specs.RosterForm.{IsRoster};
 ghost use Rattle.platform_requests.specs.Request.{request_view};
 ghost use Rattle.transfer_judge.specs.PlannedTexts.{Nests};
 ghost use Rattle.platform_office.specs.Office.{IsPassOf};
 ghost use Rattle.platform_office.specs.Served.{MayBeServed};
 
-use canonical_json::read;
 use disk_model::{Failures, MemoryDisk};
-use ebl_base::{Items, Moment, Party, PlatformCode};
-use envelope_manifest::Body;
+use ebl_base::{Items, Kind, Moment, Party, PlatformCode};
 use holder_commands::Command;
 use journaled_shard::Rack;
-use party_roster::Roster;
 use platform_office::{Office, Pass};
 use platform_requests::{Reply, Request};
+use sample_bills::{acting, bill, roster, signing};
 use std::alloc::Global;
 use test_signer::KeyedRing;
 
 /// The bill's shard.
 pub(crate) const SHARD: usize = 4;
-
-const ROSTER: &[u8] = br#"{
-    "carriers":[{"code":"OCNL","party":"ALPH/CARRIER","provider":"NMFTA"}],
-    "parties":["ALPH/BANK","ALPH/CARRIER","ALPH/EXPORT","BETA/IMPORT"],
-    "platforms":["ALPH","BETA"]
-}"#;
-
-// A body with the bill's document.
-const SIGNED: &[u8] = br#"{
-    "chain":[],
-    "document":{
-        "carrierCode":"OCNL",
-        "carrierCodeListProvider":"NMFTA",
-        "isToOrder":true,
-        "transportDocumentReference":"OCNL0000001",
-        "transportDocumentTypeCode":"BOL"
-    },
-    "manifest":""
-}"#;
-
-// The SHA-256 checksum of the document's canonical text, by sha256sum of GNU coreutils.
-const BILL: &str = "542fe9ce054c1f484751231f6d4e2ea1b57b5cc8e11d531525d1296ddd157e14";
-
-fn roster(alloc: Global) -> Option<Roster>
-    ensures { IfSome result (λ roster. IsRoster roster) }
-{
-    Roster::read(alloc, &read(alloc, ROSTER).ok()?).ok()
-}
 
 /// The office of these tests, and its passes.
 pub(crate) type TestOffice = Office<MemoryDisk, KeyedRing>;
@@ -95,50 +63,18 @@ pub(crate) fn office(alloc: Global, fails: &[u64]) -> Option<(TestOffice, TestPa
     Office::open(alloc, me, roster, racks).ok()
 }
 
-// What is asked of the bill, one after the other: who, what, and for whom.
-const STEPS: [(&str, &str, &str); 4] = [
-    ("ALPH/CARRIER", "SIGN", ""),
-    ("ALPH/CARRIER", "ISSUE", "ALPH/EXPORT"),
-    ("ALPH/EXPORT", "ENDORSE", "ALPH/BANK"),
-    ("ALPH/EXPORT", "TRANSFER", "ALPH/BANK"),
-];
-
-// A command on the bill.
-fn command(alloc: Global, word: &str, to: &str) -> Option<Command>
-    ensures form { IfSome result (λ c. IsCommand (command_view c)) }
-    ensures nests { IfSome result (λ c. Nests (command_view c)) }
+// What is asked of the bill at this step, and who asks: it is signed, issued, endorsed, and handed over.
+fn command(alloc: Global, step: usize) -> Option<(&'static str, Command)>
+    ensures form { IfSome result (λ r. IsCommand (command_view r.1)) }
+    ensures nests { IfSome result (λ r. Nests (command_view r.1)) }
 {
-    if word == "SIGN" {
-        let Body { document, .. } = Body::read(alloc, SIGNED).ok()?;
-        return Some(Command::Sign { document });
+    let (bill, exporter) = (bill(alloc, 1)?, "ALPH/EXPORT");
+    match step {
+        0 => Some(("ALPH/CARRIER", signing(alloc, 1)?)),
+        1 => Some(("ALPH/CARRIER", acting(bill, Kind::Issue, exporter)?)),
+        2 => Some((exporter, acting(bill, Kind::Endorse, "ALPH/BANK")?)),
+        _ => Some((exporter, acting(bill, Kind::Transfer, "ALPH/BANK")?)),
     }
-    let text = format!(in alloc;
-        "{{\"bill\":\"{BILL}\",\"do\":\"{word}\",\"recipient\":\"{to}\"}}"
-    ).ok()?;
-    let Ok(json) = read(alloc, text.as_bytes()) else {
-        return None;
-    };
-    let Ok(command) = Command::read(alloc, &json) else {
-        return None;
-    };
-    match command {
-        Command::Act {
-            bill,
-            kind,
-            recipient,
-        } => Some(Command::Act {
-            bill,
-            kind,
-            recipient,
-        }),
-        _ => None,
-    }
-}
-
-fn party(text: &str) -> Option<Party>
-    ensures { IfSome result (λ party. IsParty party) }
-{
-    Party::from_text(text.as_bytes())
 }
 
 fn moment() -> Option<Moment>
@@ -151,10 +87,9 @@ fn moment() -> Option<Moment>
 fn step(alloc: Global, number: usize) -> Option<(Moment, Request)>
     ensures { IfSome result (λ r. MayBeServed r.0 (request_view r.1)) }
 {
-    let (by, word, to) = *STEPS.get(number)?;
+    let (by, command) = command(alloc, number)?;
     let now = moment()?;
-    let party = party(by)?;
-    let command = command(alloc, word, to)?;
+    let party = Party::from_text(by.as_bytes())?;
     Some((now, Request::Command { party, command }))
 }
 

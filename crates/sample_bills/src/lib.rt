@@ -1,0 +1,12 @@
+//! Bills of one carrier by their numbers, and what parties ask about them: for tests and trials.
+#![tactic(auto)]
+
+mod bills;
+mod commands;
+mod parties;
+#[cfg(test)]
+mod tests;
+
+pub use bills::{bill, document};
+pub use commands::{acting, attaching, signing};
+pub use parties::roster;
