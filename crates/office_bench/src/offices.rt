@@ -1,0 +1,63 @@
+//! Two platforms' offices.
+ghost use Rattle.std.specs.Prelude.{◌≡◌, All, IfSome, vec_len};
+ghost use Rattle.platform_office.specs.Office.{IsPassOf};
+ghost use Rattle.platform_office.specs.Opening.{NothingIsPending};
+
+use crate::disks::Racks;
+use disk_model::Disk;
+use ebl_base::PlatformCode;
+use platform_office::{Office, Pass};
+use sample_bills::roster;
+use std::alloc::Global;
+use test_signer::KeyedRing;
+
+/// The offices of ALPH and BETA.
+#[derive(Drop)]
+pub(crate) struct Offices<D: Disk> {
+    pub(crate) alph: Office<D, KeyedRing>,
+    pub(crate) beta: Office<D, KeyedRing>,
+}
+
+/// A pass of each.
+#[derive(Drop)]
+pub(crate) struct Passes<D: Disk> {
+    pub(crate) alph: Pass<D, KeyedRing>,
+    pub(crate) beta: Pass<D, KeyedRing>,
+}
+
+// The office of one platform.
+fn open_one<D: Disk + Drop>(
+    alloc: Global,
+    code: &[u8],
+    racks: Racks<D>,
+) -> Option<(Office<D, KeyedRing>, Pass<D, KeyedRing>)>
+    requires count { vec_len racks ≡ 16 }
+    requires nothing_pending { All (NothingIsPending D.tells D.seen D.may_leave) racks.items }
+    ensures { IfSome result (λ r. IsPassOf r.0 r.1) }
+{
+    let me = PlatformCode::try_new(code)?;
+    let roster = roster(alloc)?;
+    Office::open(alloc, me, roster, racks).ok()
+}
+
+/// Opens both. On a disk that isn't blank nothing may be pending.
+pub(crate) fn open<D: Disk + Drop>(
+    alloc: Global,
+    alph: Racks<D>,
+    beta: Racks<D>,
+) -> Option<(Offices<D>, Passes<D>)>
+    requires counts { (vec_len alph ≡ 16) × (vec_len beta ≡ 16) }
+    requires nothing_pending { All (NothingIsPending D.tells D.seen D.may_leave) alph.items
+        × All (NothingIsPending D.tells D.seen D.may_leave) beta.items }
+    ensures alph { IfSome result (λ r. IsPassOf r.0.alph r.1.alph) }
+    ensures beta { IfSome result (λ r. IsPassOf r.0.beta r.1.beta) }
+{
+    let (alph, alph_pass) = open_one(alloc, b"ALPH", alph)?;
+    let (beta, beta_pass) = open_one(alloc, b"BETA", beta)?;
+    let offices = Offices { alph, beta };
+    let passes = Passes {
+        alph: alph_pass,
+        beta: beta_pass,
+    };
+    Some((offices, passes))
+}

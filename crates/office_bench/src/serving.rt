@@ -1,0 +1,227 @@
+//! One thread's bills.
+ghost use Rattle.std.specs.Prelude.{◌≡◌, false};
+ghost use Rattle.document_checksum.specs.Digest.{IsChecksum};
+ghost use Rattle.holder_commands.specs.Command.{command_view};
+ghost use Rattle.holder_commands.specs.Form.{IsCommand};
+ghost use Rattle.platform_office.specs.Office.{IsPassOf};
+ghost use Rattle.platform_office.specs.Served.{MayBeServed};
+ghost use Rattle.platform_requests.specs.Request.{request_view};
+ghost use Rattle.transfer_judge.specs.PlannedTexts.{Nests};
+ghost use Rattle.ebl_base.specs.Moment.{IsMoment};
+
+use crate::offices::{Offices, Passes};
+use disk_model::Disk;
+use ebl_base::{ByteList, Checksum, Kind, Moment, Party};
+use holder_commands::Command;
+use platform_office::{Office, Pass};
+use platform_requests::{Message, Outcome, Reply, Request};
+use sample_bills::{acting, bill, signing};
+use std::alloc::Global;
+use std::sync::Wait;
+use test_signer::KeyedRing;
+
+/// How many requests were done, how many met a fault of the disk, and how many had another reply.
+#[derive(Clone, Copy)]
+pub(crate) struct Replies {
+    pub(crate) done: u64,
+    pub(crate) disk: u64,
+    pub(crate) others: u64,
+}
+
+impl Replies {
+    pub(crate) fn none() -> Replies {
+        Replies {
+            done: 0,
+            disk: 0,
+            others: 0,
+        }
+    }
+
+    fn count(&mut self, reply: &Reply) {
+        match reply {
+            Reply::Done(_) | Reply::Answer { .. } => self.done = self.done.wrapping_add(1),
+            Reply::Disk => self.disk = self.disk.wrapping_add(1),
+            _ => self.others = self.others.wrapping_add(1),
+        }
+    }
+
+    pub(crate) fn plus(self, other: Replies) -> Replies {
+        Replies {
+            done: self.done.wrapping_add(other.done),
+            disk: self.disk.wrapping_add(other.disk),
+            others: self.others.wrapping_add(other.others),
+        }
+    }
+}
+
+/// What is done with bills: ALPH signs and issues them and hands them over to BETA, or it sends the start again and
+/// settles with BETA's answer.
+#[derive(Clone, Copy)]
+pub(crate) enum Phase {
+    HandOver,
+    Settle,
+}
+
+/// The numbers of a thread's bills: the first one, and how many there are.
+#[derive(Clone, Copy)]
+pub(crate) struct Bills {
+    pub(crate) first: u32,
+    pub(crate) count: u32,
+}
+
+// What comes of a request at an office, counted.
+fn ask<D: Disk + Drop, R: Wait>(
+    rt: &R,
+    alloc: Global,
+    office: &Office<D, KeyedRing>,
+    pass: &mut Pass<D, KeyedRing>,
+    request: Request,
+    replies: &mut Replies,
+) -> Option<Outcome>
+    requires of { IsPassOf office.now pass.old }
+    requires may { (now : Moment) → IsMoment now → MayBeServed now (request_view request) }
+    ensures { IsPassOf office.now pass.new }
+{
+    let now = Moment::try_new(1000)?;
+    let served = office.take(rt, alloc, pass, now, request).ok()?;
+    replies.count(&served.outcome.reply);
+    Some(served.outcome)
+}
+
+// A party of ALPH asks it for this.
+fn command<D: Disk + Drop, R: Wait>(
+    rt: &R,
+    alloc: Global,
+    offices: &Offices<D>,
+    passes: &mut Passes<D>,
+    by: &str,
+    command: Command,
+    replies: &mut Replies,
+) -> Option<()>
+    requires alph { IsPassOf offices.now.alph passes.old.alph }
+    requires beta { IsPassOf offices.now.beta passes.old.beta }
+    requires form { IsCommand (command_view command) }
+    requires nests { Nests (command_view command) }
+    ensures alph { IsPassOf offices.now.alph passes.new.alph }
+    ensures beta { IsPassOf offices.now.beta passes.new.beta }
+{
+    let party = Party::from_text(by.as_bytes())?;
+    let request = Request::Command { party, command };
+    ask(rt, alloc, &offices.alph, &mut passes.alph, request, replies)?;
+    Some(())
+}
+
+// The bill is signed, issued, and handed over to BETA.
+fn hand_over<D: Disk + Drop, R: Wait>(
+    rt: &R,
+    alloc: Global,
+    offices: &Offices<D>,
+    passes: &mut Passes<D>,
+    number: u32,
+    replies: &mut Replies,
+) -> Option<()>
+    requires alph { IsPassOf offices.now.alph passes.old.alph }
+    requires beta { IsPassOf offices.now.beta passes.old.beta }
+    ensures alph { IsPassOf offices.now.alph passes.new.alph }
+    ensures beta { IsPassOf offices.now.beta passes.new.beta }
+{
+    let bill = bill(alloc, number)?;
+    let signing = signing(alloc, number)?;
+    command(rt, alloc, offices, passes, "ALPH/CARRIER", signing, replies)?;
+    let issue = acting(bill, Kind::Issue, "ALPH/EXPORT")?;
+    command(rt, alloc, offices, passes, "ALPH/CARRIER", issue, replies)?;
+    let transfer = acting(bill, Kind::Transfer, "BETA/IMPORT")?;
+    command(rt, alloc, offices, passes, "ALPH/EXPORT", transfer, replies)
+}
+
+// The body of the start in an outcome.
+fn body_in(outcome: Outcome) -> Option<ByteList> {
+    let Outcome { messages, .. } = outcome;
+    let mut messages = messages.into_vec();
+    let Some(Message::Start { body, .. }) = messages.pop() else {
+        return None;
+    };
+    Some(body)
+}
+
+// The signed answer in an outcome.
+fn answer_in(outcome: Outcome) -> Option<ByteList> {
+    let Outcome { reply, .. } = outcome;
+    match reply {
+        Reply::Answer { text, .. } => Some(text.0),
+        _ => None,
+    }
+}
+
+// ALPH sends the bill's start again, BETA takes it, and ALPH its answer. Where there is none, no more is asked.
+fn settle<D: Disk + Drop, R: Wait>(
+    rt: &R,
+    alloc: Global,
+    offices: &Offices<D>,
+    passes: &mut Passes<D>,
+    bill: Checksum,
+    replies: &mut Replies,
+) -> Option<()>
+    requires alph { IsPassOf offices.now.alph passes.old.alph }
+    requires beta { IsPassOf offices.now.beta passes.old.beta }
+    ensures alph { IsPassOf offices.now.alph passes.new.alph }
+    ensures beta { IsPassOf offices.now.beta passes.new.beta }
+{
+    let sent = ask(
+        rt,
+        alloc,
+        &offices.alph,
+        &mut passes.alph,
+        Request::Resend { bill },
+        replies,
+    )?;
+    let Some(body) = body_in(sent) else {
+        return Some(());
+    };
+    let taken = ask(
+        rt,
+        alloc,
+        &offices.beta,
+        &mut passes.beta,
+        Request::Start { body },
+        replies,
+    )?;
+    let Some(bytes) = answer_in(taken) else {
+        return Some(());
+    };
+    let request = Request::StartReply { bill, bytes };
+    ask(rt, alloc, &offices.alph, &mut passes.alph, request, replies)?;
+    Some(())
+}
+
+/// One thread's bills, one after the other. None comes if memory runs out.
+pub(crate) fn serve<D: Disk + Drop, R: Wait>(
+    rt: &R,
+    alloc: Global,
+    offices: &Offices<D>,
+    passes: &mut Passes<D>,
+    bills: Bills,
+    phase: Phase,
+) -> Option<Replies>
+    requires alph { IsPassOf offices.now.alph passes.old.alph }
+    requires beta { IsPassOf offices.now.beta passes.old.beta }
+    ensures alph { IsPassOf offices.now.alph passes.new.alph }
+    ensures beta { IsPassOf offices.now.beta passes.new.beta }
+{
+    let mut replies = Replies::none();
+    for place in 0..bills.count {
+        let number = bills.first.wrapping_add(place);
+        match phase {
+            Phase::HandOver => hand_over(rt, alloc, offices, passes, number, &mut replies)?,
+            Phase::Settle => settle(
+                rt,
+                alloc,
+                offices,
+                passes,
+                bill(alloc, number)?,
+                &mut replies,
+            )?,
+        }
+    }
+    Some(replies)
+}
