@@ -2,10 +2,11 @@
 //! and bench/takes.py measures.
 #![tactic(auto)]
 
-mod asking;
+mod failing;
 mod serving;
 
 use disk_model::{Disk, FileDisk};
+use failing::{scene, starts};
 use serving::{fill, serve, start};
 use std::process::ExitCode;
 use std::{env, io};
@@ -14,7 +15,9 @@ const USAGE: &str = "usage:
   shard_trial serve FOLDER FILE COUNT    takes COUNT requests, and writes after each how many frames there are, and the
                                          reply: bills are signed, issued and sent to another platform, in turn
   shard_trial fill FOLDER FILE           attaches documents of 2 MB until the journal is full
-Each opens the journal first, and writes how many frames it has.";
+  shard_trial fail CALL                  a start comes three times to a shard on a disk in memory of which this call
+                                         fails: writes the replies
+The first two open the journal first, and write how many frames it has.";
 
 fn main(rt: HostRuntime) -> ExitCode {
     match run(&rt) {
@@ -42,6 +45,14 @@ fn run(rt: &HostRuntime) -> Option<bool> {
             let mut shard = start(rt.alloc(), disk(rt, folder.as_str(), file.as_str())?)?;
             fill(rt.alloc(), &mut shard)?;
             println!(rt; "opened {}", shard.diary().as_slice().len()).ok()?;
+            Some(true)
+        }
+        [word, call] if word.as_str() == "fail" => {
+            let (mut beta, body) = scene(rt.alloc(), call.as_str().parse::<u64>().ok()?)?;
+            for _ in 0..3 {
+                let reply = starts(rt.alloc(), &mut beta, &body)?;
+                println!(rt; "{}", reply.as_str()).ok()?;
+            }
             Some(true)
         }
         _ => Some(false),

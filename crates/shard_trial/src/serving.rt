@@ -1,16 +1,14 @@
 //! What the shard is asked, by how many frames it has.
-ghost use Rattle.std.specs.Prelude.{◌≡◌, [], false};
-ghost use Rattle.ebl_base.specs.Party.{IsParty};
 ghost use Rattle.holder_commands.specs.Command.{command_view};
 ghost use Rattle.holder_commands.specs.Form.{IsCommand};
 ghost use Rattle.transfer_judge.specs.PlannedTexts.{Nests};
 
-use crate::asking::{acting, attaching, bill, party, roster, signing};
-use disk_model::FileDisk;
-use ebl_base::{ByteList, MAX_DOCUMENT_SIZE, Moment, Party, PlatformCode};
+use disk_model::{Disk, FileDisk};
+use ebl_base::{ByteList, Kind, MAX_DOCUMENT_SIZE, Moment, Party, PlatformCode};
 use holder_commands::Command;
 use journaled_shard::JournaledShard;
 use platform_requests::{Outcome, Reply, Request};
+use sample_bills::{acting, attaching, bill, roster, signing};
 use std::alloc::Global;
 use test_signer::KeyedRing;
 
@@ -42,43 +40,44 @@ fn next(alloc: Global, shard: &mut Shard) -> Option<Reply> {
         0 => ("ALPH/CARRIER", signing(alloc, number)?),
         1 => (
             "ALPH/CARRIER",
-            acting(alloc, bill(alloc, number)?, "ISSUE", "ALPH/EXPORT")?,
+            acting(bill(alloc, number)?, Kind::Issue, "ALPH/EXPORT")?,
         ),
         _ => (
             "ALPH/EXPORT",
-            acting(alloc, bill(alloc, number)?, "TRANSFER", "BETA/IMPORT")?,
+            acting(bill(alloc, number)?, Kind::Transfer, "BETA/IMPORT")?,
         ),
     };
-    ask(alloc, shard, party(by)?, command)
+    let Outcome { reply, .. } = ask(alloc, shard, by, command)?;
+    Some(reply)
 }
 
-// The reply to a party's command.
-fn ask(alloc: Global, shard: &mut Shard, party: Party, command: Command) -> Option<Reply>
-    requires by { IsParty party }
+/// What comes of a party's command.
+pub(crate) fn ask<D: Disk>(
+    alloc: Global,
+    shard: &mut JournaledShard<D, KeyedRing>,
+    by: &str,
+    command: Command,
+) -> Option<Outcome>
     requires form { IsCommand (command_view command) }
     requires nests { Nests (command_view command) }
 {
     if !shard.has_attempts(&command) {
         return None;
     }
+    let party = Party::from_text(by.as_bytes())?;
     let now = Moment::try_new(1000)?;
-    let Outcome { reply, .. } = shard.take(alloc, now, Request::Command { party, command });
-    Some(reply)
+    Some(shard.take(alloc, now, Request::Command { party, command }))
 }
 
 /// Attaches documents of the greatest size, two to a bill, until the journal is full.
 pub(crate) fn fill(alloc: Global, shard: &mut Shard) -> Option<()> {
     for number in 0..8 {
-        ask(
-            alloc,
-            shard,
-            party("ALPH/CARRIER")?,
-            signing(alloc, number)?,
-        )?;
+        ask(alloc, shard, "ALPH/CARRIER", signing(alloc, number)?)?;
         for first in 0..2 {
             let bytes = document(alloc, first)?;
             let command = attaching(alloc, bill(alloc, number)?, bytes.as_slice())?;
-            match ask(alloc, shard, party("ALPH/CARRIER")?, command)? {
+            let Outcome { reply, .. } = ask(alloc, shard, "ALPH/CARRIER", command)?;
+            match reply {
                 Reply::Done(_) => {}
                 Reply::Full => return Some(()),
                 _ => return None,
