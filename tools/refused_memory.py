@@ -1,12 +1,17 @@
 #!/usr/bin/env python3
-"""Runs the built program on scripts of examples/ with one allocation refused a run, each in turn.
+"""Runs the built program on scripts of examples/, and a shard whose disk fails, with one allocation refused a run, each
+in turn.
 
-    tools/refused_memory.py [PROGRAM]   another program instead of the proved one
+    tools/refused_memory.py [PROGRAM [TRIAL]]   other programs instead of the proved ones, ebl_cli and shard_trial
 
-Each such run ends in one of these ways. It is out of memory (12), with nothing on standard output but a first part of
-the answers. Or the allocation was one of a disk, which is in memory here: then the disk can't be opened (8), and
-nothing is written, or one event is answered DISK, and those before it as ever. Or the run goes as with all memory,
+Each run of a script ends in one of these ways. It is out of memory (12), with nothing on standard output but a first
+part of the answers. Or the allocation was one of a disk, which is in memory here: then the disk can't be opened (8),
+and nothing is written, or one event is answered DISK, and those before it as ever. Or the run goes as with all memory,
 where the allocation was another's than the program's own.
+
+At the shard the gate of a Taken frame fails, with its byte written: a start that comes three times is answered DISK,
+DUPE, DUPE. With an allocation refused, one answer more is NO_MEMORY, or DISK where the allocation was the disk's, and
+the others are these in their order; or the program ends before it has them all (1).
 
 Its last line is 'N runs, M failed', and it ends with status 1 where something failed. It wants gcc.
 """
@@ -21,6 +26,10 @@ from program import PROGRAM, TOP
 
 EXAMPLES = os.path.join(TOP, "examples")
 SCRIPTS = ("first_run", "uploaded_documents", "restart_while_parting")
+TRIAL = os.path.join(TOP, "crates", "shard_trial", "out", "shard_trial")
+# A frame's gate: the third call of an append, behind the three of the opening of a blank disk.
+GATE = "5"
+AT_THE_GATE = [b"DISK", b"DUPE", b"DUPE"]
 NO_MEMORY = (12, b"ebl: no memory\n")
 NOT_OPENED = re.compile(rb"ebl: disk [0-9]+ cannot be opened\n")
 
@@ -38,15 +47,15 @@ def library(folder):
     return made
 
 
-def run(program, script, **told):
-    ended = subprocess.run([program, "drive"], input=script, capture_output=True, env={**os.environ, **told})
+def run(words, script, **told):
+    ended = subprocess.run(words, input=script, capture_output=True, env={**os.environ, **told})
     return ended.returncode, ended.stdout, ended.stderr
 
 
-def allocations(program, script, loaded, folder):
+def allocations(words, script, loaded, folder):
     """How many allocations the whole run asks for."""
     path = os.path.join(folder, "asked")
-    run(program, script, LD_PRELOAD=loaded, ASKED=path)
+    run(words, script, LD_PRELOAD=loaded, ASKED=path)
     with open(path) as file:
         return int(file.read())
 
@@ -68,25 +77,50 @@ def is_right(ended, answers):
     return (code, err) == NO_MEMORY and answers.startswith(out)
 
 
-def refusals(program, name, folder):
-    """(the number of the allocation that was refused, the run ended as it should) of each run of a script."""
-    loaded, script, answers = os.path.join(folder, "refuse.so"), read(name + ".jsonl"), read(name + ".out")
-    count = allocations(program, script, loaded, folder)
+def is_right_at_the_gate(ended):
+    code, out, _ = ended
+    told = out.split()
+    if code == 1:
+        return told == AT_THE_GATE[:len(told)] or is_one_more(told)
+    return code == 0 and (told == AT_THE_GATE or len(told) == 3 and is_one_more(told))
+
+
+def is_one_more(told):
+    """Whether one answer is of the refused memory, and the others are the first ones in their order."""
+    left = [told[:at] + told[at + 1:] for at, word in enumerate(told) if word in (b"NO_MEMORY", b"DISK")]
+    return any(rest == AT_THE_GATE[:len(rest)] for rest in left)
+
+
+def refusals(words, script, is_right, folder):
+    """(the number of the allocation that was refused, the run ended as it should) of each run."""
+    loaded = os.path.join(folder, "refuse.so")
+    count = allocations(words, script, loaded, folder)
     with concurrent.futures.ThreadPoolExecutor(len(os.sched_getaffinity(0))) as pool:
-        ends = pool.map(lambda at: run(program, script, LD_PRELOAD=loaded, REFUSE=str(at)), range(1, count + 1))
+        ends = pool.map(lambda at: run(words, script, LD_PRELOAD=loaded, REFUSE=str(at)), range(1, count + 1))
         for at, ended in enumerate(ends, 1):
-            yield at, is_right(ended, answers)
+            yield at, is_right(ended)
+
+
+def cases(program, trial):
+    """(name, words, input, whether an end is right) of each run that goes well with all memory."""
+    for name in SCRIPTS:
+        answers = read(name + ".out")
+        yield name, [program, "drive"], read(name + ".jsonl"), lambda ended, answers=answers: is_right(ended, answers)
+    yield "a gate that fails", [trial, "fail", GATE], b"", is_right_at_the_gate
 
 
 def main():
-    program = sys.argv[1] if len(sys.argv) > 1 else PROGRAM
-    if not os.access(program, os.X_OK):
-        sys.exit("refused_memory: no program at %s: make program builds it" % program)
+    program, trial = (sys.argv[1:] + [PROGRAM, TRIAL][len(sys.argv) - 1:])[:2]
+    for one, how in ((program, "make program builds it"), (trial, "rt run in crates/shard_trial builds it")):
+        if not os.access(one, os.X_OK):
+            sys.exit("refused_memory: no program at %s: %s" % (one, how))
     runs, failed = 0, 0
     with tempfile.TemporaryDirectory() as folder:
         library(folder)
-        for name in SCRIPTS:
-            for at, right in refusals(program, name, folder):
+        for name, words, script, right_end in cases(program, trial):
+            if not right_end(run(words, script)):
+                sys.exit("%s: it goes wrong with all memory" % name)
+            for at, right in refusals(words, script, right_end, folder):
                 runs += 1
                 if not right:
                     failed += 1
