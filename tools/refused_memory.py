@@ -10,8 +10,9 @@ and nothing is written, or one event is answered DISK, and those before it as ev
 where the allocation was another's than the program's own.
 
 At the shard the gate of a Taken frame fails, with its byte written: a start that comes three times is answered DISK,
-DUPE, DUPE. With an allocation refused, one answer more is NO_MEMORY, or DISK where the allocation was the disk's, and
-the others are these in their order; or the program ends before it has them all (1).
+DUPE, DUPE. With an allocation refused, at most one answer more is NO_MEMORY, or DISK where the allocation was the
+disk's. The others are RECE at most once, where the refusal came before the gate, and DUPE behind it; or the program
+ends before it has them all (1).
 
 Its last line is 'N runs, M failed', and it ends with status 1 where something failed. It wants gcc.
 """
@@ -29,7 +30,7 @@ SCRIPTS = ("first_run", "uploaded_documents", "restart_while_parting")
 TRIAL = os.path.join(TOP, "crates", "shard_trial", "out", "shard_trial")
 # A frame's gate: the third call of an append, behind the three of the opening of a blank disk.
 GATE = "5"
-AT_THE_GATE = [b"DISK", b"DUPE", b"DUPE"]
+AT_THE_GATE = b"DISK\nDUPE\nDUPE\n"
 NO_MEMORY = (12, b"ebl: no memory\n")
 NOT_OPENED = re.compile(rb"ebl: disk [0-9]+ cannot be opened\n")
 
@@ -80,15 +81,9 @@ def is_right(ended, answers):
 def is_right_at_the_gate(ended):
     code, out, _ = ended
     told = out.split()
-    if code == 1:
-        return told == AT_THE_GATE[:len(told)] or is_one_more(told)
-    return code == 0 and (told == AT_THE_GATE or len(told) == 3 and is_one_more(told))
-
-
-def is_one_more(told):
-    """Whether one answer is of the refused memory, and the others are the first ones in their order."""
-    left = [told[:at] + told[at + 1:] for at, word in enumerate(told) if word in (b"NO_MEMORY", b"DISK")]
-    return any(rest == AT_THE_GATE[:len(rest)] for rest in left)
+    taken = [word for word in told if word not in (b"DISK", b"NO_MEMORY")]
+    once = taken[:1] in ([], [b"RECE"], [b"DUPE"]) and all(word == b"DUPE" for word in taken[1:])
+    return once and len(told) - len(taken) <= 2 and code == (0 if len(told) == 3 else 1)
 
 
 def refusals(words, script, is_right, folder):
@@ -102,11 +97,12 @@ def refusals(words, script, is_right, folder):
 
 
 def cases(program, trial):
-    """(name, words, input, whether an end is right) of each run that goes well with all memory."""
+    """(name, words, input, output with all memory, whether an end is right) of each run."""
     for name in SCRIPTS:
         answers = read(name + ".out")
-        yield name, [program, "drive"], read(name + ".jsonl"), lambda ended, answers=answers: is_right(ended, answers)
-    yield "a gate that fails", [trial, "fail", GATE], b"", is_right_at_the_gate
+        yield (name, [program, "drive"], read(name + ".jsonl"), answers,
+               lambda ended, answers=answers: is_right(ended, answers))
+    yield "a gate that fails", [trial, "fail", GATE], b"", AT_THE_GATE, is_right_at_the_gate
 
 
 def main():
@@ -117,8 +113,8 @@ def main():
     runs, failed = 0, 0
     with tempfile.TemporaryDirectory() as folder:
         library(folder)
-        for name, words, script, right_end in cases(program, trial):
-            if not right_end(run(words, script)):
+        for name, words, script, answers, right_end in cases(program, trial):
+            if run(words, script)[:2] != (0, answers):
                 sys.exit("%s: it goes wrong with all memory" % name)
             for at, right in refusals(words, script, right_end, folder):
                 runs += 1
