@@ -1,8 +1,8 @@
 //! What no contract says: each failing device call, and tables of journals made by hand.
-ghost use Rattle.std.specs.Prelude.{◌≡◌, ◌≤◌, false, length, IfOk};
+ghost use Rattle.std.specs.Prelude.{◌≤◌, length};
 
 use bill_journal::{AppendFault, Framed, Journal, OpenFault};
-use disk_model::{Failures, FileDisk, MemoryDisk};
+use disk_model::{Disk, Failures, FileDisk, MemoryDisk};
 use ebl_base::{ByteList, CallList, Copied, NoMemory};
 use std::alloc::Global;
 use std::fs;
@@ -44,24 +44,55 @@ fn answer(alloc: Global, bytes: &[u8]) -> Result<Found, NoMemory> {
     }
 }
 
+// Disks, and what they are opened as.
+const OPENED: [(&[u8], Found); 5] = [
+    (b"", Found::Frames(0)),
+    (b"\x01\0\xff", Found::Frames(0)),
+    (
+        b"\x01\x01\0\0\0\x09\x05",
+        Found::Fault(OpenFault::Damaged(1)),
+    ),
+    (b"\x02\0", Found::Fault(OpenFault::Damaged(0))),
+    (b"\x01", Found::Fault(OpenFault::Damaged(1))),
+];
+
 #[test]
 fn disks_that_are_opened(rt: HostRuntime) -> Result<(), Fail> {
-    let alloc = rt.alloc();
-    assert_eq!(rt; answer(alloc, b"")?, Found::Frames(0));
-    assert_eq!(rt; answer(alloc, b"\x01\0\xff")?, Found::Frames(0));
-    assert_eq!(rt;
-        answer(alloc, b"\x01\x01\0\0\0\x09\x05")?,
-        Found::Fault(OpenFault::Damaged(1))
-    );
-    assert_eq!(rt;
-        answer(alloc, b"\x02\0")?,
-        Found::Fault(OpenFault::Damaged(0))
-    );
-    assert_eq!(rt;
-        answer(alloc, b"\x01")?,
-        Found::Fault(OpenFault::Damaged(1))
-    );
+    for &(bytes, found) in &OPENED {
+        assert_eq!(rt; answer(rt.alloc(), bytes)?, found);
+    }
     Ok(())
+}
+
+// The journal on a disk of which calls fail.
+fn opened(alloc: Global, fails: &[u64], done: &[u64]) -> Result<Journal<MemoryDisk>, Fail> {
+    match Journal::open(alloc, disk_of(alloc, b"\x01\0", fails, done)?) {
+        Ok((journal, _)) => Ok(journal),
+        Err(_) => Err(Fail::new("the journal was refused")),
+    }
+}
+
+// What an append comes to. Steps of a test are calls of their own, since a caller carries on what a contract says.
+fn append<D: Disk>(
+    alloc: Global,
+    journal: &mut Journal<D>,
+    content: &[u8],
+) -> Result<Option<AppendFault>, Fail>
+    requires { length content.now ≤ 16777216 }
+{
+    let frame = Framed::new(alloc, content)?;
+    if journal.is_loose() {
+        return Err(Fail::new("the journal is to be read again"));
+    }
+    Ok(journal.append(&frame, false).err())
+}
+
+// What a journal is read again as.
+fn read_again(alloc: Global, journal: &mut Journal<MemoryDisk>) -> Found {
+    match journal.reread(alloc) {
+        Ok(frames) => Found::Frames(frames.len()),
+        Err(fault) => Found::Fault(fault),
+    }
 }
 
 #[test]
@@ -198,7 +229,21 @@ fn every_change_of_a_byte_of_three_frames(rt: HostRuntime) -> Result<(), Fail> {
     Ok(())
 }
 
-// What an append and the next reread find where a call of the disk fails. The first two calls are those of `open`.
+// Whether an append fails, whether the journal is to be read again then, what it is read as, and whether it is to be
+// read again after that. The first two calls are those of `open`.
+fn append_and_reread(
+    alloc: Global,
+    fails: &[u64],
+    done: &[u64],
+) -> Result<(bool, bool, Found, bool), Fail> {
+    let mut journal = opened(alloc, fails, done)?;
+    let is_failed = append(alloc, &mut journal, b"content")?.is_some();
+    let is_loose = journal.is_loose();
+    let found = read_again(alloc, &mut journal);
+    Ok((is_failed, is_loose, found, journal.is_loose()))
+}
+
+// Where these calls fail, the append does, and the next reread finds this.
 fn failing_row(
     rt: &impl Abort,
     alloc: Global,
@@ -206,19 +251,12 @@ fn failing_row(
     done: &[u64],
     after: Found,
 ) -> Result<(), Fail> {
-    let frame = Framed::new(alloc, b"content")?;
-    let (mut journal, _) = match Journal::open(alloc, disk_of(alloc, b"\x01\0", fails, done)?) {
-        Ok(opened) => opened,
-        Err(_) => return Err(Fail::new("the journal was refused")),
-    };
-    let appended = journal.append(&frame, false);
-    assert_eq!(rt; appended.is_err(), !fails.is_empty());
-    assert_eq!(rt; journal.is_loose(), !fails.is_empty());
-    match journal.reread(alloc) {
-        Ok(frames) => assert_eq!(rt; Found::Frames(frames.len()), after),
-        Err(fault) => assert_eq!(rt; Found::Fault(fault), after),
-    }
-    assert_eq!(rt; journal.is_loose(), after == Found::Fault(OpenFault::Disk));
+    let is_failed = !fails.is_empty();
+    let is_unread = after == Found::Fault(OpenFault::Disk);
+    assert_eq!(rt;
+        append_and_reread(alloc, fails, done)?,
+        (is_failed, is_failed, after, is_unread)
+    );
     Ok(())
 }
 
@@ -246,30 +284,15 @@ fn each_device_call_of_a_reread_fails(rt: HostRuntime) -> Result<(), Fail> {
 #[test]
 fn an_append_after_a_reread(rt: HostRuntime) -> Result<(), Fail> {
     let alloc = rt.alloc();
-    let disk = disk_of(alloc, b"\x01\0", &[4], &[4])?;
-    let (mut journal, _) = match Journal::open(alloc, disk) {
-        Ok(opened) => opened,
-        Err(_) => return Err(Fail::new("the journal was refused")),
-    };
-    assert_eq!(rt;
-        journal.append(&Framed::new(alloc, b"a")?, false),
-        Err(AppendFault::Disk)
-    );
-    match journal.reread(alloc) {
-        Ok(frames) => {
-            let frames = frames.copy(alloc)?;
-            assert_eq!(rt; frames.len(), 1);
-            assert_eq!(rt; journal.append(&Framed::new(alloc, b"bc")?, false), Ok(()));
-        }
-        Err(_) => return Err(Fail::new("the reread was refused")),
-    }
+    let mut journal = opened(alloc, &[4], &[4])?;
+    assert_eq!(rt; append(alloc, &mut journal, b"a")?, Some(AppendFault::Disk));
+    assert_eq!(rt; read_again(alloc, &mut journal), Found::Frames(1));
+    assert_eq!(rt; append(alloc, &mut journal, b"bc")?, None);
     assert_eq!(rt; journal.close().bytes(), TWO.as_slice());
     Ok(())
 }
 
-fn open_file(rt: &HostRuntime, folder: &str, path: &str) -> Result<Journal<FileDisk>, Fail>
-    ensures { IfOk result (λ journal. journal.loose ≡ false) }
-{
+fn open_file(rt: &HostRuntime, folder: &str, path: &str) -> Result<Journal<FileDisk>, Fail> {
     match Journal::open(rt.alloc(), FileDisk::open(rt, folder, path)?) {
         Ok((journal, _)) => Ok(journal),
         Err(_) => Err(Fail::new("the file was refused")),
@@ -280,11 +303,10 @@ fn open_file(rt: &HostRuntime, folder: &str, path: &str) -> Result<Journal<FileD
 fn append_to_file(rt: &HostRuntime, folder: &str, path: &str, content: &[u8]) -> Result<bool, Fail>
     requires { length content.now ≤ 16777216 }
 {
-    let frame = Framed::new(rt.alloc(), content)?;
     let mut journal = open_file(rt, folder, path)?;
-    let done = journal.append(&frame, false).is_ok();
+    let fault = append(rt.alloc(), &mut journal, content)?;
     drop(journal.close());
-    Ok(done)
+    Ok(fault.is_none())
 }
 
 #[test]
@@ -320,16 +342,20 @@ fn a_file_that_may_only_be_read(rt: HostRuntime) -> Result<(), Fail> {
     let _ = fs::remove_dir_all(&rt, folder);
     fs::create_dir(&rt, folder)?;
     fs::write(&rt, path, &THREE)?;
-    let frame = Framed::new(rt.alloc(), b"d")?;
-    match Journal::open(rt.alloc(), FileDisk::new(File::open(&rt, path)?)) {
+    tell_only_read(&rt, rt.alloc(), FileDisk::new(File::open(&rt, path)?))?;
+    fs::remove_dir_all(&rt, folder)?;
+    Ok(())
+}
+
+// The journal of a file that is opened to be read has three frames, and gets none.
+fn tell_only_read<R: Abort>(rt: &R, alloc: Global, disk: FileDisk) -> Result<(), Fail> {
+    match Journal::open(alloc, disk) {
         Ok((mut journal, frames)) => {
             assert_eq!(rt; frames.len(), 3);
-            assert_eq!(rt; journal.append(&frame, false), Err(AppendFault::Disk));
-            assert_eq!(rt; journal.is_loose(), true);
+            assert_eq!(rt; append(alloc, &mut journal, b"d")?, Some(AppendFault::Disk));
             assert_eq!(rt; journal.close().faults(), 1);
         }
         Err(_) => return Err(Fail::new("the file was refused")),
     }
-    fs::remove_dir_all(&rt, folder)?;
     Ok(())
 }
