@@ -4,7 +4,9 @@ use bill_diary::{
     BillPlace, Diary, Frame, Record, count_parted, first_bytes, is_taken, last_body, last_declined,
     last_parted_record, last_with_reference, may_act, pieces, place, signed_text, title_at,
 };
-use ebl_base::{ByteList, Chain, ChainLink, Checksum, Copied, Items, NoMemory, PlaceTag};
+use ebl_base::{
+    ByteList, Chain, ChainLink, Checksum, Copied, Items, NoMemory, PlaceTag, Reference,
+};
 use envelope_manifest::Piece;
 use std::alloc::Global;
 use std::process::Abort;
@@ -49,7 +51,8 @@ pub(crate) fn number_of(link: Option<&ChainLink>) -> u8 {
     }
 }
 
-// What the register and the diary say of a bill is the same.
+// What the register and the diary say of a bill is the same. Each part is compared in a call of its own, since a caller
+// carries on what every contract says.
 pub(crate) fn assert_same<R: Abort>(
     rt: &R,
     alloc: Global,
@@ -57,73 +60,63 @@ pub(crate) fn assert_same<R: Abort>(
     bill: Checksum,
 ) -> Result<(), Fail> {
     let Pair { diary, register } = pair;
-    let frames = diary.len();
     let stands = place(alloc, diary, bill)?;
-    assert_eq!(rt; register.tag(bill), stands.tag(), "after {frames} frames");
-    assert!(rt;
-        parts_by(register.place(bill)) == parts_of(&stands),
-        "after {frames} frames"
-    );
-    assert_eq!(rt;
-        register.may_act(bill),
-        may_act(alloc, diary, bill)?,
-        "after {frames} frames"
-    );
-    assert!(rt;
-        register.title(bill) == title_at(&stands),
-        "after {frames} frames"
-    );
-    assert!(rt;
-        ends(register.known(bill)) == ends(stands.known()),
-        "after {frames} frames"
-    );
-    let (parting, since) = match &stands {
-        BillPlace::Parting { entry, .. } => (number_of(Some(entry)), 0),
-        BillPlace::Held { since, .. } => (0, since.len()),
-        _ => (0, 0),
-    };
-    if stands.tag() != PlaceTag::Absent {
-        assert_eq!(rt;
-            number_of(register.parting(bill)),
-            parting,
-            "after {frames} frames"
-        );
+    let counts = are_counts_same(alloc, pair, bill)?;
+    let frames = diary.len();
+    for (is_same, what) in [
+        (is_place_same(register, bill, &stands), "the place"),
+        (are_parts_same(register, bill, &stands), "what is known"),
+        (counts, "the counts"),
+        (are_records_same(pair, bill), "the records"),
+        (register.record_at(frames).is_none(), "the end"),
+    ] {
+        assert!(rt; is_same, "{what} after {frames} frames");
     }
-    assert_eq!(rt; register.since(bill).len(), since, "after {frames} frames");
-    let listed = pieces(alloc, diary, bill)?;
-    assert!(rt;
-        are_named_alike(register.pieces(bill), listed.as_slice()),
-        "after {frames} frames"
-    );
-    assert_eq!(rt;
-        register.partings(bill),
-        count_parted(diary, bill),
-        "after {frames} frames"
-    );
-    assert_eq!(rt;
-        byte_of(register, register.signed(bill)),
-        byte_in(signed_text(diary, bill)),
-        "after {frames} frames"
-    );
-    assert_eq!(rt;
-        byte_of(register, register.came(bill)),
-        byte_in(last_body(diary, bill)),
-        "after {frames} frames"
-    );
-    let parted = match last_parted_record(diary, bill) {
-        Some(parted) => Some(number_of(Some(parted.link))),
-        None => None,
-    };
-    assert_eq!(rt;
-        byte_of(register, register.parted(bill)),
-        parted,
-        "after {frames} frames"
-    );
-    assert!(rt;
-        register.record_at(frames).is_none(),
-        "after {frames} frames"
-    );
     Ok(())
+}
+
+// The place, and the title there.
+fn is_place_same(register: &Register, bill: Checksum, stands: &BillPlace) -> bool {
+    parts_by(register.place(bill)) == parts_of(stands) && register.title(bill) == title_at(stands)
+}
+
+// The same by the look-ups of its parts. No entry of an absent bill is told to be parting.
+fn are_parts_same(register: &Register, bill: Checksum, stands: &BillPlace) -> bool {
+    let parting = match stands {
+        BillPlace::Absent => 0,
+        _ => number_of(register.parting(bill)),
+    };
+    let parts = (
+        register.tag(bill),
+        ends(register.known(bill)),
+        parting,
+        register.since(bill).len(),
+    );
+    parts == parts_of(stands)
+}
+
+// Whether the possessor may act, the documents, and how often the bill was parted.
+fn are_counts_same(alloc: Global, pair: &Pair, bill: Checksum) -> Result<bool, NoMemory> {
+    let Pair { diary, register } = pair;
+    let acts = may_act(alloc, diary, bill)?;
+    let listed = pieces(alloc, diary, bill)?;
+    Ok(
+        register.may_act(bill) == acts
+            && are_named_alike(register.pieces(bill), listed.as_slice())
+            && register.partings(bill) == count_parted(diary, bill),
+    )
+}
+
+// The records by which the bill was signed, came last, and was parted last.
+fn are_records_same(pair: &Pair, bill: Checksum) -> bool {
+    let Pair { diary, register } = pair;
+    byte_of(register, register.signed(bill)) == byte_in(signed_text(diary, bill))
+        && byte_of(register, register.came(bill)) == byte_in(last_body(diary, bill))
+        && byte_of(register, register.parted(bill)) == last_parted(diary, bill)
+}
+
+fn last_parted(diary: &Diary, bill: Checksum) -> Option<u8> {
+    Some(number_of(Some(last_parted_record(diary, bill)?.link)))
 }
 
 // Which place it is, the ends of the known chain, the number of the entry that is parting, and how many transactions
@@ -168,34 +161,33 @@ fn are_named_alike(a: &[Piece], b: &[Piece]) -> bool {
 
 // What they say of an entry, and of a document of its name, is the same.
 pub(crate) fn assert_same_entry<R: Abort>(rt: &R, pair: &Pair, bill: Checksum, n: u8) {
+    let frames = pair.diary.len();
+    for (is_same, what) in [
+        (is_end_same(pair, n), "the end of an entry"),
+        (are_texts_same(pair, bill, n), "the texts of an entry"),
+    ] {
+        assert!(rt; is_same, "{what} after {frames} frames");
+    }
+}
+
+// Whether it is taken, and whether it is declined.
+fn is_end_same(pair: &Pair, n: u8) -> bool {
     let Pair { diary, register } = pair;
-    let frames = diary.len();
-    assert_eq!(rt;
-        register.taken(name(n)),
-        is_taken(diary, name(n)),
-        "after {frames} frames"
-    );
-    let declined = last_declined(diary, name(n)).is_some();
-    assert_eq!(rt;
-        register.declined(name(n)).is_some(),
-        declined,
-        "after {frames} frames"
-    );
+    register.taken(name(n)) == is_taken(diary, name(n))
+        && register.declined(name(n)).is_some() == last_declined(diary, name(n)).is_some()
+}
+
+// The Begun of its reference, and the document of its name.
+fn are_texts_same(pair: &Pair, bill: Checksum, n: u8) -> bool {
+    let Pair { diary, register } = pair;
     let reference = reference_of(bill, name(n));
-    let begun = match last_with_reference(diary, reference) {
-        Some(begun) => first_byte(begun.body.as_slice()),
-        None => None,
-    };
-    assert_eq!(rt;
-        byte_of(register, register.begun(reference)),
-        begun,
-        "after {frames} frames"
-    );
-    assert_eq!(rt;
-        byte_of(register, register.kept(bill, name(n))),
-        byte_in(first_bytes(diary, bill, name(n))),
-        "after {frames} frames"
-    );
+    byte_of(register, register.begun(reference)) == last_begun(diary, reference)
+        && byte_of(register, register.kept(bill, name(n)))
+            == byte_in(first_bytes(diary, bill, name(n)))
+}
+
+fn last_begun(diary: &Diary, reference: Reference) -> Option<u8> {
+    first_byte(last_with_reference(diary, reference)?.body.as_slice())
 }
 
 fn first_byte(bytes: &[u8]) -> Option<u8> {

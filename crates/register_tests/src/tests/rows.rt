@@ -5,6 +5,7 @@ use ebl_base::{Checksum, PlaceTag};
 use std::alloc::Global;
 use std::process::Abort;
 use std::test::Fail;
+use title_register::Register;
 use upload_state::reference_of;
 
 const BILL: Checksum = Checksum([9; 32]);
@@ -21,23 +22,22 @@ fn assert_rows<R: Abort>(rt: &R, alloc: Global, rows: &[Row]) -> Result<(), Fail
     for (step, tag, known, parting, since, acts) in rows {
         pair.write(alloc, cast.frame(alloc, BILL, *step)?)?;
         let frames = pair.diary.len();
-        let register = &pair.register;
-        assert_eq!(rt; register.tag(BILL), *tag, "after {frames} frames");
-        assert_eq!(rt;
-            entries(register.known(BILL)),
-            *known,
-            "after {frames} frames"
-        );
-        assert_eq!(rt;
-            number_of(register.parting(BILL)),
-            *parting,
-            "after {frames} frames"
-        );
-        assert_eq!(rt; register.since(BILL).len(), *since, "after {frames} frames");
-        assert_eq!(rt; register.may_act(BILL), *acts, "after {frames} frames");
+        let is_right = look_ups(&pair.register) == (*tag, *known, *parting, *since, *acts);
+        assert!(rt; is_right, "after {frames} frames");
         assert_same(rt, alloc, &pair, BILL)?;
     }
     Ok(())
+}
+
+// What a register says of the bill, as a row has it.
+fn look_ups(register: &Register) -> (PlaceTag, usize, u8, usize, bool) {
+    (
+        register.tag(BILL),
+        entries(register.known(BILL)),
+        number_of(register.parting(BILL)),
+        register.since(BILL).len(),
+        register.may_act(BILL),
+    )
 }
 
 // Into and out of each place, where the bill began: away and back through a refusal, away for good, back by a chain
@@ -92,33 +92,43 @@ fn nobody_acts_on_an_ended_title(rt: HostRuntime) -> Result<(), Fail> {
     assert_rows(&rt, rt.alloc(), &SURRENDER)
 }
 
+const FRAMES: [Step; 7] = [
+    Step::Begun(1, 2),
+    Step::Stored(2),
+    Step::Declined(2),
+    Step::Begun(2, 2),
+    Step::Stored(2),
+    Step::Declined(2),
+    Step::BegunTaken(1, 3),
+];
+
+fn written(alloc: Global) -> Result<Pair, Fail> {
+    let cast = players()?;
+    let mut pair = Pair::new(alloc);
+    for step in &FRAMES {
+        pair.write(alloc, cast.frame(alloc, BILL, *step)?)?;
+    }
+    Ok(pair)
+}
+
+// An entry, the numbers of the frames that began and declined it and kept its document, and whether it was taken.
+const ENTRIES: [(u8, Option<usize>, Option<usize>, Option<usize>, bool); 3] = [
+    (1, None, None, None, false),
+    (2, Some(3), Some(5), Some(1), false),
+    (3, Some(6), None, None, true),
+];
+
 // A frame is found by its number: of a reference and an entry the last, of a document the first.
 #[test]
 fn numbers_of_frames(rt: HostRuntime) -> Result<(), Fail> {
-    let alloc = rt.alloc();
-    let cast = players()?;
-    let mut pair = Pair::new(alloc);
-    let steps = [
-        Step::Begun(1, 2),
-        Step::Stored(2),
-        Step::Declined(2),
-        Step::Begun(2, 2),
-        Step::Stored(2),
-        Step::Declined(2),
-        Step::BegunTaken(1, 3),
-    ];
-    for step in steps {
-        pair.write(alloc, cast.frame(alloc, BILL, step)?)?;
-    }
+    let pair = written(rt.alloc())?;
     let register = &pair.register;
-    assert_eq!(rt; register.begun(reference_of(BILL, name(2))), Some(3));
-    assert_eq!(rt; register.begun(reference_of(BILL, name(3))), Some(6));
-    assert_eq!(rt; register.begun(reference_of(BILL, name(1))), None);
-    assert_eq!(rt; register.declined(name(2)), Some(5));
-    assert_eq!(rt; register.declined(name(3)), None);
-    assert_eq!(rt; register.kept(BILL, name(2)), Some(1));
+    for &(n, begun, declined, kept, taken) in &ENTRIES {
+        assert_eq!(rt; register.begun(reference_of(BILL, name(n))), begun, "{n}");
+        assert_eq!(rt; register.declined(name(n)), declined, "{n}");
+        assert_eq!(rt; register.kept(BILL, name(n)), kept, "{n}");
+        assert_eq!(rt; register.taken(name(n)), taken, "{n}");
+    }
     assert_eq!(rt; register.kept(name(8), name(2)), None);
-    assert!(rt; register.taken(name(3)));
-    assert!(rt; !register.taken(name(2)));
     Ok(())
 }
