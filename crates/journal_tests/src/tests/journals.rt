@@ -88,10 +88,13 @@ fn append<D: Disk>(
 }
 
 // What a journal is read again as.
-fn read_again(alloc: Global, journal: &mut Journal<MemoryDisk>) -> Found {
+fn read_again(alloc: Global, journal: &mut Journal<MemoryDisk>) -> Result<Found, NoMemory> {
     match journal.reread(alloc) {
-        Ok(frames) => Found::Frames(frames.len()),
-        Err(fault) => Found::Fault(fault),
+        Ok(frames) => {
+            let frames = frames.copy(alloc)?;
+            Ok(Found::Frames(frames.len()))
+        }
+        Err(fault) => Ok(Found::Fault(fault)),
     }
 }
 
@@ -239,7 +242,7 @@ fn append_and_reread(
     let mut journal = opened(alloc, fails, done)?;
     let is_failed = append(alloc, &mut journal, b"content")?.is_some();
     let is_loose = journal.is_loose();
-    let found = read_again(alloc, &mut journal);
+    let found = read_again(alloc, &mut journal)?;
     Ok((is_failed, is_loose, found, journal.is_loose()))
 }
 
@@ -286,7 +289,7 @@ fn an_append_after_a_reread(rt: HostRuntime) -> Result<(), Fail> {
     let alloc = rt.alloc();
     let mut journal = opened(alloc, &[4], &[4])?;
     assert_eq!(rt; append(alloc, &mut journal, b"a")?, Some(AppendFault::Disk));
-    assert_eq!(rt; read_again(alloc, &mut journal), Found::Frames(1));
+    assert_eq!(rt; read_again(alloc, &mut journal)?, Found::Frames(1));
     assert_eq!(rt; append(alloc, &mut journal, b"bc")?, None);
     assert_eq!(rt; journal.close().bytes(), TWO.as_slice());
     Ok(())
@@ -353,6 +356,7 @@ fn tell_only_read<R: Abort>(rt: &R, alloc: Global, disk: FileDisk) -> Result<(),
         Ok((mut journal, frames)) => {
             assert_eq!(rt; frames.len(), 3);
             assert_eq!(rt; append(alloc, &mut journal, b"d")?, Some(AppendFault::Disk));
+            assert_eq!(rt; journal.is_loose(), true);
             assert_eq!(rt; journal.close().faults(), 1);
         }
         Err(_) => return Err(Fail::new("the file was refused")),
