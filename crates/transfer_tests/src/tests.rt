@@ -7,5 +7,6 @@ mod ignored;
 mod reasons;
 mod rows;
 mod signing;
+mod steps;
 mod words;
 mod world;

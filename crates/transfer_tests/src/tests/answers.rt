@@ -1,9 +1,10 @@
 //! Every answer that comes of the diary: what the sealed answer says, documents and evidence included.
-use super::bodies::{last_name, name_of, start_body, start_of};
+use super::bodies::{chain_in, name_of, start_of};
+use super::steps::{ISSUED, RECEIVED, Row, SENT, SENT_ALONE, Step, told, waiting};
 use super::words::says;
 use super::world::World;
 use document_checksum::checksum;
-use ebl_base::{ByteList, Checksum, Reference, SignedText};
+use ebl_base::{ByteList, Checksum, Copied, Reference, SignedText};
 use pint_responses::Response;
 use platform_requests::Request;
 use std::alloc::Global;
@@ -12,13 +13,19 @@ use std::test::Fail;
 
 // The text of the last entry in the start of this number.
 fn last_text(alloc: Global, world: &World, number: usize) -> Result<SignedText, Fail> {
-    let mut texts = start_body(alloc, world.start_in(number)?)?.chain.into_vec();
+    let mut texts = chain_in(alloc, world.start_in(number)?)?.into_vec();
     Ok(texts.pop().ok_or("a text")?)
+}
+
+// Its name.
+fn last_name_in(alloc: Global, world: &World, number: usize) -> Result<Checksum, Fail> {
+    let text = last_text(alloc, world, number)?;
+    Ok(name_of(&text))
 }
 
 // What a platform answers to the start of this number.
 fn answer_to(alloc: Global, world: &mut World, at: &str, number: usize) -> Result<String, Fail> {
-    let last = name_of(&last_text(alloc, world, number)?);
+    let last = last_name_in(alloc, world, number)?;
     let request = start_of(world.start_in(number)?);
     world.answered(at, request, last)
 }
@@ -28,7 +35,6 @@ fn tell_destination_and_taken<R: Abort>(
     alloc: Global,
     world: &mut World,
 ) -> Result<(), Fail> {
-    world.send_to_beta()?;
     says(
         rt,
         answer_to(alloc, world, "GAMM", 1)?,
@@ -41,13 +47,16 @@ fn tell_destination_and_taken<R: Abort>(
 
 #[test]
 fn destination_and_taken(rt: HostRuntime) -> Result<(), Fail> {
-    let mut world = World::new(rt.alloc())?;
+    let mut world = told(&rt, rt.alloc(), &[ISSUED, SENT])?;
     tell_destination_and_taken(&rt, rt.alloc(), &mut world)
 }
 
+const SENT_TO_NOBODY: &[Row] = &[(
+    Step::Act("ALPH/EXPORT", "TRANSFER", "BETA/NOBODY"),
+    "DONE PARTING 0 LIVE BETA/NOBODY ALPH/EXPORT [1]",
+)];
+
 fn tell_unknown_party<R: Abort>(rt: &R, alloc: Global, world: &mut World) -> Result<(), Fail> {
-    world.issue()?;
-    world.act("ALPH/EXPORT", "TRANSFER", "BETA/NOBODY")?;
     for _ in 0..2 {
         says(
             rt,
@@ -61,7 +70,7 @@ fn tell_unknown_party<R: Abort>(rt: &R, alloc: Global, world: &mut World) -> Res
 
 #[test]
 fn unknown_party(rt: HostRuntime) -> Result<(), Fail> {
-    let mut world = World::new(rt.alloc())?;
+    let mut world = told(&rt, rt.alloc(), &[ISSUED, SENT_TO_NOBODY])?;
     tell_unknown_party(&rt, rt.alloc(), &mut world)
 }
 
@@ -102,6 +111,10 @@ fn tell_refused_documents<R: Abort>(
     Ok(())
 }
 
+fn are_same(some: &[Checksum], others: &[Checksum]) -> bool {
+    some.len() == others.len() && some.iter().zip(others).all(|(one, other)| one == other)
+}
+
 // Asserts which documents BETA says are missing, in the manifest's order.
 fn misses<R: Abort>(
     rt: &R,
@@ -110,7 +123,19 @@ fn misses<R: Abort>(
     missing: &[Checksum],
 ) -> Result<(), Fail> {
     let response = world.answer("BETA", Request::Finish { reference })?;
-    assert!(rt; response.missing.as_slice() == missing);
+    let is_right = are_same(response.missing.as_slice(), missing);
+    assert!(rt; is_right);
+    Ok(())
+}
+
+fn tell_count_of_missing<R: Abort>(
+    rt: &R,
+    world: &mut World,
+    reference: Reference,
+    last: Checksum,
+) -> Result<(), Fail> {
+    let answer = world.answered("BETA", Request::Finish { reference }, last)?;
+    says(rt, answer, "MDOC missing 2 bill last");
     Ok(())
 }
 
@@ -119,14 +144,8 @@ fn tell_missing_documents<R: Abort>(
     rt: &R,
     world: &mut World,
     reference: Reference,
-    last: Checksum,
 ) -> Result<(), Fail> {
     let (abc, braces) = (checksum(b"abc"), checksum(b"{}"));
-    says(
-        rt,
-        world.answered("BETA", Request::Finish { reference }, last)?,
-        "MDOC missing 2 bill last",
-    );
     misses(rt, world, reference, &[abc, braces])?;
     world.put(reference, abc, b"abc")?;
     misses(rt, world, reference, &[braces])?;
@@ -148,21 +167,30 @@ fn tell_finish<R: Abort>(
     Ok(())
 }
 
-fn tell_documents<R: Abort>(rt: &R, alloc: Global, world: &mut World) -> Result<(), Fail> {
-    world.send_with_documents()?;
-    let last = name_of(&last_text(alloc, world, 1)?);
-    world.deliver(1)?;
-    world.deliver(2)?;
+// The reference of the transfer that is under way, and the name of its last entry.
+fn under_way(alloc: Global, world: &World) -> Result<(Reference, Checksum), Fail> {
     let reference = world.reference_in(5)?;
+    let last = last_name_in(alloc, world, 1)?;
+    Ok((reference, last))
+}
+
+fn tell_documents<R: Abort>(
+    rt: &R,
+    alloc: Global,
+    world: &mut World,
+    (reference, last): (Reference, Checksum),
+) -> Result<(), Fail> {
     tell_refused_documents(rt, alloc, world, reference, last)?;
-    tell_missing_documents(rt, world, reference, last)?;
+    tell_count_of_missing(rt, world, reference, last)?;
+    tell_missing_documents(rt, world, reference)?;
     tell_finish(rt, world, reference, last)
 }
 
 #[test]
 fn documents(rt: HostRuntime) -> Result<(), Fail> {
-    let mut world = World::new(rt.alloc())?;
-    tell_documents(&rt, rt.alloc(), &mut world)
+    let mut world = waiting(&rt, rt.alloc())?;
+    let way = under_way(rt.alloc(), &world)?;
+    tell_documents(&rt, rt.alloc(), &mut world, way)
 }
 
 // Whether a text is this one.
@@ -173,32 +201,95 @@ fn is_text(text: &Option<SignedText>, expected: &SignedText) -> bool {
     }
 }
 
-// What a platform of one world answers to the start of this number in another.
-fn dispute(world: &mut World, at: &str, other: &World, number: usize) -> Result<Response, Fail> {
-    world.answer(at, start_of(other.start_in(number)?))
+// What comes from another world: the body of a start, and the name of its last entry; and the text of the entry from
+// which on its chain is another one than here.
+#[derive(Drop)]
+struct Elsewhere {
+    body: ByteList,
+    last: Checksum,
+    text: SignedText,
 }
 
-// In the other world the bill went to BETA without an endorsement.
+// The start of this number, and the text of the last entry in another one.
+fn sent_in(alloc: Global, other: &World, number: usize, shown: usize) -> Result<Elsewhere, Fail> {
+    let body = other.start_in(number)?;
+    let last = last_name_in(alloc, other, number)?;
+    let text = last_text(alloc, other, shown)?;
+    Ok(Elsewhere { body, last, text })
+}
+
+// The bill went to BETA without an endorsement.
+fn sent_elsewhere<R: Abort>(rt: &R, alloc: Global) -> Result<Elsewhere, Fail> {
+    let other = told(rt, alloc, &[ISSUED, SENT_ALONE])?;
+    sent_in(alloc, &other, 1, 1)
+}
+
+const RETURNED: &[Row] = &[(
+    Step::Act("BETA/IMPORT", "TRANSFER", "ALPH/EXPORT"),
+    "DONE PARTING 1 LIVE ALPH/EXPORT BETA/IMPORT [3]",
+)];
+
+// The bill went to BETA and back.
+fn returned_elsewhere<R: Abort>(rt: &R, alloc: Global) -> Result<Elsewhere, Fail> {
+    let other = told(rt, alloc, &[ISSUED, SENT, RECEIVED, RETURNED])?;
+    sent_in(alloc, &other, 3, 1)
+}
+
+// What a platform answers to the start.
+fn dispute(alloc: Global, world: &mut World, at: &str, sent: &Elsewhere) -> Result<Response, Fail> {
+    let body = sent.body.copy(alloc)?;
+    world.answer(at, start_of(body))
+}
+
+// The same in words, and whether it names the bill and the last text.
+fn dispute_words(
+    alloc: Global,
+    world: &mut World,
+    at: &str,
+    sent: &Elsewhere,
+) -> Result<String, Fail> {
+    let body = sent.body.copy(alloc)?;
+    world.answered(at, start_of(body), sent.last)
+}
+
+fn tell_theirs<R: Abort>(
+    rt: &R,
+    alloc: Global,
+    world: &mut World,
+    at: &str,
+    sent: &Elsewhere,
+) -> Result<(), Fail> {
+    let answer = dispute(alloc, world, at, sent)?;
+    let is_theirs = is_text(&answer.evidence.theirs, &sent.text);
+    assert!(rt; is_theirs);
+    Ok(())
+}
+
+fn tell_own<R: Abort>(
+    rt: &R,
+    alloc: Global,
+    world: &mut World,
+    sent: &Elsewhere,
+) -> Result<(), Fail> {
+    let own = last_text(alloc, world, 1)?;
+    let answer = dispute(alloc, world, "BETA", sent)?;
+    let is_own = is_text(&answer.evidence.own, &own);
+    assert!(rt; is_own);
+    assert_eq!(rt; world.beta_frames(), 2);
+    Ok(())
+}
+
 fn tell_evidence_of_both<R: Abort>(
     rt: &R,
     alloc: Global,
     world: &mut World,
-    other: &mut World,
+    sent: &Elsewhere,
 ) -> Result<(), Fail> {
-    world.move_to_beta()?;
-    other.issue()?;
-    other.act("ALPH/EXPORT", "TRANSFER", "BETA/IMPORT")?;
-    let (own, theirs) = (last_text(alloc, world, 1)?, last_text(alloc, other, 1)?);
-    for _ in 0..2 {
-        let answer = dispute(world, "BETA", other, 1)?;
-        assert!(rt; is_text(&answer.evidence.own, &own));
-        assert!(rt; is_text(&answer.evidence.theirs, &theirs));
-        assert_eq!(rt; world.beta_frames(), 2);
-    }
-    let request = start_of(other.start_in(1)?);
+    tell_theirs(rt, alloc, world, "BETA", sent)?;
+    tell_own(rt, alloc, world, sent)?;
     says(
         rt,
-        world.answered("BETA", request, name_of(&theirs))?,
+        dispute_words(alloc, world, "BETA", sent)?,
         "DISE PARTS standing own theirs bill last",
     );
     Ok(())
@@ -206,30 +297,24 @@ fn tell_evidence_of_both<R: Abort>(
 
 #[test]
 fn evidence_of_both(rt: HostRuntime) -> Result<(), Fail> {
-    let (mut world, mut other) = (World::new(rt.alloc())?, World::new(rt.alloc())?);
-    tell_evidence_of_both(&rt, rt.alloc(), &mut world, &mut other)
+    let sent = sent_elsewhere(&rt, rt.alloc())?;
+    let mut world = told(&rt, rt.alloc(), &[ISSUED, SENT, RECEIVED])?;
+    tell_evidence_of_both(&rt, rt.alloc(), &mut world, &sent)
 }
 
-// ALPH holds the bill by no entry. In the other world it went to BETA and back.
+// ALPH holds the bill by no entry.
 fn tell_evidence_of_one<R: Abort>(
     rt: &R,
     alloc: Global,
     world: &mut World,
-    other: &mut World,
+    sent: &Elsewhere,
 ) -> Result<(), Fail> {
-    world.issue()?;
-    other.move_to_beta()?;
-    other.act("BETA/IMPORT", "TRANSFER", "ALPH/EXPORT")?;
-    let theirs = last_text(alloc, other, 1)?;
     for _ in 0..2 {
-        let answer = dispute(world, "ALPH", other, 3)?;
-        assert!(rt; is_text(&answer.evidence.theirs, &theirs));
+        tell_theirs(rt, alloc, world, "ALPH", sent)?;
     }
-    let last = name_of(&last_text(alloc, other, 3)?);
-    let request = start_of(other.start_in(3)?);
     says(
         rt,
-        world.answered("ALPH", request, last)?,
+        dispute_words(alloc, world, "ALPH", sent)?,
         "DISE PARTS standing theirs bill last",
     );
     Ok(())
@@ -237,44 +322,46 @@ fn tell_evidence_of_one<R: Abort>(
 
 #[test]
 fn evidence_of_one(rt: HostRuntime) -> Result<(), Fail> {
-    let (mut world, mut other) = (World::new(rt.alloc())?, World::new(rt.alloc())?);
-    tell_evidence_of_one(&rt, rt.alloc(), &mut world, &mut other)
+    let sent = returned_elsewhere(&rt, rt.alloc())?;
+    let mut world = told(&rt, rt.alloc(), &[ISSUED])?;
+    tell_evidence_of_one(&rt, rt.alloc(), &mut world, &sent)
 }
 
-// While BETA waits for documents the bill comes to it by another chain, from the other world.
-fn tell_dispute_at_the_finish<R: Abort>(
+// The finish comes twice.
+fn tell_disputed_finish<R: Abort>(
     rt: &R,
-    alloc: Global,
     world: &mut World,
-    other: &mut World,
+    reference: Reference,
+    last: Checksum,
 ) -> Result<(), Fail> {
-    world.send_with_documents()?;
-    world.deliver(1)?;
-    world.deliver(2)?;
-    other.issue()?;
-    other.act("ALPH/EXPORT", "TRANSFER", "BETA/IMPORT")?;
-    says(
-        rt,
-        world.foreign("BETA", start_of(other.start_in(1)?))?,
-        "RECE",
-    );
-    let (reference, last) = (
-        world.reference_in(5)?,
-        name_of(&last_text(alloc, world, 1)?),
-    );
     for _ in 0..2 {
-        let finish = Request::Finish { reference };
-        says(
-            rt,
-            world.answered("BETA", finish, last)?,
-            "DISE PARTS standing own theirs bill last",
-        );
+        let answer = world.answered("BETA", Request::Finish { reference }, last)?;
+        says(rt, answer, "DISE PARTS standing own theirs bill last");
     }
     Ok(())
 }
 
+// While BETA waits for documents the bill comes to it by another chain.
+fn tell_start_of_another<R: Abort>(rt: &R, world: &mut World, body: ByteList) -> Result<(), Fail> {
+    let answer = world.foreign("BETA", start_of(body))?;
+    says(rt, answer, "RECE");
+    Ok(())
+}
+
+fn tell_dispute_at_the_finish<R: Abort>(
+    rt: &R,
+    alloc: Global,
+    world: &mut World,
+    body: ByteList,
+) -> Result<(), Fail> {
+    tell_start_of_another(rt, world, body)?;
+    let (reference, last) = under_way(alloc, world)?;
+    tell_disputed_finish(rt, world, reference, last)
+}
+
 #[test]
 fn dispute_at_the_finish(rt: HostRuntime) -> Result<(), Fail> {
-    let (mut world, mut other) = (World::new(rt.alloc())?, World::new(rt.alloc())?);
-    tell_dispute_at_the_finish(&rt, rt.alloc(), &mut world, &mut other)
+    let Elsewhere { body, .. } = sent_elsewhere(&rt, rt.alloc())?;
+    let mut world = waiting(&rt, rt.alloc())?;
+    tell_dispute_at_the_finish(&rt, rt.alloc(), &mut world, body)
 }

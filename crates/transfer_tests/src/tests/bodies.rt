@@ -24,6 +24,12 @@ pub(crate) fn start_body(alloc: Global, body: ByteList) -> Result<Body, Fail> {
     Ok(Body::read(alloc, body.as_slice())?)
 }
 
+/// The chain of the body of a start.
+pub(crate) fn chain_in(alloc: Global, body: ByteList) -> Result<TextList, Fail> {
+    let Body { chain, .. } = start_body(alloc, body)?;
+    Ok(chain)
+}
+
 /// The start with this body.
 pub(crate) fn start_of(body: ByteList) -> Request
     ensures { (d : List Frame) (now : Moment) → MayBeAsked d now (request_view result) }

@@ -9,11 +9,12 @@ ghost use Rattle.platform_machine.specs.Machine.{MayBeAsked};
 
 use super::asking::bill;
 use super::bodies::{
-    Act, entry, last_name, name_of, signed_entry, signed_manifest, start_body, start_with,
+    Act, chain_in, entry, last_name, name_of, signed_entry, signed_manifest, start_with,
 };
+use super::steps::{ISSUED, RECEIVED, Row, SENT, Step, tell, told};
 use super::words::says;
 use super::world::World;
-use ebl_base::{ByteList, Kind};
+use ebl_base::{ByteList, Checksum, Kind, SignedText, TextList};
 use platform_requests::Request;
 use std::alloc::Global;
 use std::process::Abort;
@@ -23,32 +24,49 @@ use std::test::Fail;
 fn forged(alloc: Global, body: ByteList, act: Act) -> Result<Request, Fail>
     ensures { IfOk result (λ r. (d : List Frame) (now : Moment) → MayBeAsked d now (request_view r)) }
 {
-    let mut chain = start_body(alloc, body)?.chain;
-    let entry = entry(alloc, "BETA", bill()?, Some(last_name(&chain)), &[act])?;
-    let text = signed_entry(alloc, "BETA", &entry)?;
+    let chain = chain_in(alloc, body)?;
+    let text = signed_by_beta(alloc, last_name(&chain), act)?;
+    start_behind(alloc, chain, text)
+}
+
+// The start with a chain and an entry of BETA behind it.
+fn start_behind(alloc: Global, chain: TextList, text: SignedText) -> Result<Request, Fail>
+    ensures { IfOk result (λ r. (d : List Frame) (now : Moment) → MayBeAsked d now (request_view r)) }
+{
     let manifest = signed_manifest(alloc, "BETA", bill()?, name_of(&text))?;
-    chain.push(text)?;
+    let chain = followed(chain, text)?;
     start_with(alloc, chain, manifest)
 }
 
-fn tell_two_continuations<R: Abort>(rt: &R, alloc: Global, world: &mut World) -> Result<(), Fail> {
-    world.move_to_beta()?;
-    let to_gamm = (Kind::Transfer, "BETA/IMPORT", "GAMM/AGENT");
-    let request = forged(alloc, world.start_in(1)?, to_gamm)?;
-    says(rt, world.foreign("GAMM", request)?, "RECE");
-    let to_alph = (Kind::Transfer, "BETA/IMPORT", "ALPH/EXPORT");
-    let request = forged(alloc, world.start_in(1)?, to_alph)?;
-    says(rt, world.foreign("ALPH", request)?, "RECE");
-    says(
-        rt,
-        world.how("GAMM")?,
-        "DONE HELD 2 LIVE GAMM/AGENT BETA/IMPORT",
-    );
-    says(
-        rt,
-        world.how("ALPH")?,
+fn followed(mut chain: TextList, text: SignedText) -> Result<TextList, Fail> {
+    chain.push(text)?;
+    Ok(chain)
+}
+
+// An entry of BETA after another one.
+fn signed_by_beta(alloc: Global, previous: Checksum, act: Act) -> Result<SignedText, Fail> {
+    let entry = entry(alloc, "BETA", bill()?, Some(previous), &[act])?;
+    signed_entry(alloc, "BETA", &entry)
+}
+
+const HELD_TWICE: &[Row] = &[
+    (Step::How("GAMM"), "DONE HELD 2 LIVE GAMM/AGENT BETA/IMPORT"),
+    (
+        Step::How("ALPH"),
         "DONE HELD 2 LIVE ALPH/EXPORT BETA/IMPORT",
-    );
+    ),
+];
+
+fn tell_two_continuations<R: Abort>(rt: &R, alloc: Global, world: &mut World) -> Result<(), Fail> {
+    for (at, to) in [("GAMM", "GAMM/AGENT"), ("ALPH", "ALPH/EXPORT")] {
+        let request = forged(
+            alloc,
+            world.start_in(1)?,
+            (Kind::Transfer, "BETA/IMPORT", to),
+        )?;
+        says(rt, world.foreign(at, request)?, "RECE");
+    }
+    tell(rt, world, HELD_TWICE)?;
     for at in ["ALPH", "BETA", "GAMM"] {
         assert!(rt; world.may_act(at)?);
     }
@@ -57,6 +75,6 @@ fn tell_two_continuations<R: Abort>(rt: &R, alloc: Global, world: &mut World) ->
 
 #[test]
 fn two_continuations(rt: HostRuntime) -> Result<(), Fail> {
-    let mut world = World::new(rt.alloc())?;
+    let mut world = told(&rt, rt.alloc(), &[ISSUED, SENT, RECEIVED])?;
     tell_two_continuations(&rt, rt.alloc(), &mut world)
 }

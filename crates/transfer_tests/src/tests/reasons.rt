@@ -127,44 +127,50 @@ fn bodies_and_documents(rt: HostRuntime) -> Result<(), Fail> {
 
 // ---- the chain
 
+// What BETA answers to a chain of so many texts that nobody signed.
+fn answer_to_unsigned(alloc: Global, world: &mut World, count: usize) -> Result<String, Fail> {
+    let mut chain = TextList::new(alloc);
+    for _ in 0..count {
+        chain.push(unsigned(alloc)?)?;
+    }
+    answer_to(alloc, world, chain, unsigned(alloc)?)
+}
+
 fn tell_chains_of_no_length<R: Abort>(
     rt: &R,
     alloc: Global,
     world: &mut World,
 ) -> Result<(), Fail> {
-    let mut chain = TextList::new(alloc);
-    says(
-        rt,
-        answer_to(alloc, world, TextList::new(alloc), unsigned(alloc)?)?,
-        "BENV LENGTH bill",
-    );
-    for _ in 0..65 {
-        chain.push(unsigned(alloc)?)?;
+    for (count, answer) in [(0, "BENV LENGTH bill"), (65, "BENV LENGTH bill last")] {
+        says(rt, answer_to_unsigned(alloc, world, count)?, answer);
     }
-    says(
-        rt,
-        answer_to(alloc, world, chain, unsigned(alloc)?)?,
-        "BENV LENGTH bill last",
-    );
     Ok(())
 }
 
-fn tell_texts_that_are_no_entries<R: Abort>(
+// A text that nobody signed.
+fn tell_text_without_signature<R: Abort>(
     rt: &R,
     alloc: Global,
     world: &mut World,
 ) -> Result<(), Fail> {
-    says(
-        rt,
-        answer_to_second(alloc, world, unsigned(alloc)?)?,
-        "BSIG SIGNATURE 1 bill last",
-    );
-    let no_entry = signed(alloc, "BETA", &read(alloc, b"{}")?)?;
-    says(
-        rt,
-        answer_to_second(alloc, world, no_entry)?,
-        "BENV ENTRY 1 bill last",
-    );
+    let answer = answer_to_second(alloc, world, unsigned(alloc)?)?;
+    says(rt, answer, "BSIG SIGNATURE 1 bill last");
+    Ok(())
+}
+
+// The text of `{}`, signed by a platform.
+fn signed_nothing(alloc: Global, by: &str) -> Result<SignedText, Fail> {
+    let payload = read(alloc, b"{}")?;
+    signed(alloc, by, &payload)
+}
+
+fn tell_text_that_is_no_entry<R: Abort>(
+    rt: &R,
+    alloc: Global,
+    world: &mut World,
+) -> Result<(), Fail> {
+    let answer = answer_to_second(alloc, world, signed_nothing(alloc, "BETA")?)?;
+    says(rt, answer, "BENV ENTRY 1 bill last");
     Ok(())
 }
 
@@ -217,26 +223,32 @@ fn tell_second_entries<R: Abort>(rt: &R, alloc: Global, world: &mut World) -> Re
     Ok(())
 }
 
-// ALPH/BANK isn't the carrier.
+// A first entry by ALPH/BANK, which isn't the carrier.
+fn signed_by_bank(alloc: Global) -> Result<SignedText, Fail> {
+    let act = (Kind::Sign, "ALPH/BANK", "");
+    let entry = entry(alloc, "ALPH", bill()?, None, &[act])?;
+    signed_entry(alloc, "ALPH", &entry)
+}
+
 fn tell_bill_of_no_carrier<R: Abort>(rt: &R, alloc: Global, world: &mut World) -> Result<(), Fail> {
-    let by_bank = (Kind::Sign, "ALPH/BANK", "");
-    let entry = entry(alloc, "ALPH", bill()?, None, &[by_bank])?;
-    let chain = chain_of(alloc, signed_entry(alloc, "ALPH", &entry)?)?;
-    says(
-        rt,
-        answer_to(alloc, world, chain, unsigned(alloc)?)?,
-        "BENV CARRIER bill last",
-    );
+    let chain = chain_of(alloc, signed_by_bank(alloc)?)?;
+    let answer = answer_to(alloc, world, chain, unsigned(alloc)?)?;
+    says(rt, answer, "BENV CARRIER bill last");
     Ok(())
+}
+
+fn tell_chains<R: Abort>(rt: &R, alloc: Global, world: &mut World) -> Result<(), Fail> {
+    tell_chains_of_no_length(rt, alloc, world)?;
+    tell_text_without_signature(rt, alloc, world)?;
+    tell_text_that_is_no_entry(rt, alloc, world)?;
+    tell_second_entries(rt, alloc, world)?;
+    tell_bill_of_no_carrier(rt, alloc, world)
 }
 
 #[test]
 fn chains(rt: HostRuntime) -> Result<(), Fail> {
     let mut world = World::new(rt.alloc())?;
-    tell_chains_of_no_length(&rt, rt.alloc(), &mut world)?;
-    tell_texts_that_are_no_entries(&rt, rt.alloc(), &mut world)?;
-    tell_second_entries(&rt, rt.alloc(), &mut world)?;
-    tell_bill_of_no_carrier(&rt, rt.alloc(), &mut world)
+    tell_chains(&rt, rt.alloc(), &mut world)
 }
 
 // ---- the manifest
@@ -263,12 +275,8 @@ fn tell_text_that_is_no_manifest<R: Abort>(
     alloc: Global,
     world: &mut World,
 ) -> Result<(), Fail> {
-    let no_manifest = signed(alloc, "ALPH", &read(alloc, b"{}")?)?;
-    says(
-        rt,
-        answer_to_manifest(alloc, world, no_manifest)?,
-        "BENV MANIFEST_FORM bill last",
-    );
+    let answer = answer_to_manifest(alloc, world, signed_nothing(alloc, "ALPH")?)?;
+    says(rt, answer, "BENV MANIFEST_FORM bill last");
     Ok(())
 }
 

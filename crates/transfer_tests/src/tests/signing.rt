@@ -1,5 +1,6 @@
 //! A ring that fails to sign: nothing is written or sent, and the same request is taken later.
 use super::asking::{command, moment, platform, roster, signing};
+use super::steps::{ISSUED, SENT, told};
 use super::world::{World, asks};
 use ebl_base::{ByteList, CallList};
 use platform_requests::{Outcome, Request};
@@ -40,22 +41,21 @@ fn starts(alloc: Global, shard: &mut Shard<FailingRing>, body: ByteList) -> Resu
 fn tell_start<R: Abort>(
     rt: &R,
     alloc: Global,
-    world: &mut World,
+    world: &World,
     shard: &mut Shard<FailingRing>,
 ) -> Result<(), Fail> {
-    world.send_to_beta()?;
-    let failed = starts(alloc, shard, world.start_in(1)?)?;
-    comes_to(rt, shard, &failed, "SIGN", 0, 0);
-    let taken = starts(alloc, shard, world.start_in(1)?)?;
-    comes_to(rt, shard, &taken, "RECE", 0, 1);
+    for (reply, frames) in [("SIGN", 0), ("RECE", 1)] {
+        let outcome = starts(alloc, shard, world.start_in(1)?)?;
+        comes_to(rt, shard, &outcome, reply, 0, frames);
+    }
     Ok(())
 }
 
 #[test]
 fn start(rt: HostRuntime) -> Result<(), Fail> {
-    let mut world = World::new(rt.alloc())?;
+    let world = told(&rt, rt.alloc(), &[ISSUED, SENT])?;
     let mut shard = failing_at(rt.alloc(), "BETA", 0)?;
-    tell_start(&rt, rt.alloc(), &mut world, &mut shard)
+    tell_start(&rt, rt.alloc(), &world, &mut shard)
 }
 
 fn act(
@@ -70,23 +70,29 @@ fn act(
     asks(shard, alloc, by, command)
 }
 
+// The bill is signed and issued.
+fn issue(alloc: Global, shard: &mut Shard<FailingRing>) -> Result<(), Fail> {
+    asks(shard, alloc, "ALPH/CARRIER", signing(alloc)?)?;
+    act(alloc, shard, "ALPH/CARRIER", "ISSUE", "ALPH/EXPORT")?;
+    Ok(())
+}
+
 // The entry is signed, and its manifest isn't.
 fn tell_transfer<R: Abort>(
     rt: &R,
     alloc: Global,
     shard: &mut Shard<FailingRing>,
 ) -> Result<(), Fail> {
-    asks(shard, alloc, "ALPH/CARRIER", signing(alloc)?)?;
-    act(alloc, shard, "ALPH/CARRIER", "ISSUE", "ALPH/EXPORT")?;
-    let failed = act(alloc, shard, "ALPH/EXPORT", "TRANSFER", "BETA/IMPORT")?;
-    comes_to(rt, shard, &failed, "SIGN", 0, 2);
-    let done = act(alloc, shard, "ALPH/EXPORT", "TRANSFER", "BETA/IMPORT")?;
-    comes_to(rt, shard, &done, "DONE", 1, 3);
+    for (reply, messages, frames) in [("SIGN", 0, 2), ("DONE", 1, 3)] {
+        let outcome = act(alloc, shard, "ALPH/EXPORT", "TRANSFER", "BETA/IMPORT")?;
+        comes_to(rt, shard, &outcome, reply, messages, frames);
+    }
     Ok(())
 }
 
 #[test]
 fn transfer(rt: HostRuntime) -> Result<(), Fail> {
     let mut shard = failing_at(rt.alloc(), "ALPH", 1)?;
+    issue(rt.alloc(), &mut shard)?;
     tell_transfer(&rt, rt.alloc(), &mut shard)
 }

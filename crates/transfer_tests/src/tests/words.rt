@@ -1,5 +1,5 @@
 //! Outcomes in words.
-use ebl_base::{Checksum, LimitKind, PlaceTag, PlatformCode};
+use ebl_base::{Checksum, LimitKind, PlaceTag, PlatformCode, Reason};
 use pint_responses::{Response, unseal};
 use platform_requests::{Reply, View};
 use std::alloc::Global;
@@ -56,30 +56,39 @@ fn view_words(alloc: Global, view: &View) -> Result<String, Fail> {
     }
 }
 
+// The word where this is so. A branch that stands in a call of its own is gone over once, and not with all others.
+fn word_if(is_so: bool, word: &'static str) -> &'static str {
+    if is_so { word } else { "" }
+}
+
+fn reason_words(alloc: Global, reason: Option<Reason>) -> Result<String, Fail> {
+    let Some(reason) = reason else {
+        return Ok(String::new(alloc));
+    };
+    let word = reason.as_str();
+    match reason.index() {
+        Some(index) => Ok(format!(in alloc; " {word} {index}")?),
+        None => Ok(format!(in alloc; " {word}")?),
+    }
+}
+
+fn missing_words(alloc: Global, count: usize) -> Result<String, Fail> {
+    if count == 0 {
+        return Ok(String::new(alloc));
+    }
+    Ok(format!(in alloc; " missing {count}")?)
+}
+
 // A response's code, reason, index, whether it stands, how many documents are missing, and which evidence it has.
 fn response_words(alloc: Global, response: &Response) -> Result<String, Fail> {
-    let mut words = String::from_str(alloc, response.code.as_str())?;
-    if let Some(reason) = response.reason {
-        words.push_str(" ")?;
-        words.push_str(reason.as_str())?;
-        if let Some(index) = reason.index() {
-            words.push_str(format!(in alloc; " {index}")?.as_str())?;
-        }
-    }
-    if response.standing {
-        words.push_str(" standing")?;
-    }
-    let missing = response.missing.as_slice().len();
-    if missing > 0 {
-        words.push_str(format!(in alloc; " missing {missing}")?.as_str())?;
-    }
-    if response.evidence.own.is_some() {
-        words.push_str(" own")?;
-    }
-    if response.evidence.theirs.is_some() {
-        words.push_str(" theirs")?;
-    }
-    Ok(words)
+    let reason = reason_words(alloc, response.reason)?;
+    let missing = missing_words(alloc, response.missing.as_slice().len())?;
+    let code = response.code.as_str();
+    let (reason, missing) = (reason.as_str(), missing.as_str());
+    let standing = word_if(response.standing, " standing");
+    let own = word_if(response.evidence.own.is_some(), " own");
+    let theirs = word_if(response.evidence.theirs.is_some(), " theirs");
+    Ok(format!(in alloc; "{code}{reason}{standing}{missing}{own}{theirs}")?)
 }
 
 /// What the sealed answer of a platform says.
@@ -105,10 +114,11 @@ pub(crate) fn named_words(
     bill: Checksum,
     last: Checksum,
 ) -> Result<String, Fail> {
-    let mut words = response_words(alloc, response)?;
-    words.push_str(name_word(response.bill, bill, " bill"))?;
-    words.push_str(name_word(response.last, last, " last"))?;
-    Ok(words)
+    let words = response_words(alloc, response)?;
+    let words = words.as_str();
+    let bill = name_word(response.bill, bill, " bill");
+    let last = name_word(response.last, last, " last");
+    Ok(format!(in alloc; "{words}{bill}{last}")?)
 }
 
 fn more_words(alloc: Global, reply: &Reply, word: &str) -> Result<String, Fail> {

@@ -9,7 +9,9 @@ ghost use Rattle.platform_machine.specs.Machine.{MayBeAsked};
 ghost use Rattle.transfer_judge.specs.PlannedTexts.{Nests};
 
 use super::asking::{bill, command, moment, party, platform, roster, signing};
+use super::steps::Step;
 use super::words::{named_words, reply_words, unsealed};
+use bill_diary::last_with_reference;
 use ebl_base::{ByteList, Checksum, Copied, PlatformCode, Reference};
 use holder_commands::Command;
 use pint_responses::Response;
@@ -19,7 +21,7 @@ use std::alloc::Global;
 use std::test::Fail;
 use test_signer::KeyedRing;
 use transfer_core::Shard;
-use upload_state::{Started, started_write};
+use upload_state::{Started, started_read, started_write};
 
 // What was sent.
 #[derive(Drop)]
@@ -168,47 +170,33 @@ impl World {
         })
     }
 
-    /// ALPH signs the bill, and issues it to ALPH/EXPORT.
-    pub(crate) fn issue(&mut self) -> Result<(), Fail> {
-        self.sign("ALPH/CARRIER")?;
-        self.act("ALPH/CARRIER", "ISSUE", "ALPH/EXPORT")?;
-        Ok(())
+    /// Does this; what comes of it in words, with the numbers of what is sent for it.
+    pub(crate) fn does(&mut self, step: Step) -> Result<String, Fail> {
+        match step {
+            Step::Sign(by) => self.sign(by),
+            Step::Act(by, word, to) => self.act(by, word, to),
+            Step::Attach(by, bytes) => self.attach(by, bytes),
+            Step::Deliver(number) => self.deliver(number),
+            Step::Redirect(number, at) => self.redirect(number, at),
+            Step::Resend(at) => self.resend(at),
+            Step::How(at) => self.how(at),
+            Step::StartReply(bytes) => self.start_reply(bytes),
+            Step::FinishReply(bytes) => self.finish_reply(bytes),
+            Step::BetaFrames => {
+                let frames = self.beta_frames();
+                Ok(format!(in self.alloc; "{frames}")?)
+            }
+        }
     }
 
-    /// The bill is issued, endorsed to BETA/IMPORT, and sent there.
-    pub(crate) fn send_to_beta(&mut self) -> Result<(), Fail> {
-        self.issue()?;
-        self.act("ALPH/EXPORT", "ENDORSE", "BETA/IMPORT")?;
-        self.act("ALPH/EXPORT", "TRANSFER", "BETA/IMPORT")?;
-        Ok(())
-    }
-
-    /// It is received at BETA too, and settled.
-    pub(crate) fn move_to_beta(&mut self) -> Result<(), Fail> {
-        self.send_to_beta()?;
-        self.deliver(1)?;
-        self.deliver(2)?;
-        Ok(())
-    }
-
-    /// The bill is issued, `abc` and `{}` are attached, in base64, and it is sent to BETA.
-    pub(crate) fn send_with_documents(&mut self) -> Result<(), Fail> {
-        self.issue()?;
-        self.attach("ALPH/EXPORT", "YWJj")?;
-        self.attach("ALPH/EXPORT", "e30=")?;
-        self.act("ALPH/EXPORT", "ENDORSE", "BETA/IMPORT")?;
-        self.act("ALPH/EXPORT", "TRANSFER", "BETA/IMPORT")?;
-        Ok(())
-    }
-
-    /// A party asks its platform to sign the bill's document.
-    pub(crate) fn sign(&mut self, by: &str) -> Result<String, Fail> {
+    // A party asks its platform to sign the bill's document.
+    fn sign(&mut self, by: &str) -> Result<String, Fail> {
         let command = signing(self.alloc)?;
         self.ask(by, command)
     }
 
-    /// A party asks its platform to do this, for a recipient, or for none where that is empty.
-    pub(crate) fn act(&mut self, by: &str, word: &str, to: &str) -> Result<String, Fail> {
+    // A party asks its platform to do this, for a recipient, or for none where that is empty.
+    fn act(&mut self, by: &str, word: &str, to: &str) -> Result<String, Fail> {
         let members = if to.is_empty() {
             String::new(self.alloc)
         } else {
@@ -242,14 +230,14 @@ impl World {
         self.post(at, Back::Nowhere, outcome)
     }
 
-    /// The message of this number, from 1 on, comes to its platform.
-    pub(crate) fn deliver(&mut self, number: usize) -> Result<String, Fail> {
+    // The message of this number, from 1 on, comes to its platform.
+    fn deliver(&mut self, number: usize) -> Result<String, Fail> {
         let to = self.parcel(number)?.to;
         self.bring(number, to)
     }
 
-    /// It comes to another platform.
-    pub(crate) fn redirect(&mut self, number: usize, at: &str) -> Result<String, Fail> {
+    // It comes to another platform.
+    fn redirect(&mut self, number: usize, at: &str) -> Result<String, Fail> {
         let to = platform(at)?;
         self.bring(number, to)
     }
@@ -322,8 +310,8 @@ impl World {
         named_words(self.alloc, &response, bill()?, last)
     }
 
-    /// A platform sends the start of the bill's transfer once more.
-    pub(crate) fn resend(&mut self, at: &str) -> Result<String, Fail> {
+    // A platform sends the start of the bill's transfer once more.
+    fn resend(&mut self, at: &str) -> Result<String, Fail> {
         let bill = bill()?;
         self.foreign(at, Request::Resend { bill })
     }
@@ -346,8 +334,8 @@ impl World {
         )
     }
 
-    /// How the bill is at a platform.
-    pub(crate) fn how(&mut self, at: &str) -> Result<String, Fail> {
+    // How the bill is at a platform.
+    fn how(&mut self, at: &str) -> Result<String, Fail> {
         let bill = bill()?;
         self.foreign(at, Request::Ask { bill })
     }
@@ -383,12 +371,18 @@ impl World {
         self.beta.diary().as_slice().len()
     }
 
-    /// The body of the start of this number.
-    pub(crate) fn start_in(&self, number: usize) -> Result<ByteList, Fail> {
+    // The body of the start of this number.
+    fn body_in(&self, number: usize) -> Result<&ByteList, Fail> {
         match &self.parcel(number)?.content {
-            Content::Sent(Message::Start { body, .. }) => Ok(body.copy(self.alloc)?),
+            Content::Sent(Message::Start { body, .. }) => Ok(body),
             _ => Err("a start".into()),
         }
+    }
+
+    /// A copy of the body of the start of this number.
+    pub(crate) fn start_in(&self, number: usize) -> Result<ByteList, Fail> {
+        let body = self.body_in(number)?;
+        Ok(body.copy(self.alloc)?)
     }
 
     /// The reference of the finish of this number.
@@ -399,9 +393,30 @@ impl World {
         }
     }
 
+    // The bytes of the reply to a start, by its number.
+    fn reply_in(&self, number: usize) -> Result<&ByteList, Fail> {
+        match &self.parcel(number)?.content {
+            Content::StartReply { bytes, .. } => Ok(bytes),
+            _ => Err("a reply to a start".into()),
+        }
+    }
+
+    /// Whether BETA's diary has the beginning of the transfer that a reply to its start names.
+    pub(crate) fn is_begun(&self, number: usize) -> Result<bool, Fail> {
+        let started = started_read(self.alloc, self.reply_in(number)?.as_slice())?;
+        Ok(last_with_reference(self.beta.diary(), started.reference).is_some())
+    }
+
+    /// Whether two replies to a start have the same bytes.
+    pub(crate) fn replies_alike(&self, one: usize, other: usize) -> Result<bool, Fail> {
+        let (one, other) = (self.reply_in(one)?, self.reply_in(other)?);
+        Ok(one.as_slice() == other.as_slice())
+    }
+
     /// Whether two starts have one body.
     pub(crate) fn starts_alike(&self, one: usize, other: usize) -> Result<bool, Fail> {
-        Ok(self.start_in(one)?.as_slice() == self.start_in(other)?.as_slice())
+        let (one, other) = (self.body_in(one)?, self.body_in(other)?);
+        Ok(one.as_slice() == other.as_slice())
     }
 
     // What a platform gave is sent; in words, with the numbers of the messages.
