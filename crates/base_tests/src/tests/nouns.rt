@@ -170,14 +170,20 @@ fn sample_link(alloc: Global) -> Result<ChainLink, Fail> {
     })
 }
 
+fn are_same<T: PartialEq>(some: &[T], others: &[T]) -> bool {
+    some.len() == others.len() && some.iter().zip(others).all(|(one, other)| one == other)
+}
+
 fn assert_links(rt: &impl Abort, copy: &ChainLink, link: &ChainLink) {
     assert!(rt; copy.text.0.as_slice() == link.text.0.as_slice());
     assert_eq!(rt; copy.name, link.name);
-    assert_eq!(rt; copy.entry.platform, link.entry.platform);
-    assert_eq!(rt; copy.entry.bill, link.entry.bill);
-    assert_eq!(rt; copy.entry.previous, link.entry.previous);
-    assert_eq!(rt; copy.entry.attempt, link.entry.attempt);
-    assert!(rt; copy.entry.transactions.as_slice() == link.entry.transactions.as_slice());
+    assert_entries(rt, &copy.entry, &link.entry);
+}
+
+fn assert_entries(rt: &impl Abort, copy: &Entry, entry: &Entry) {
+    let is_same = copy.platform == entry.platform && copy.bill == entry.bill;
+    assert!(rt; is_same && copy.previous == entry.previous && copy.attempt == entry.attempt);
+    assert!(rt; are_same(copy.transactions.as_slice(), entry.transactions.as_slice()));
 }
 
 // A link and its copy.
@@ -206,7 +212,7 @@ fn copies_of_lists(rt: HostRuntime) -> Result<(), Fail> {
     assert!(rt; bytes.as_slice() == b"abc".as_slice());
     let two = [Checksum([5; 32]), Checksum([6; 32])];
     let names = ChecksumList::from_slice(rt.alloc(), &two)?.copy(rt.alloc())?;
-    assert!(rt; names.as_slice() == two.as_slice());
+    assert!(rt; are_same(names.as_slice(), &two));
     let text = CharList::from_text(rt.alloc(), "größe")?.copy(rt.alloc())?;
     assert!(rt; text.into_string().as_str() == "größe");
     Ok(())

@@ -256,9 +256,8 @@ fn titles_of_a_whole_life(rt: HostRuntime) -> Result<(), Fail> {
         let t = transaction(kind, actor, recipient).ok_or("a moment")?;
         let next = apply(title, &t).map_err(|_| "refused")?;
         assert_eq!(rt; next, want, "{kind:?}");
-        assert_eq!(rt; carrier(next), c, "{kind:?}");
-        assert_eq!(rt; possessor(next), has, "{kind:?}");
-        assert_eq!(rt; title_holder(next), holds, "{kind:?}");
+        let parties = (carrier(next), possessor(next), title_holder(next));
+        assert_eq!(rt; parties, (c, has, holds), "{kind:?}");
         assert_eq!(rt; moves(title, next), moved, "{kind:?}");
         title = Some(next);
     }
@@ -281,24 +280,23 @@ fn a_fold_stops_at_the_first_refusal(rt: HostRuntime) -> Result<(), Fail> {
     };
     let at = |place, rule| Err(FoldAt { place, rule });
 
-    assert_eq!(rt; fold(&[]), Ok(None));
-    assert_eq!(rt; fold(&[sign, issue]), Ok(Some(live(cast.possessor))));
-    assert_eq!(rt;
-        fold(&[sign, issue, transfer]),
-        Ok(Some(live(cast.another)))
-    );
-    assert_eq!(rt; fold(&[sign, issue, itself]), at(2, FoldRefusal::F9));
-    assert_eq!(rt; fold(&[sign, issue, accept]), at(2, FoldRefusal::F4));
-    // What follows a refusal isn't looked at.
-    assert_eq!(rt;
-        fold(&[sign, issue, itself, transfer]),
-        at(2, FoldRefusal::F9)
-    );
-    assert_eq!(rt;
-        fold(&[sign, issue, transfer, transfer, sign]),
-        at(3, FoldRefusal::F7)
-    );
-    assert_eq!(rt; fold(&[issue, sign]), at(0, FoldRefusal::F2));
-    assert_eq!(rt; fold(&[sign, sign]), at(1, FoldRefusal::F1));
+    let rows: [(&[Transaction], Result<Option<Title>, FoldAt>); 9] = [
+        (&[], Ok(None)),
+        (&[sign, issue], Ok(Some(live(cast.possessor)))),
+        (&[sign, issue, transfer], Ok(Some(live(cast.another)))),
+        (&[sign, issue, itself], at(2, FoldRefusal::F9)),
+        (&[sign, issue, accept], at(2, FoldRefusal::F4)),
+        // What follows a refusal isn't looked at.
+        (&[sign, issue, itself, transfer], at(2, FoldRefusal::F9)),
+        (
+            &[sign, issue, transfer, transfer, sign],
+            at(3, FoldRefusal::F7),
+        ),
+        (&[issue, sign], at(0, FoldRefusal::F2)),
+        (&[sign, sign], at(1, FoldRefusal::F1)),
+    ];
+    for (list, want) in rows {
+        assert_eq!(rt; fold(list), want);
+    }
     Ok(())
 }
