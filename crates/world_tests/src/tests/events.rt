@@ -29,39 +29,42 @@ fn is_event(alloc: Global, line: &str) -> Result<bool, Fail> {
 fn a_first_line_has_a_roster(rt: HostRuntime) -> Result<(), Fail> {
     let alloc = rt.alloc();
     assert_eq!(rt; roster(alloc)?.platforms().len(), 2);
-    assert!(rt; roster_in(alloc, b"{\"platforms\":[\"ALPH\"]}")?.is_none());
-    assert!(rt; roster_in(alloc, b"{\"roster\":{}}")?.is_none());
-    assert!(rt; roster_in(alloc, b"")?.is_none());
+    for line in [
+        b"{\"platforms\":[\"ALPH\"]}".as_slice(),
+        b"{\"roster\":{}}",
+        b"",
+    ] {
+        assert!(rt; roster_in(alloc, line)?.is_none());
+    }
     Ok(())
 }
+
+// Lines, and whether they are events at platforms of the roster.
+const LINES: [(&str, bool); 7] = [
+    ("{\"restart\":\"BETA\"}", true),
+    ("{\"restart\":\"GAMM\"}", false),
+    ("{\"deliver\":1}", true),
+    ("{\"at\":\"ALPH\",\"deliver\":1}", true),
+    ("{\"at\":\"GAMM\",\"deliver\":1}", false),
+    ("{\"at\":\"GAMM\",\"show\":1}", true),
+    ("", false),
+];
 
 #[test]
 fn an_event_names_platforms_of_the_roster(rt: HostRuntime) -> Result<(), Fail> {
-    let alloc = rt.alloc();
-    assert!(rt; is_event(alloc, "{\"restart\":\"BETA\"}")?);
-    assert!(rt; !is_event(alloc, "{\"restart\":\"GAMM\"}")?);
-    assert!(rt; is_event(alloc, "{\"deliver\":1}")?);
-    assert!(rt; is_event(alloc, "{\"at\":\"ALPH\",\"deliver\":1}")?);
-    assert!(rt; !is_event(alloc, "{\"at\":\"GAMM\",\"deliver\":1}")?);
-    assert!(rt; is_event(alloc, "{\"at\":\"GAMM\",\"show\":1}")?);
-    assert!(rt; !is_event(alloc, "")?);
+    for &(line, told) in &LINES {
+        let found = is_event(rt.alloc(), line)?;
+        assert!(rt; found == told, "{line}");
+    }
     Ok(())
 }
 
-// The answer that an event is given at once: its word, or none where a platform is asked.
-fn word(happening: Happening) -> &'static str {
+// The platform that is asked, or else the word of the answer that an event is given at once.
+fn outcome(happening: Happening) -> (Option<PlatformCode>, &'static str) {
     match happening {
-        Happening::Answered(answer) => answer.as_str(),
-        Happening::Asked(_) | Happening::StartsAgain(_) => "",
-    }
-}
-
-// The platform that is asked, if one is.
-fn asked(happening: Happening) -> Option<PlatformCode> {
-    match happening {
-        Happening::Answered(_) => None,
-        Happening::Asked(asking) => Some(asking.at),
-        Happening::StartsAgain(at) => Some(at),
+        Happening::Answered(answer) => (None, answer.as_str()),
+        Happening::Asked(asking) => (Some(asking.at), ""),
+        Happening::StartsAgain(at) => (Some(at), ""),
     }
 }
 
@@ -88,38 +91,20 @@ fn sent(alloc: Global) -> Result<Vec<Parcel>, Fail> {
 
 #[test]
 fn a_delivery_goes_where_it_is_sent_or_named(rt: HostRuntime) -> Result<(), Fail> {
-    let alloc = rt.alloc();
-    let sent = sent(alloc)?;
-    let alph = platform("ALPH")?;
-    let beta = platform("BETA")?;
-    assert_eq!(rt;
-        asked(comes_to(alloc, &[], sent.as_slice(), delivery(2, None))?),
-        Some(beta)
-    );
-    assert_eq!(rt;
-        asked(comes_to(alloc, &[], sent.as_slice(), delivery(2, Some(alph)))?),
-        Some(alph)
-    );
-    assert_eq!(rt;
-        asked(comes_to(alloc, &[], sent.as_slice(), delivery(1, Some(beta)))?),
-        Some(beta)
-    );
-    assert_eq!(rt;
-        word(comes_to(alloc, &[], sent.as_slice(), delivery(1, None))?),
-        "NO_MESSAGE"
-    );
-    assert_eq!(rt;
-        word(comes_to(alloc, &[], sent.as_slice(), delivery(3, Some(beta)))?),
-        "NO_MESSAGE"
-    );
-    assert_eq!(rt;
-        word(comes_to(alloc, &[], sent.as_slice(), Event::Show { number: 3 })?),
-        "NO_MESSAGE"
-    );
-    assert_eq!(rt;
-        word(comes_to(alloc, &[], sent.as_slice(), Event::Show { number: 1 })?),
-        "SHOWN"
-    );
+    let sent = sent(rt.alloc())?;
+    let (alph, beta) = (Some(platform("ALPH")?), Some(platform("BETA")?));
+    for (event, told) in [
+        (delivery(2, None), (beta, "")),
+        (delivery(2, alph), (alph, "")),
+        (delivery(1, beta), (beta, "")),
+        (delivery(1, None), (None, "NO_MESSAGE")),
+        (delivery(3, beta), (None, "NO_MESSAGE")),
+        (Event::Show { number: 3 }, (None, "NO_MESSAGE")),
+        (Event::Show { number: 1 }, (None, "SHOWN")),
+    ] {
+        let found = outcome(comes_to(rt.alloc(), &[], sent.as_slice(), event)?);
+        assert!(rt; found == told, "{}", told.1);
+    }
     Ok(())
 }
 
@@ -132,7 +117,10 @@ fn a_bill_is_named_by_its_number(rt: HostRuntime) -> Result<(), Fail> {
         at,
         bill: BillName::Number(number),
     };
-    assert_eq!(rt; word(comes_to(alloc, &signed, &[], ask(3))?), "NO_BILL");
+    assert_eq!(rt;
+        outcome(comes_to(alloc, &signed, &[], ask(3))?).1,
+        "NO_BILL"
+    );
     let Happening::Asked(asking) = comes_to(alloc, &signed, &[], ask(2))? else {
         return Err("asked")?;
     };
@@ -153,6 +141,6 @@ fn a_foreign_reply_for_an_unknown_number_has_no_bill(rt: HostRuntime) -> Result<
             text: ebl_base::CharList::from_text(alloc, "{}")?,
         },
     };
-    assert_eq!(rt; word(comes_to(alloc, &[], &[], reply)?), "NO_BILL");
+    assert_eq!(rt; outcome(comes_to(alloc, &[], &[], reply)?).1, "NO_BILL");
     Ok(())
 }
