@@ -2,6 +2,7 @@ mod RegisterLemmas
 mod StateLemmas
 mod FrameLemmas
 mod RoomLemmas
+mod KnownLemmas
 mod LookUpLemmas
 mod PastLemmas
 mod AddLemmas

@@ -14,6 +14,7 @@ ghost use Rattle.bill_diary.specs.Known.{taken_chain};
 ghost use Rattle.bill_diary.specs.Place.{is_left};
 ghost use Rattle.title_register.specs.Standing.{left_by, over_if, standing_of, standing_with, unless_shorter};
 
+use crate::known_chain::KnownChain;
 use crate::past::Past;
 use crate::standing::Standing;
 use bill_chain::{has_entry, last_link};
@@ -35,7 +36,7 @@ pub(crate) enum PartingChange {
 #[derive(Drop)]
 pub(crate) struct Change {
     /// The chain that is known now. `None` where it stays.
-    pub(crate) known: Option<Chain>,
+    pub(crate) known: Option<KnownChain>,
     pub(crate) parting: PartingChange,
     /// Whether the last entry of the known chain is settled now.
     pub(crate) left: bool,
@@ -65,7 +66,7 @@ pub(crate) fn signed(
         → IfOk result (λ c. standing_with c standing.now ≡ standing_of (Signed bill document transaction ∷ h)) }
 {
     let known = if standing.known.is_none() {
-        Some(Items::new(alloc))
+        Some(KnownChain::empty(alloc))
     } else {
         None
     };
@@ -227,7 +228,7 @@ fn over_if(over: bool) -> PartingChange
 }
 
 // A chain that is recorded, unless a longer one is known.
-fn unless_shorter(told: Option<Chain>, known: &Option<Chain>) -> Option<Chain>
+fn unless_shorter(told: Option<KnownChain>, known: &Option<KnownChain>) -> Option<KnownChain>
     ensures { result ≡ unless_shorter told known.now }
 {
     let chain = told?;
@@ -239,7 +240,7 @@ fn unless_shorter(told: Option<Chain>, known: &Option<Chain>) -> Option<Chain>
 }
 
 // Whether a chain is known that is longer than this one.
-fn is_longer(known: &Option<Chain>, chain: &[ChainLink]) -> bool
+fn is_longer(known: &Option<KnownChain>, chain: &[ChainLink]) -> bool
     ensures { result ≡ option_map_or (λ k. nat_lt (length chain.now) (length k)) known.now false }
 {
     match known {
@@ -250,9 +251,9 @@ fn is_longer(known: &Option<Chain>, chain: &[ChainLink]) -> bool
 
 /// The chain that is known after a change.
 pub(crate) fn known_now<'a>(
-    change: &'a Option<Chain>,
-    known: &'a Option<Chain>,
-) -> Option<&'a Chain>
+    change: &'a Option<KnownChain>,
+    known: &'a Option<KnownChain>,
+) -> Option<&'a KnownChain>
     ensures { option_copied result ≡ option_or change.now known.now }
 {
     match change {
@@ -271,12 +272,12 @@ fn is_left_with(entry: Checksum, chain: &[ChainLink], before: &Past<'_>) -> bool
     }
 }
 
-// A copy of a chain, if there is one.
-fn copy_of(alloc: Global, chain: Option<&Chain>) -> Result<Option<Chain>, NoMemory>
+// A copy of a chain, if there is one. It is folded.
+fn copy_of(alloc: Global, chain: Option<&Chain>) -> Result<Option<KnownChain>, NoMemory>
     ensures { IfOk result (λ same. same ≡ option_copied chain.entry) }
 {
     match chain {
-        Some(chain) => Ok(Some(chain.copy(alloc)?)),
+        Some(chain) => Ok(Some(KnownChain::of(chain.copy(alloc)?))),
         None => Ok(None),
     }
 }

@@ -7,6 +7,7 @@ mod change;
 mod documents;
 mod frame_key;
 mod frame_numbers;
+mod known_chain;
 mod past;
 mod place_ref;
 mod register;

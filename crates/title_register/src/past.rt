@@ -16,9 +16,10 @@ ghost use Rattle.title_register.specs.Past.{is_among};
 use crate::bill_state::BillState;
 use crate::frame_key::FrameKey;
 use crate::frame_numbers::FrameNumbers;
+use crate::known_chain::KnownChain;
 use bill_chain::{ends_in, last_link};
 use bill_diary::{Frame, History, Record, RecordRef, settled_chain};
-use ebl_base::{Chain, ChainLink, Checksum, Copied, NoMemory};
+use ebl_base::{Chain, ChainLink, Checksum, NoMemory};
 use envelope_manifest::Manifest;
 use std::alloc::Global;
 use std::marker::Model;
@@ -169,7 +170,7 @@ impl<'a> Past<'a> {
         &self,
         alloc: Global,
         entry: Checksum,
-    ) -> Result<Option<Chain>, NoMemory>
+    ) -> Result<Option<KnownChain>, NoMemory>
         ensures { IfOk result (λ chain. chain ≡ settled_chain entry self.now) }
     {
         let standing = &self.state.standing;
@@ -177,12 +178,12 @@ impl<'a> Past<'a> {
             if let Some(known) = &standing.known {
                 if let Some(link) = &standing.parting {
                     if link.name == entry {
-                        return Ok(Some(with_link(alloc, known, link)?));
+                        return Ok(Some(known.followed_by(alloc, link)?));
                     }
                 }
             }
         }
-        settled_chain(alloc, self.history(), entry)
+        Ok(settled_chain(alloc, self.history(), entry)?.map(KnownChain::of))
     }
 }
 
@@ -191,15 +192,6 @@ pub(crate) fn is_among(names: &[Checksum], name: Checksum) -> bool
     ensures { result ≡ is_among names.now name }
 {
     names.iter().any(|other| *other == name)
-}
-
-// A copy of a chain, followed by a copy of one link more.
-fn with_link(alloc: Global, chain: &Chain, link: &ChainLink) -> Result<Chain, NoMemory>
-    ensures { IfOk result (λ longer. longer ≡ chain.now ++ link.now ∷ []) }
-{
-    let mut longer = chain.copy(alloc)?;
-    longer.push(link.copy(alloc)?)?;
-    Ok(longer)
 }
 
 // What is wanted of a Begun.

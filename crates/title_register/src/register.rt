@@ -1,7 +1,7 @@
 //! The register: a diary, what is kept of each of its bills, and the numbers of its frames.
 #![tactic(auto, using(crate::proofs::RegisterLemmas::places, crate::proofs::StateLemmas::titles))]
 
-ghost use Rattle.std.specs.Prelude.{◌≡◌, ◌<◌, ◌∷◌, [], ◌++◌, None, OnErr, OnOk, Some, IsSome, count_by, is_some, option_and_then, option_copied, if◌then◌else◌};
+ghost use Rattle.std.specs.Prelude.{◌≡◌, ◌<◌, ◌∷◌, [], ◌++◌, None, IfErr, IfOk, OnErr, OnOk, Some, IsSome, count_by, is_some, option_and_then, option_copied, if◌then◌else◌};
 ghost use Rattle.std.specs.BTreeMap.{get};
 ghost use Rattle.std.specs.Vec.{vec_len, vec_capacity};
 ghost use Rattle.ebl_base.specs.Checksum.{checksum_cmp, checksum_eq};
@@ -146,7 +146,7 @@ impl Register {
         ensures { option_copied result ≡ known (history bill self.now.diary) }
     {
         match self.bills.get(&bill) {
-            Some(state) => state.standing.known.as_ref(),
+            Some(state) => state.standing.known(),
             None => None,
         }
     }
@@ -273,8 +273,9 @@ impl Register {
     /// Takes all memory that adding a frame needs. Room that was taken before is let go. Out of memory, the diary stays
     /// as it is, and no room is taken.
     ///
-    /// It folds the chain that is known from then on, and copies it where it is another one. It goes over the records
-    /// of the bill only where no sound diary comes to: a Settled whose entry isn't parting, entries with one reference.
+    /// A chain is folded and copied once, when it comes. Every other frame costs a fold of the transactions that follow
+    /// the known chain, at most one entry's; a Settled copies the chain that it leaves. It goes over the records of the
+    /// bill only where no sound diary comes to: a Settled whose entry isn't parting, entries with one reference.
     pub fn reserve(&mut self, alloc: Global, frame: &Frame) -> Result<(), NoMemory>
         ensures diary { self.new.diary ≡ self.old.diary }
         ensures ok { OnOk result (IsReadyFor frame.now self.new) }
@@ -292,13 +293,17 @@ impl Register {
         self.numbers.make_room(room.kept)?;
         self.numbers.make_room(room.came)?;
         self.numbers.make_room(room.taken)?;
-        let mut frames = mem::replace(&mut self.diary, Items::new(alloc)).into_vec();
-        let result = reserve_frame(&mut frames);
-        match result {
-            Ok(()) => self.reserved = Some(Reserved { frames, room }),
-            Err(NoMemory) => self.diary = Items::from_vec(frames),
+        let diary = mem::replace(&mut self.diary, Items::new(alloc));
+        match with_place(diary, room) {
+            Ok(reserved) => {
+                self.reserved = Some(reserved);
+                Ok(())
+            }
+            Err(diary) => {
+                self.diary = diary;
+                Err(NoMemory)
+            }
         }
-        result
     }
 
     /// Lets go of the room that was taken, if any was.
@@ -338,13 +343,18 @@ impl Register {
     }
 }
 
-// Reserves room for one more frame.
-fn reserve_frame(frames: &mut Vec<Frame>) -> Result<(), NoMemory>
-    ensures same { frames.new.items ≡ frames.old.items }
-    ensures ok { OnOk result (vec_len frames.new < vec_capacity frames.new) }
+// The frames of a diary with a place for one more, and the room for that one. Out of memory, the diary as it is.
+fn with_place(diary: Diary, room: Room) -> Result<Reserved, Diary>
+    ensures frames { IfOk result (λ r. r.frames.items ≡ diary) }
+    ensures room { IfOk result (λ r. r.room ≡ room) }
+    ensures place { IfOk result (λ r. vec_len r.frames < vec_capacity r.frames) }
+    ensures err { IfErr result (λ same. same ≡ diary) }
 {
-    frames.reserve(1)?;
-    Ok(())
+    let mut frames = diary.into_vec();
+    match frames.reserve(1) {
+        Ok(()) => Ok(Reserved { frames, room }),
+        Err(_) => Err(Items::from_vec(frames)),
+    }
 }
 
 // Puts a bill among some, where it isn't there, with a state that says that there is no record of it.

@@ -6,6 +6,7 @@ ghost use Rattle.title_register.specs.PlaceRef.{place_view};
 ghost use Rattle.title_register.specs.Standing.{nothing, parting_with, place_at, since_at, standing_with};
 
 use crate::change::{Change, PartingChange};
+use crate::known_chain::KnownChain;
 use crate::place_ref::PlaceRef;
 use ebl_base::{Chain, ChainLink, Items, PlaceTag, Transaction, TransactionList};
 use std::alloc::Global;
@@ -14,7 +15,7 @@ use std::alloc::Global;
 #[derive(Drop)]
 pub(crate) struct Standing {
     /// The chain that is known, if one is.
-    pub(crate) known: Option<Chain>,
+    pub(crate) known: Option<KnownChain>,
     /// The entry that is parting, if one is.
     pub(crate) parting: Option<ChainLink>,
     /// Whether the last entry of the known chain is settled.
@@ -43,6 +44,7 @@ impl Standing {
         let Some(known) = &self.known else {
             return PlaceRef::Absent;
         };
+        let known = known.chain();
         if let Some(entry) = &self.parting {
             return PlaceRef::Parting { known, entry };
         }
@@ -53,6 +55,16 @@ impl Standing {
                 known,
                 since: &self.since,
             }
+        }
+    }
+
+    /// The chain that is known, if one is.
+    pub(crate) fn known(&self) -> Option<&Chain>
+        ensures { option_copied result ≡ self.now.known }
+    {
+        match &self.known {
+            Some(known) => Some(known.chain()),
+            None => None,
         }
     }
 

@@ -5,13 +5,11 @@ ghost use Rattle.title_register.specs.Standing.{parting_with, standing_with};
 
 use crate::change::{Change, PartingChange, known_now};
 use crate::standing::Standing;
-use bill_chain::fold_after_chain;
-use bill_diary::title_after_chain;
 use ebl_base::{ChainLink, Transaction, TransactionList};
 use title_fold::{FoldRefusal, Title};
 
-/// The title at the place after a change, or the rule that refuses the first transaction that is refused. It folds the
-/// chain that is known then.
+/// The title at the place after a change, or the rule that refuses the first transaction that is refused. It goes on
+/// from the title after the chain that is known then, and folds no chain.
 pub(crate) fn title_after(
     standing: &Standing,
     change: &Change,
@@ -22,12 +20,12 @@ pub(crate) fn title_after(
         return Ok(None);
     };
     if let Some(link) = parting_now(&change.parting, &standing.parting) {
-        return fold_after_chain(chain.as_slice(), link.entry.transactions.as_slice());
+        return chain.title_with(link.entry.transactions.as_slice());
     }
     if change.left {
-        return title_after_chain(chain.as_slice());
+        return chain.title();
     }
-    fold_after_chain(chain.as_slice(), since_now(&change.since, &standing.since))
+    chain.title_with(since_now(&change.since, &standing.since))
 }
 
 // The entry that is parting after a change.

@@ -20,4 +20,4 @@ returns-then-eq c =
     let known_is : known h ≡ Some chain = sym (ap (λ (s : BillState). s.standing.known) state_is) ∙ c.in-Some.is in
     let fresh : is_fresh h ≡ true = sym (ap (λ (s : BillState). s.fresh) state_is) ∙ c.if-self.true in
     let named : checksum_eq link.name c.args.entry ≡ true = cc in
-    ap Some c.in_ok-with_link.ensures ∙ sym (parting_tells c.args.entry h link chain parting_is known_is fresh named)
+    ap Some c.in_ok-followed_by.ensures ∙ sym (parting_tells c.args.entry h link chain parting_is known_is fresh named)
