@@ -1,6 +1,8 @@
 -- How the title goes on from link to link.
 use Rattle.std.proofs.Common.{◌≡◌, ◌<◌, ◌+◌, ℕ, suc, List, [], ◌∷◌, ◌++◌, Option, Some, Result, Ok, Err, length, drop, get_or, refl, sym, ap, ◌∙◌, add-one}
 use Rattle.std.proofs.Math.Seq.{drop-cons}
+use Rattle.std.proofs.lemmas.List.{append-nil}
+use Rattle.std.proofs.lemmas.List.Concat.{flat_map-append}
 use Rattle.ebl_base.specs.declared.chain.ChainLink.{ChainLink}
 use Rattle.ebl_base.specs.declared.transaction.Transaction.{Transaction}
 use Rattle.title_fold.specs.declared.refusal.FoldRefusal.{FoldRefusal}
@@ -43,6 +45,13 @@ without_place-append front rest before =
     ∙ on_folded (fold_from front before 0) rest (0 + length front)
 
 -- ---- links
+
+-- the transactions of a chain and one link more
+pub transactions_of-push : (chain : List ChainLink) (link : ChainLink)
+    → transactions_of (chain ++ link ∷ []) ≡ transactions_of chain ++ link.entry.transactions
+transactions_of-push chain link =
+    flat_map-append (λ (l : ChainLink). l.entry.transactions) chain (link ∷ [])
+    ∙ ap (λ (ts : List Transaction). transactions_of chain ++ ts) (append-nil link.entry.transactions)
 
 -- what these links make of a title
 abbrev pub links_on : List ChainLink → Option Title → Result (Option Title) FoldRefusal

@@ -14,6 +14,7 @@ use Rattle.ebl_base.specs.declared.transaction.Transaction.{Transaction}
 use Rattle.envelope_manifest.specs.declared.manifest.Manifest.{Manifest}
 use Rattle.title_fold.specs.Fold.{fold}
 use Rattle.bill_chain.specs.Chain.{transactions_of, has_entry, platform_with}
+use Rattle.bill_chain.proofs.TitleLemmas.{transactions_of-push}
 use Rattle.bill_diary.specs.declared.record.Record.{Record}
 use Rattle.bill_diary.specs.declared.record.Record.TheVariants.{Signed, Acted, Parted, Settled, Regained, Taken}
 use Rattle.bill_diary.specs.declared.bill_place.BillPlace.{BillPlace}
@@ -29,7 +30,7 @@ use Rattle.closed_family.proofs.Chains.{HasLast, from_the_end, prefix_of, prefix
 use Rattle.closed_family.proofs.Linked.{among_append, has_entry-prefix, GoesBeyond, beyond}
 use Rattle.closed_family.proofs.Places.{longer_new, no_parting, still_parting, parting_over, parting_is_open, closed_cases, place_held, place_parting, place_gone, left_push}
 use Rattle.closed_family.proofs.Standing.{attempts, IsOn, CameBy, HasLeft, Fate, was_regained, went_on, is_parting, SomeParted, StandsHeld, StandsParting, StandsGone, StandsBy, IsUnknown, Stands, stands_held, stands_parting, gone_is_left}
-use Rattle.closed_family.proofs.Titles.{transactions_of-push, on_sign, on_more, MovesTo, moves_away, on_destination, on_none_since}
+use Rattle.closed_family.proofs.Titles.{on_sign, on_more, MovesTo, moves_away, on_destination, on_none_since}
 use Rattle.closed_family.proofs.Received.{IsReceived, received, taken_first, told_first}
 use Rattle.closed_family.proofs.Parted.{AreReceived, came_ours, not_left, not_over}
 

@@ -1,7 +1,7 @@
 -- Titles: whose turn it is after some transactions, and after one more.
 use Rattle.std.proofs.Common.{◌≡◌, Bool, true, false, List, [], ◌∷◌, ◌++◌, refl, sym, ap, subst, ◌∙◌}
 use Rattle.std.specs.Prelude.{Option, Some, None, Ok, Err, not}
-use Rattle.std.proofs.lemmas.List.{append_assoc}
+use Rattle.std.proofs.lemmas.List.{append-nil}
 use Rattle.ebl_base.specs.declared.chain.ChainLink.{ChainLink}
 use Rattle.ebl_base.specs.declared.kind.Kind.{Kind}
 use Rattle.ebl_base.specs.declared.kind.Kind.TheVariants.{Sign}
@@ -21,19 +21,6 @@ use Rattle.bill_chain.specs.Chain.{transactions_of, platform_with, destination}
 use Rattle.title_fold.proofs.StepLemmas.{allowed-step_title}
 use Rattle.title_fold.proofs.FoldLemmas.{fold-push-allowed}
 use Rattle.closed_family.proofs.Standing.{IsOn}
-
--- ---- the transactions of a chain
-
-append-none : (ts : List Transaction) → ts ++ [] ≡ ts
-append-none [] = refl
-append-none (t ∷ ts) = ap (λ (xs : List Transaction). t ∷ xs) (append-none ts)
-
-pub transactions_of-push : (K : List ChainLink) (e : ChainLink)
-    → transactions_of (K ++ e ∷ []) ≡ transactions_of K ++ e.entry.transactions
-transactions_of-push [] e = append-none e.entry.transactions
-transactions_of-push (x ∷ xs) e =
-    ap (λ (ts : List Transaction). x.entry.transactions ++ ts) (transactions_of-push xs e)
-    ∙ sym (append_assoc x.entry.transactions (transactions_of xs) e.entry.transactions)
 
 -- ---- a title on a platform
 
@@ -118,4 +105,4 @@ on_destination me c h = at (fold (transactions_of c)) refl h
 
 -- nothing made since
 pub on_none_since : (me : PlatformCode) (ts : List Transaction) → IsOn me ts → IsOn me (ts ++ [])
-on_none_since me ts on = subst (IsOn me) (sym (append-none ts)) on
+on_none_since me ts on = subst (IsOn me) (sym (append-nil ts)) on

@@ -1,7 +1,7 @@
 -- A bill that is parting has the record of its last Parted, and goes somewhere.
 use Rattle.std.proofs.Common.{◌≡◌, Bool, true, false, cond, List, [], ◌∷◌, ◌++◌, Option, Some, None, Ok, refl, ap, sym, subst, ◌∙◌}
 use Rattle.std.specs.Prelude.{option_map}
-use Rattle.std.proofs.lemmas.List.{append_assoc, append-nil}
+use Rattle.std.proofs.lemmas.List.{append_assoc}
 use Rattle.ebl_base.specs.Checksum.{checksum_eq}
 use Rattle.ebl_base.specs.declared.checksum.Checksum.{Checksum}
 use Rattle.ebl_base.specs.declared.chain.ChainLink.{ChainLink}
@@ -14,6 +14,7 @@ use Rattle.title_fold.specs.Title.{possessor}
 use Rattle.title_fold.specs.Fold.{fold}
 use Rattle.title_fold.proofs.FoldLemmas.{fold-push-allowed}
 use Rattle.bill_chain.specs.Chain.{destination, platform_with, transactions_of}
+use Rattle.bill_chain.proofs.TitleLemmas.{transactions_of-push}
 use Rattle.bill_diary.specs.declared.record.Record.{Record}
 use Rattle.bill_diary.specs.declared.record.Record.TheVariants.{Signed, Acted, Attached, Parted, Settled, Regained, Begun, Stored, Taken, Declined}
 use Rattle.bill_diary.specs.declared.bill_place.BillPlace.TheVariants.{Held, Parting}
@@ -98,13 +99,6 @@ found_of_its_bill bill (r ∷ records) x is =
     (checksum_eq-Decides (bill_of r) bill).0 refl (found_of_its_bill bill records x) is
 
 -- ---- where it goes
-
-transactions_of-push : (chain : List ChainLink) (link : ChainLink)
-    → transactions_of (chain ++ link ∷ []) ≡ transactions_of chain ++ link.entry.transactions
-transactions_of-push [] link = append-nil link.entry.transactions
-transactions_of-push (x ∷ xs) link =
-    ap (λ (ts : List Transaction). x.entry.transactions ++ ts) (transactions_of-push xs link)
-    ∙ sym (append_assoc x.entry.transactions (transactions_of xs) link.entry.transactions)
 
 abbrev pub Goes : List ChainLink → Type 0
 Goes chain = (to : PlatformCode) × (destination chain ≡ Some to)

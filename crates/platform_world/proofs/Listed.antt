@@ -47,7 +47,7 @@ use Rattle.transfer_judge.specs.Plan.{Plan, plan_of}
 use Rattle.transfer_judge.specs.declared.planned.Planned.TheVariants.{Nothing, Add, Part}
 use Rattle.transfer_judge.proofs.FollowLemmas.{goes_there}
 use Rattle.transfer_judge.proofs.LegalLemmas.{legal_is_sound}
-use Rattle.transfer_judge.proofs.ListedLemmas.{transactions_of-push}
+use Rattle.bill_chain.proofs.TitleLemmas.{transactions_of-push}
 use Rattle.platform_machine.specs.declared.step.Step.{Step}
 use Rattle.platform_machine.specs.Commanding.{FollowsPlan, IsParted, IsThere, manifest_for}
 use Rattle.platform_machine.specs.Hearing.{StepsAtAnswer, StepsAtRequest, StepsAtStartReply}

@@ -24,7 +24,7 @@ use Rattle.bill_diary.specs.Texts.{LinkIsItsText}
 use Rattle.bill_diary.specs.Sound.{IsSoundHistory, MayFollow, MayPart}
 use Rattle.bill_diary.proofs.PlaceLemmas.{stands}
 use Rattle.transfer_judge.specs.Legal.{AreLegal, FollowsLegally, PartsLegally}
-use Rattle.transfer_judge.proofs.ListedLemmas.{transactions_of-push}
+use Rattle.bill_chain.proofs.TitleLemmas.{transactions_of-push}
 use Rattle.closed_family.specs.declared.family.Member.{Member}
 use Rattle.closed_family.specs.Chains.{IsAmong}
 use Rattle.closed_family.specs.Histories.{PartedOn, is_parted}

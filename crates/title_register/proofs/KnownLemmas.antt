@@ -1,19 +1,11 @@
 -- The title after a known chain goes on from the title before it.
 use Rattle.std.proofs.Common.{◌≡◌, List, [], ◌∷◌, ◌++◌, None, sym, ap, ◌∙◌}
-use Rattle.std.proofs.lemmas.List.{append-nil}
-use Rattle.std.proofs.lemmas.List.Concat.{flat_map-append}
 use Rattle.ebl_base.specs.declared.chain.ChainLink.{ChainLink}
 use Rattle.ebl_base.specs.declared.transaction.Transaction.{Transaction}
 use Rattle.title_fold.specs.Fold.{fold}
 use Rattle.bill_chain.specs.Chain.{title_after_chain, transactions_of}
-use Rattle.bill_chain.proofs.TitleLemmas.{folded_on, without_place-append}
+use Rattle.bill_chain.proofs.TitleLemmas.{folded_on, transactions_of-push, without_place-append}
 use Rattle.bill_diary.specs.Titles.{FoldedBy, unplaced}
-
-transactions_of-push : (chain : List ChainLink) (link : ChainLink)
-    → transactions_of (chain ++ link ∷ []) ≡ transactions_of chain ++ link.entry.transactions
-transactions_of-push chain link =
-    flat_map-append (λ (l : ChainLink). l.entry.transactions) chain (link ∷ [])
-    ∙ ap (λ (ts : List Transaction). transactions_of chain ++ ts) (append-nil link.entry.transactions)
 
 -- the title after a chain and the transactions of an entry is that after the chain, followed by the entry
 pub title_of_longer : (chain longer : List ChainLink) (link : ChainLink) (transactions : List Transaction)

@@ -2,7 +2,6 @@
 use Rattle.std.proofs.Common.{◌≡◌, ◌≤◌, ◌+◌, ℕ, List, [], ◌∷◌, ◌++◌, Option, Some, None, Result, Ok, Err, length, refl, sym, ap, ◌∙◌, subst, arith, append_assoc, append-nil}
 use Rattle.std.specs.Prelude.{option_map}
 use Rattle.std.proofs.lemmas.List.{length-append}
-use Rattle.std.proofs.lemmas.List.Concat.{flat_map-append}
 use Rattle.std.proofs.lemmas.List.Elements.{All-head, All-tail}
 use Rattle.ebl_base.specs.declared.chain.ChainLink.{ChainLink}
 use Rattle.ebl_base.specs.declared.checksum.Checksum.{Checksum}
@@ -14,10 +13,11 @@ use Rattle.transport_document.specs.DocumentRecord.{DocumentRecord, bill_of}
 use Rattle.title_fold.specs.declared.refusal.FoldRefusal.{FoldRefusal}
 use Rattle.title_fold.specs.declared.title.Title.{Title}
 use Rattle.bill_chain.specs.Chain as chains
-use Rattle.bill_chain.specs.Chain.{last_of, last_name, transactions_of, title_after_chain, FollowsChain, FollowEachOther}
+use Rattle.bill_chain.specs.Chain.{last_of, last_name, transactions_of, title_after_chain, FollowEachOther}
 use Rattle.title_fold.specs.Fold.{fold, fold_from, fold_on, goes_on}
 use Rattle.title_fold.specs.Step.{step_title}
 use Rattle.bill_chain.proofs.ChainLemmas.{last_of-push}
+use Rattle.bill_chain.proofs.TitleLemmas.{transactions_of-push}
 use Rattle.title_fold.proofs.FoldLemmas.{fold-append, fold_from-elsewhere}
 use Rattle.transfer_chain.specs.Checked.{HaveTransactions}
 use Rattle.transfer_chain.specs.GoodChain.{first_actor}
@@ -32,13 +32,6 @@ use Rattle.transfer_chain.proofs.EntryLemmas.{IsBegun, Stands, EntryWrong, Entry
 -- the last name is that of the last link
 pub last_name-push : (front : List ChainLink) (link : ChainLink) → last_name (front ++ link ∷ []) ≡ Some link.name
 last_name-push front link = ap (λ last. option_map (λ (l : ChainLink). l.name) last) (last_of-push front link)
-
--- the transactions of a chain and one link more
-pub transactions_of-push : (front : List ChainLink) (link : ChainLink)
-    → transactions_of (front ++ link ∷ []) ≡ transactions_of front ++ link.entry.transactions
-transactions_of-push front link =
-    flat_map-append (λ (l : ChainLink). l.entry.transactions) front (link ∷ [])
-    ∙ ap (λ ts. transactions_of front ++ ts) (append-nil link.entry.transactions)
 
 -- the title after a chain and one link more
 pub title-push : (front : List ChainLink) (link : ChainLink) (before after : Option Title)

@@ -16,7 +16,7 @@ use Rattle.bill_diary.specs.Place.{place_of, title_at}
 use Rattle.bill_diary.specs.Searches.{last_parted_record}
 use Rattle.bill_diary.specs.Sound.{IsSound}
 use Rattle.bill_diary.proofs.HistoryLemmas.{history_of_sound}
-use Rattle.transfer_judge.proofs.ListedLemmas.{transactions_of-push}
+use Rattle.bill_chain.proofs.TitleLemmas.{transactions_of-push}
 use Rattle.platform_machine.specs.Transfer.{TransferRecord, IsUnderWay}
 use Rattle.platform_machine.proofs.TransferLemmas.{found_of_its_bill, parting_goes, parting_so}
 

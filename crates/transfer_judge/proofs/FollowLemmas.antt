@@ -1,6 +1,6 @@
 -- What a plan comes to may follow a legal diary.
-use Rattle.std.proofs.Common.{◌≡◌, ◌+◌, ◌≤◌, ◌<◌, ℕ, Bool, true, false, not, ◌||◌, ◌&&◌, cond, List, [], ◌∷◌, ◌++◌, Option, Some, None, Ok, Err, length, refl, sym, ap, subst, ◌∙◌, inl, inr, arith, length-append}
-use Rattle.std.specs.Prelude.{◌⊎◌, IfSome, count_by}
+use Rattle.std.proofs.Common.{◌≡◌, ◌+◌, ◌≤◌, ◌<◌, ℕ, Bool, true, false, not, ◌||◌, ◌&&◌, cond, List, [], ◌∷◌, ◌++◌, Option, Some, None, Ok, length, refl, sym, ap, subst, ◌∙◌, inl, inr, arith, length-append}
+use Rattle.std.specs.Prelude.{◌⊎◌, count_by}
 use Rattle.std.proofs.lemmas.List.{append_assoc}
 use Rattle.ebl_base.specs.PlatformCode.{code_eq, IsCode}
 use Rattle.ebl_base.specs.Party.{IsParty}
@@ -42,7 +42,8 @@ use Rattle.title_fold.specs.Movement.{moves}
 use Rattle.title_fold.specs.Allowed.{Allows}
 use Rattle.title_fold.proofs.StepLemmas.{step_title-allowed}
 use Rattle.title_fold.proofs.FoldLemmas.{fold-push-allowed}
-use Rattle.bill_chain.specs.Chain.{transactions_of, destination, platform_with}
+use Rattle.bill_chain.specs.Chain.{transactions_of, platform_with}
+use Rattle.bill_chain.proofs.TitleLemmas.{transactions_of-push}
 use Rattle.bill_diary.specs.declared.record.Record.{Record}
 use Rattle.bill_diary.specs.declared.record.Record.TheVariants.{Signed, Acted, Attached, Parted}
 use Rattle.bill_diary.specs.declared.frame.Frame.{Frame}
@@ -51,16 +52,16 @@ use Rattle.bill_diary.specs.declared.bill_place.BillPlace.TheVariants.{Held}
 use Rattle.bill_diary.specs.History.{bill_of, newest_first, of_bill, history}
 use Rattle.bill_diary.specs.Place.{place_of, is_ended}
 use Rattle.bill_diary.specs.Pieces.{pieces_of, lists}
-use Rattle.bill_diary.specs.Sound.{IsSound, IsSoundHistory, IsNotAgain, MayAct, MayAttach, is_parted, most_with}
+use Rattle.bill_diary.specs.Sound.{IsSound, IsNotAgain, is_parted}
 use Rattle.bill_diary.proofs.HistoryLemmas.{history_of_sound}
 use Rattle.transfer_judge.specs.Legal.{FollowsLegally, FollowsDiaryLegally, IsLegal, SignsLegally, PartsLegally}
 use Rattle.transfer_judge.specs.declared.planned.Planned.{Planned}
 use Rattle.transfer_judge.specs.declared.planned.Planned.TheVariants.{Nothing, Add, Part}
-use Rattle.transfer_judge.specs.Plan.{HasAttempts, plan_of, plan_ours, plan_sign, plan_act, plan_attach, transaction_by, entry_by, piece_by, missing_party, is_unknown, party_if}
-use Rattle.transfer_judge.specs.PlannedTexts.{IsHandedIn, Nests, IsLinkOf, IsManifestOf, GoesTo, IsListed}
+use Rattle.transfer_judge.specs.Plan.{HasAttempts, plan_of, plan_sign, plan_act, plan_attach, transaction_by, entry_by, piece_by, missing_party, is_unknown, party_if}
+use Rattle.transfer_judge.specs.PlannedTexts.{IsHandedIn, IsLinkOf, IsManifestOf, GoesTo, IsListed}
 use Rattle.transfer_judge.proofs.PlanLemmas.{past_ours, past_document, past_carrier, past_absent, one_planned, Moves, Stays, IsPlanned, act_planned, Attaches, IsAttached, attach_planned}
 use Rattle.transfer_judge.proofs.FormLemmas.{entry_form, documents_form, checksum_form}
-use Rattle.transfer_judge.proofs.ListedLemmas.{carrier_is_listed, transactions_of-push}
+use Rattle.transfer_judge.proofs.ListedLemmas.{carrier_is_listed}
 use Rattle.transfer_judge.proofs.LegalLemmas.{legal_is_sound}
 
 -- ---- one record

@@ -8,7 +8,6 @@ use Rattle.ebl_base.specs.declared.chain.ChainLink.{ChainLink}
 use Rattle.ebl_base.specs.declared.party.Party.{Party}
 use Rattle.ebl_base.specs.declared.platform_code.PlatformCode.{PlatformCode}
 use Rattle.ebl_base.specs.declared.transaction.Transaction.{Transaction}
-use Rattle.ebl_base.proofs.ChecksumLemmas.{checksum_eq-Decides}
 use Rattle.party_roster.specs.RosterRecord.{RosterRecord, carrier, has_platform}
 use Rattle.party_roster.specs.RosterForm.{IsRoster}
 use Rattle.signed_envelope.specs.KeyRing.{Keys}
@@ -17,7 +16,7 @@ use Rattle.title_fold.specs.Title as title
 use Rattle.title_fold.specs.Fold.{fold}
 use Rattle.title_fold.proofs.FoldLemmas.{fold-begun}
 use Rattle.bill_chain.specs.Chain.{ends_in, transactions_of}
-use Rattle.transfer_chain.specs.GoodChain.{IsBegunByCarrier}
+use Rattle.bill_chain.proofs.TitleLemmas.{transactions_of-push}
 use Rattle.transfer_chain.specs.GoodChain.{first_actor}
 use Rattle.bill_diary.specs.declared.record.Record.{Record}
 use Rattle.bill_diary.specs.declared.record.Record.TheVariants.{Signed, Acted, Attached, Parted, Settled, Regained, Begun, Stored, Taken, Declined}
@@ -53,17 +52,6 @@ starts_again : (roster : RosterRecord) (a b : List Transaction) (t : Transaction
     → StartsListed roster (a ++ (b ++ t ∷ []))
 starts_again roster a b t s =
     subst (StartsListed roster) (append_assoc a b (t ∷ [])) (starts_more roster (a ++ b) (t ∷ []) s)
-
-append_none : (ts : List Transaction) → ts ++ [] ≡ ts
-append_none [] = refl
-append_none (t ∷ ts) = ap (λ (xs : List Transaction). t ∷ xs) (append_none ts)
-
-pub transactions_of-push : (K : List ChainLink) (link : ChainLink)
-    → transactions_of (K ++ link ∷ []) ≡ transactions_of K ++ link.entry.transactions
-transactions_of-push [] link = append_none link.entry.transactions
-transactions_of-push (x ∷ xs) link =
-    ap (λ (ts : List Transaction). x.entry.transactions ++ ts) (transactions_of-push xs link)
-    ∙ sym (append_assoc x.entry.transactions (transactions_of xs) link.entry.transactions)
 
 -- ---- what the records say
 
