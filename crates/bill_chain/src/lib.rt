@@ -12,4 +12,4 @@ pub use laws::{
     added_link_is_the_last, added_link_is_there, chain_beyond_has_every_entry,
     entry_behind_a_front_is_there,
 };
-pub use title::{destination, fold_after_chain, possessor_after};
+pub use title::{destination, fold_after_chain, fold_more, possessor_after};

@@ -52,7 +52,9 @@ fn fold_links(chain: &[ChainLink]) -> Result<Option<Title>, FoldRefusal>
     Ok(title)
 }
 
-fn fold_more(list: &[Transaction], before: Option<Title>) -> Result<Option<Title>, FoldRefusal>
+/// The title after further transactions, made one after the other on a title; or the rule that refuses the first that
+/// is refused.
+pub fn fold_more(list: &[Transaction], before: Option<Title>) -> Result<Option<Title>, FoldRefusal>
     ensures { result ≡ without_place (fold_from list.now before 0) }
 {
     match fold_from(list, before, 0) {

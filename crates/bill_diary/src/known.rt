@@ -62,7 +62,7 @@ pub fn settled_chain(
     while let Some(record) = before.next() {
         if let RecordRef::Kept(Record::Parted { link, .. }) = record {
             if link.name == entry {
-                return with_link(alloc, known_chain(alloc, before)?, link);
+                return with_link(alloc, known_links(alloc, before)?, link);
             }
         }
     }
@@ -70,16 +70,16 @@ pub fn settled_chain(
 }
 
 // A chain, where there is one, followed by one link more.
-fn with_link(
+fn with_link<'a>(
     alloc: Global,
-    known: Option<Chain>,
-    link: &ChainLink,
+    known: Option<Links<'a>>,
+    link: &'a ChainLink,
 ) -> Result<Option<Chain>, NoMemory>
-    ensures { IfOk result (λ chain. chain ≡ option_map (λ chain. chain ++ link.now ∷ []) known) }
+    ensures { IfOk result (λ chain. chain ≡ option_map (λ chain. chain ++ link.now ∷ []) known.entry) }
 {
-    let Some(mut chain) = known else {
+    let Some(mut links) = known else {
         return Ok(None);
     };
-    chain.push(link.copy(alloc)?)?;
-    Ok(Some(chain))
+    links.push(link)?;
+    Ok(Some(links.chain(alloc)?))
 }

@@ -3,10 +3,11 @@ ghost use Rattle.std.specs.Prelude.{◌≡◌, ◌∷◌, [], ◌++◌, IfOk, On
 ghost use Rattle.title_fold.specs.Fold.{fold};
 ghost use Rattle.bill_chain.specs.Chain.{last_of, title_after_chain, transactions_of, without_place};
 
+use bill_chain::fold_more;
 use ebl_base::{Chain, ChainLink, Copied, Items, NoMemory, Transaction};
 use std::alloc::Global;
 use std::marker::Model;
-use title_fold::{FoldRefusal, Title, fold_from};
+use title_fold::{FoldRefusal, Title};
 
 /// A chain by references to its links.
 #[derive(Drop)]
@@ -89,7 +90,7 @@ impl<'a> Links<'a> {
         for link in &self.links {
             chain.push((*link).copy(alloc)?)?;
         }
-        Ok(chain)
+        Chain::from_vec(alloc, chain.into_vec())
     }
 }
 
@@ -106,10 +107,7 @@ fn title_with(links: &[&ChainLink], more: &[Transaction]) -> Result<Option<Title
     ensures { result ≡ without_place (fold (transactions_of (map (λ l. l.now) links.now) ++ more.now)) }
 {
     match title_after(links) {
-        Ok(title) => match fold_from(more, title, 0) {
-            Ok(after) => Ok(after),
-            Err(at) => Err(at.rule),
-        },
+        Ok(title) => fold_more(more, title),
         Err(rule) => Err(rule),
     }
 }
@@ -120,9 +118,9 @@ fn title_after(links: &[&ChainLink]) -> Result<Option<Title>, FoldRefusal>
 {
     let mut title = None;
     for link in links {
-        match fold_from(link.entry.transactions.as_slice(), title, 0) {
+        match fold_more(link.entry.transactions.as_slice(), title) {
             Ok(after) => title = after,
-            Err(at) => return Err(at.rule),
+            Err(rule) => return Err(rule),
         }
     }
     Ok(title)

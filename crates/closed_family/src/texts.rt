@@ -10,7 +10,7 @@ use crate::family::{Family, Member};
 use bill_diary::{Diary, Frame, Record};
 use canonical_json::write;
 use document_checksum::checksum;
-use ebl_base::{ByteList, Chain, Checksum, NoMemory};
+use ebl_base::{ByteList, Chain, Checksum, NoMemory, SharedBytes};
 use envelope_manifest::{Body, BodyFault};
 use std::alloc::Global;
 use std::marker::Model;
@@ -21,7 +21,7 @@ pub enum Text<'a> {
     /// Those that stand in a record.
     Lent(&'a [u8]),
     /// Those that were written out of a body.
-    Made(ByteList),
+    Made(SharedBytes),
 }
 
 impl<'a> Text<'a> {
@@ -146,14 +146,14 @@ fn push_record<'a>(
     ensures { OnOk result (texts.new.items ≡ texts.old.items ++ map named (texts_of source.now)) }
 {
     match source {
-        Record::Signed { document, .. } => push_lent(texts, document),
+        Record::Signed { document, .. } => push_lent(texts, document.as_slice()),
         Record::Parted {
             link,
             manifest_text,
             ..
         } => {
-            push_lent(texts, &link.text.0)?;
-            push_lent(texts, &manifest_text.0)
+            push_lent(texts, link.text.0.as_slice())?;
+            push_lent(texts, manifest_text.0.as_slice())
         }
         Record::Begun { chain, body, .. } => {
             push_body(alloc, texts, body)?;
@@ -163,10 +163,10 @@ fn push_record<'a>(
     }
 }
 
-fn push_lent<'a>(texts: &mut Vec<NamedText<'a>>, bytes: &'a ByteList) -> Result<(), NoMemory>
+fn push_lent<'a>(texts: &mut Vec<NamedText<'a>>, bytes: &'a [u8]) -> Result<(), NoMemory>
     ensures { OnOk result (texts.new.items ≡ texts.old.items ++ named bytes.now ∷ []) }
 {
-    texts.push(NamedText::of(Text::Lent(bytes.as_slice())))?;
+    texts.push(NamedText::of(Text::Lent(bytes)))?;
     Ok(())
 }
 
@@ -175,7 +175,7 @@ fn push_chain<'a>(texts: &mut Vec<NamedText<'a>>, chain: &'a Chain) -> Result<()
         ≡ texts.old.items ++ map named (map (λ link. link.text.0) chain.now)) }
 {
     for link in chain.as_slice() {
-        push_lent(texts, &link.text.0)?;
+        push_lent(texts, link.text.0.as_slice())?;
     }
     Ok(())
 }
@@ -193,6 +193,7 @@ fn push_body(
         return Ok(());
     };
     let document = write(alloc, &body.document)?;
+    let document = SharedBytes::from_vec(alloc, document.into_vec())?;
     texts.push(NamedText::of(Text::Made(document)))?;
     texts.push(NamedText::of(Text::Made(body.manifest.0)))?;
     Ok(())

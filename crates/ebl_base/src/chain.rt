@@ -1,8 +1,9 @@
 //! Entries with their signed texts, in a list from the first.
 use crate::checksum::Checksum;
 use crate::entry::Entry;
-use crate::items::{Copied, Items};
+use crate::items::Copied;
 use crate::no_memory::NoMemory;
+use crate::shared_items::SharedItems;
 use crate::signed_text::SignedText;
 use std::alloc::Global;
 
@@ -18,7 +19,9 @@ pub struct ChainLink {
 }
 
 /// The entries of a bill from the first, each at the platform to which the one before it moved possession.
-pub type Chain = Items<ChainLink>;
+///
+/// A chain never changes, and its entries stand once: in a frame, beside it and wherever else it is kept.
+pub type Chain = SharedItems<ChainLink>;
 
 impl Copied for ChainLink {
     fn copy(&self, alloc: Global) -> Result<Self, NoMemory> {

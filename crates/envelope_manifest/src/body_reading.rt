@@ -30,7 +30,7 @@ fn parts_of(alloc: Global, mut members: Vec<Member>) -> Result<Body, BodyFault>
     let Some(document) = take_object(&mut members, "document") else {
         return Err(BodyFault::BodyForm(BodyField::Document));
     };
-    let Some(manifest) = take_text(&mut members, "manifest") else {
+    let Some(manifest) = take_text(alloc, &mut members, "manifest")? else {
         return Err(BodyFault::BodyForm(BodyField::Manifest));
     };
     let Some(chain) = take_texts(alloc, &mut members, "chain")? else {
@@ -54,11 +54,19 @@ fn take_object(members: &mut Vec<Member>, name: &str) -> Option<Json>
     }
 }
 
-fn take_text(members: &mut Vec<Member>, name: &str) -> Option<SignedText>
-    ensures value { result ≡ option_and_then signed_in (under name.now (members_view members.old.items)) }
+fn take_text(
+    alloc: Global,
+    members: &mut Vec<Member>,
+    name: &str,
+) -> Result<Option<SignedText>, NoMemory>
+    ensures value { IfOk result (λ found. found
+        ≡ option_and_then signed_in (under name.now (members_view members.old.items))) }
     ensures rest { members_view members.new.items ≡ without name.now (members_view members.old.items) }
 {
-    signed_in(take_member(members, name)?)
+    match take_member(members, name) {
+        Some(json) => signed_in(alloc, json),
+        None => Ok(None),
+    }
 }
 
 fn take_texts(
@@ -80,7 +88,7 @@ fn all_signed_in(alloc: Global, items: Vec<Json>) -> Result<Option<TextList>, No
 {
     let mut texts = Vec::with_capacity(alloc, items.len())?;
     for item in items {
-        let Some(text) = signed_in(item) else {
+        let Some(text) = signed_in(alloc, item)? else {
             return Ok(None);
         };
         texts.push(text)?;
@@ -88,11 +96,14 @@ fn all_signed_in(alloc: Global, items: Vec<Json>) -> Result<Option<TextList>, No
     Ok(Some(TextList::from_vec(texts)))
 }
 
-fn signed_in(json: Json) -> Option<SignedText>
-    ensures { result ≡ signed_in (view json) }
+fn signed_in(alloc: Global, json: Json) -> Result<Option<SignedText>, NoMemory>
+    ensures { IfOk result (λ found. found ≡ signed_in (view json)) }
 {
     match json {
-        Json::Text(text) => Some(SignedText(ByteList::from_vec(text.into_string().into_bytes()))),
-        _ => None,
+        Json::Text(text) => {
+            let bytes = ByteList::from_vec(text.into_string().into_bytes());
+            Ok(Some(SignedText::from_bytes(alloc, bytes)?))
+        }
+        _ => Ok(None),
     }
 }

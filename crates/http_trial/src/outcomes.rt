@@ -64,6 +64,6 @@ fn answer(alloc: Global, code: Code) -> Result<Reply, NoMemory> {
             theirs: None,
         },
     };
-    let text = SignedText(ByteList::from_slice(alloc, b"a.b.c")?);
+    let text = SignedText::from_bytes(alloc, ByteList::from_slice(alloc, b"a.b.c")?)?;
     Ok(Reply::Answer { response, text })
 }

@@ -145,10 +145,9 @@ fn body_in(outcome: Outcome) -> Option<ByteList> {
 }
 
 // The signed answer in an outcome.
-fn answer_in(outcome: Outcome) -> Option<ByteList> {
-    let Outcome { reply, .. } = outcome;
-    match reply {
-        Reply::Answer { text, .. } => Some(text.0),
+fn answer_in(alloc: Global, outcome: &Outcome) -> Option<ByteList> {
+    match &outcome.reply {
+        Reply::Answer { text, .. } => ByteList::from_slice(alloc, text.0.as_slice()).ok(),
         _ => None,
     }
 }
@@ -186,7 +185,7 @@ fn settle<D: Disk + Drop, R: Wait>(
         Request::Start { body },
         replies,
     )?;
-    let Some(bytes) = answer_in(taken) else {
+    let Some(bytes) = answer_in(alloc, &taken) else {
         return Some(());
     };
     let request = Request::StartReply { bill, bytes };

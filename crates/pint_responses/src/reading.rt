@@ -172,7 +172,7 @@ fn optional_signed(
     match member_of(json, name) {
         Some(Json::Text(text)) => {
             let bytes = ByteList::from_slice(alloc, text.as_str().as_bytes())?;
-            Ok(Ok(Some(SignedText(bytes))))
+            Ok(Ok(Some(SignedText::from_bytes(alloc, bytes)?)))
         }
         Some(_) => Ok(Err(Malformed)),
         None => Ok(Ok(None)),

@@ -210,10 +210,10 @@ fn reply_content(alloc: Global, kind: ReplyKind, reply: &Reply) -> Result<Option
             Ok(Some(Content::StartReply { bytes }))
         }
         (ReplyKind::Start, Reply::Answer { text, .. }) => Ok(Some(Content::StartReply {
-            bytes: text.0.copy(alloc)?,
+            bytes: ByteList::from_slice(alloc, text.0.as_slice())?,
         })),
         (ReplyKind::Finish, Reply::Answer { text, .. }) => Ok(Some(Content::FinishReply {
-            bytes: text.0.copy(alloc)?,
+            bytes: ByteList::from_slice(alloc, text.0.as_slice())?,
         })),
         _ => Ok(None),
     }

@@ -136,7 +136,8 @@ fn compact_of(alloc: Global, bytes: &[u8]) -> Result<Option<SignedText>, NoMemor
     ensures { IfOk result (Finds (IsCompactOf bytes.now)) }
 {
     if is_compact(alloc, bytes, MAX_SIGNED_TEXT)? {
-        Ok(Some(SignedText(ByteList::from_slice(alloc, bytes)?)))
+        let bytes = ByteList::from_slice(alloc, bytes)?;
+        Ok(Some(SignedText::from_bytes(alloc, bytes)?))
     } else {
         Ok(None)
     }

@@ -112,7 +112,7 @@ fn parted(alloc: Global, fields: &[u8]) -> Result<Option<Record>, NoMemory>
 fn signed_text(alloc: Global, bytes: &[u8]) -> Result<SignedText, NoMemory>
     ensures { IfOk result (λ text. text.0 ≡ bytes.now) }
 {
-    Ok(SignedText(ByteList::from_slice(alloc, bytes)?))
+    SignedText::from_bytes(alloc, ByteList::from_slice(alloc, bytes)?)
 }
 
 // The names of a bill and an entry that the fields are.

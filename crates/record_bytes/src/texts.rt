@@ -239,5 +239,5 @@ fn links_of(alloc: Global, texts: Vec<SignedText>) -> Result<Option<Chain>, NoMe
         };
         links.push(link)?;
     }
-    Ok(Some(Chain::from_vec(links)))
+    Ok(Some(Chain::from_vec(alloc, links)?))
 }

@@ -1,8 +1,8 @@
 //! A register whose bills are told by numbers. The texts of its records are empty.
 use bill_diary::{Frame, Record};
 use ebl_base::{
-    Chain, ChainLink, Checksum, Entry, Items, Kind, Moment, NoMemory, Party, SignedText,
-    Transaction,
+    Chain, ChainLink, Checksum, Entry, Items, Kind, Moment, NoMemory, Party, SharedBytes,
+    SignedText, Transaction,
 };
 use envelope_manifest::Manifest;
 use std::alloc::Global;
@@ -82,7 +82,7 @@ impl Bills {
             (self.importer.platform, Items::from_slice(alloc, &[back])?)
         };
         Ok(ChainLink {
-            text: SignedText(Items::new(alloc)),
+            text: SignedText(SharedBytes::new()),
             name: name(bill, number),
             entry: Entry {
                 platform,
@@ -124,7 +124,7 @@ impl Bills {
             bill,
             link: self.link(alloc, number, 1).ok()?,
             manifest: manifest(alloc, bill, entry),
-            manifest_text: SignedText(Items::new(alloc)),
+            manifest_text: SignedText(SharedBytes::new()),
         };
         self.write(alloc, Frame::One(parted)).ok()?;
         if events == 2 {
@@ -157,11 +157,11 @@ impl Bills {
 
     // The chain by which the bill of this number comes back.
     fn chain(&self, alloc: Global, number: u32) -> Result<Chain, NoMemory> {
-        let mut chain = Items::new(alloc);
+        let mut links = Vec::new(alloc);
         for before in 0..self.entries {
-            chain.push(self.link(alloc, number, before + 1)?)?;
+            links.push(self.link(alloc, number, before + 1)?)?;
         }
-        Ok(chain)
+        Chain::from_vec(alloc, links)
     }
 
     /// Whether a look-up of a bill finds something, as a number; 0 where no look-up has this number.

@@ -5,7 +5,7 @@ ghost use Rattle.holder_commands.specs.Form.{IsCommand};
 ghost use Rattle.transfer_judge.specs.PlannedTexts.{Nests};
 
 use crate::texts::{acting, party, roster, signing};
-use ebl_base::{Checksum, Code, Moment, Party, PlaceTag, PlatformCode, SignedText};
+use ebl_base::{ByteList, Checksum, Code, Moment, Party, PlaceTag, PlatformCode, SignedText};
 use holder_commands::Command;
 use platform_requests::{Message, MessageList, Outcome, Reply, Request};
 use std::alloc::Global;
@@ -106,7 +106,7 @@ impl Pair {
 
     // The answer comes to ALPH, which has the bill no more.
     fn settle(&mut self, alloc: Global, bill: Checksum, reply: SignedText) -> Option<()> {
-        let bytes = reply.0;
+        let bytes = ByteList::from_slice(alloc, reply.0.as_slice()).ok()?;
         let Outcome { reply, .. } = self.alph.take(
             alloc,
             Moment::try_new(3000)?,

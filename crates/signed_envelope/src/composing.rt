@@ -50,7 +50,8 @@ pub fn compose<G: KeyRing>(
     if text.len() > most {
         return Err(ComposeFault::TooLong);
     }
-    Ok(SignedText(ByteList::from_vec(text.into_bytes())))
+    let bytes = ByteList::from_vec(text.into_bytes());
+    Ok(SignedText::from_bytes(alloc, bytes)?)
 }
 
 // The text that is signed.

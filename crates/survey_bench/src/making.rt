@@ -52,7 +52,7 @@ fn send(alloc: Global, diary: &mut Diary, number: u16) -> Option<()> {
             bill,
             link,
             manifest: manifest(alloc, bill, entry),
-            manifest_text: SignedText(text(alloc, b'm', number)?),
+            manifest_text: SignedText::from_bytes(alloc, text(alloc, b'm', number)?).ok()?,
         }))
         .ok()?;
     diary
@@ -66,8 +66,7 @@ fn take(alloc: Global, diary: &mut Diary, number: u16) -> Option<()> {
     let bill = name(0, number);
     let link = link(alloc, number)?;
     let manifest = manifest(alloc, bill, link.name);
-    let mut chain = Chain::new(alloc);
-    chain.push(link).ok()?;
+    let chain = Chain::new().followed_by(alloc, link).ok()?;
     diary
         .push(Frame::BegunTaken(Record::Begun {
             bill,
@@ -92,7 +91,7 @@ fn link(alloc: Global, number: u16) -> Option<ChainLink> {
         .push(transaction(Kind::Transfer, b"ALPH/EXPORT", Some(b"BETA/IMPORT"))?)
         .ok()?;
     Some(ChainLink {
-        text: SignedText(text(alloc, b'e', number)?),
+        text: SignedText::from_bytes(alloc, text(alloc, b'e', number)?).ok()?,
         name: name(1, number),
         entry: Entry {
             platform: PlatformCode::try_new(b"ALPH")?,

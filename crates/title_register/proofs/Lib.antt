@@ -6,3 +6,4 @@ mod KnownLemmas
 mod LookUpLemmas
 mod PastLemmas
 mod AddLemmas
+mod ChangeLemmas

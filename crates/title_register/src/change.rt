@@ -66,7 +66,7 @@ pub(crate) fn signed(
         → IfOk result (λ c. standing_with c standing.now ≡ standing_of (Signed bill document transaction ∷ h)) }
 {
     let known = if standing.known.is_none() {
-        Some(KnownChain::empty(alloc))
+        Some(KnownChain::empty())
     } else {
         None
     };
@@ -143,10 +143,7 @@ pub(crate) fn settled(
         → IfOk result (λ c. standing_with c standing.now ≡ standing_of (Settled bill entry ∷ before.now)) }
 {
     let known = unless_shorter(before.settled_chain(alloc, entry)?, &standing.known);
-    let left = match known_now(&known, &standing.known) {
-        Some(chain) => is_left_with(entry, chain.as_slice(), before),
-        None => false,
-    };
+    let left = left_with(entry, known_now(&known, &standing.known), before);
     Ok(Change {
         known,
         parting: over_if(names(&standing.parting, entry)),
@@ -180,7 +177,7 @@ pub(crate) fn taken(
         → ((some_chain : List ChainLink) → is_left some_chain h ≡ is_left some_chain before.now)
         → IfOk result (λ c. standing_with c standing.now ≡ standing_of (Taken bill entry ∷ h)) }
 {
-    let known = unless_shorter(copy_of(alloc, chain)?, &standing.known);
+    let known = unless_shorter(shared(alloc, chain)?, &standing.known);
     let left = match known_now(&known, &standing.known) {
         Some(chain) => before.is_left(chain.as_slice()),
         None => false,
@@ -262,6 +259,17 @@ pub(crate) fn known_now<'a>(
     }
 }
 
+// Whether the last entry of the chain that is known, if one is, is settled, with a further Settled.
+fn left_with(entry: Checksum, known: Option<&KnownChain>, before: &Past<'_>) -> bool
+    ensures { (bill : Checksum)
+        → result ≡ left_by (option_copied known.entry) (Settled bill entry ∷ before.now) }
+{
+    match known {
+        Some(chain) => is_left_with(entry, chain.as_slice(), before),
+        None => false,
+    }
+}
+
 // Whether the last entry of a chain is settled, with a further Settled.
 fn is_left_with(entry: Checksum, chain: &[ChainLink], before: &Past<'_>) -> bool
     ensures { (bill : Checksum) → result ≡ is_left chain.now (Settled bill entry ∷ before.now) }
@@ -272,8 +280,8 @@ fn is_left_with(entry: Checksum, chain: &[ChainLink], before: &Past<'_>) -> bool
     }
 }
 
-// A copy of a chain, if there is one. It is folded.
-fn copy_of(alloc: Global, chain: Option<&Chain>) -> Result<Option<KnownChain>, NoMemory>
+// The same chain, if there is one, with the title after it.
+fn shared(alloc: Global, chain: Option<&Chain>) -> Result<Option<KnownChain>, NoMemory>
     ensures { IfOk result (λ same. same ≡ option_copied chain.entry) }
 {
     match chain {

@@ -4,11 +4,12 @@ ghost use Rattle.title_fold.specs.Fold.{fold};
 ghost use Rattle.bill_chain.specs.Chain.{title_after_chain, transactions_of};
 ghost use Rattle.bill_diary.specs.Titles.{unplaced};
 
+use bill_chain::fold_more;
 use bill_diary::title_after_chain;
-use ebl_base::{Chain, ChainLink, Copied, Items, NoMemory, Transaction};
+use ebl_base::{Chain, ChainLink, Copied, NoMemory, Transaction};
 use std::alloc::Global;
 use std::marker::Model;
-use title_fold::{FoldRefusal, Title, fold_from};
+use title_fold::{FoldRefusal, Title};
 
 /// A chain that is known. The title after it is kept beside it, so that what is done on the bill afterwards never folds
 /// the chain again. Contracts see the chain.
@@ -34,11 +35,11 @@ impl Model for KnownChain {
 
 impl KnownChain {
     /// The chain without an entry.
-    pub(crate) fn empty(alloc: Global) -> Self
+    pub(crate) fn empty() -> Self
         ensures { result ≡ [] }
     {
         KnownChain {
-            chain: Items::new(alloc),
+            chain: Chain::new(),
             title: Ok(None),
         }
     }
@@ -51,13 +52,13 @@ impl KnownChain {
         KnownChain { chain, title }
     }
 
-    /// Copies of this chain and of an entry that follows it. Only the entry's transactions are folded.
+    /// This chain, followed by an entry. The texts of both stay where they are, and only the entry's transactions are
+    /// folded.
     pub(crate) fn followed_by(&self, alloc: Global, link: &ChainLink) -> Result<Self, NoMemory>
         ensures { IfOk result (λ longer. longer ≡ self.now ++ link.now ∷ []) }
     {
         let title = self.title_with(link.entry.transactions.as_slice());
-        let mut chain = self.chain.copy(alloc)?;
-        chain.push(link.copy(alloc)?)?;
+        let chain = self.chain.followed_by(alloc, link.copy(alloc)?)?;
         Ok(KnownChain { chain, title })
     }
 
@@ -94,10 +95,7 @@ impl KnownChain {
         ensures { result ≡ unplaced (fold (transactions_of self.now ++ more.now)) }
     {
         match self.title {
-            Ok(title) => match fold_from(more, title, 0) {
-                Ok(after) => Ok(after),
-                Err(at) => Err(at.rule),
-            },
+            Ok(title) => fold_more(more, title),
             Err(rule) => Err(rule),
         }
     }

@@ -14,10 +14,11 @@ ghost use Rattle.bill_diary.specs.Receiving.{declines, is_taken, last_declined};
 ghost use Rattle.bill_diary.specs.Searches.{bytes_in, first_bytes, last_body, last_parted_record, signed_text};
 ghost use Rattle.bill_diary.specs.Sound.{has_reference, is_parted, last_with_reference};
 ghost use Rattle.bill_diary.specs.Titles.{unplaced};
+ghost use Rattle.title_register.specs.declared.frame_key.FrameKey.{FrameKey};
 ghost use Rattle.title_register.specs.BillState.{state_with};
-ghost use Rattle.title_register.specs.Frames.{body_begun, brings_to, declination, document_signed, first_number, for_bill, has, is_begun, is_signed, last_number, record_numbered};
+ghost use Rattle.title_register.specs.Frames.{body_begun, brings_to, declination, document_signed, first_number, for_bill, has, is_begun, is_signed, last_number, number_in, record_numbered};
 ghost use Rattle.title_register.specs.PlaceRef.{place_view};
-ghost use Rattle.title_register.specs.Register.{IsReadyFor, state_in};
+ghost use Rattle.title_register.specs.Register.{HasRoom, IsReadyFor, state_in};
 ghost use Rattle.title_register.specs.Standing.{since_at};
 
 use crate::bill_state::{BillState, StateChange};
@@ -273,9 +274,10 @@ impl Register {
     /// Takes all memory that adding a frame needs. Room that was taken before is let go. Out of memory, the diary stays
     /// as it is, and no room is taken.
     ///
-    /// A chain is folded and copied once, when it comes. Every other frame costs a fold of the transactions that follow
-    /// the known chain, at most one entry's; a Settled copies the chain that it leaves. It goes over the records of the
-    /// bill only where no sound diary comes to: a Settled whose entry isn't parting, entries with one reference.
+    /// A chain is folded once, when it comes, and shared with its frame. Every other frame costs a fold of the
+    /// transactions that follow the known chain, at most one entry's; for a Settled a longer list of links is made,
+    /// which shares their texts. It goes over the records of the bill only where no sound diary comes to: a Settled
+    /// whose entry isn't parting, entries with one reference.
     pub fn reserve(&mut self, alloc: Global, frame: &Frame) -> Result<(), NoMemory>
         ensures diary { self.new.diary ≡ self.old.diary }
         ensures ok { OnOk result (IsReadyFor frame.now self.new) }
@@ -289,10 +291,7 @@ impl Register {
             &self.numbers,
             frame,
         )?;
-        ensure_key(alloc, &mut self.bills, room.bill)?;
-        self.numbers.make_room(room.kept)?;
-        self.numbers.make_room(room.came)?;
-        self.numbers.make_room(room.taken)?;
+        let room = with_keys(alloc, &mut self.bills, &mut self.numbers, room)?;
         let diary = mem::replace(&mut self.diary, Items::new(alloc));
         match with_place(diary, room) {
             Ok(reserved) => {
@@ -341,6 +340,50 @@ impl Register {
             put(alloc, &mut self.bills, bill, change);
         }
     }
+}
+
+// The room of a frame, once its bill and its keys are among those that are kept. Nothing that is kept changes, out of
+// memory neither.
+fn with_keys(
+    alloc: Global,
+    bills: &mut BTreeMap<Checksum, BillState>,
+    numbers: &mut FrameNumbers,
+    room: Room,
+) -> Result<Room, NoMemory>
+    ensures states { (other : Checksum) → state_in bills.new other ≡ state_in bills.old other }
+    ensures numbers { (other : FrameKey)
+        → number_in numbers.new.numbers other ≡ number_in numbers.old.numbers other }
+    ensures same { IfOk result (λ r. r ≡ room) }
+    ensures bill { IfOk result (λ r. IsSome (get checksum_cmp bills.new r.bill)) }
+    ensures kept { IfOk result (λ r. HasRoom numbers.new r.kept) }
+    ensures came { IfOk result (λ r. HasRoom numbers.new r.came) }
+    ensures taken { IfOk result (λ r. HasRoom numbers.new r.taken) }
+{
+    match ensure_keys(alloc, bills, numbers, &room) {
+        Ok(()) => Ok(room),
+        Err(no_memory) => Err(no_memory),
+    }
+}
+
+// Puts a frame's bill and its keys among those that are kept, where they aren't there.
+fn ensure_keys(
+    alloc: Global,
+    bills: &mut BTreeMap<Checksum, BillState>,
+    numbers: &mut FrameNumbers,
+    room: &Room,
+) -> Result<(), NoMemory>
+    ensures states { (other : Checksum) → state_in bills.new other ≡ state_in bills.old other }
+    ensures numbers { (other : FrameKey)
+        → number_in numbers.new.numbers other ≡ number_in numbers.old.numbers other }
+    ensures bill { OnOk result (IsSome (get checksum_cmp bills.new room.now.bill)) }
+    ensures kept { OnOk result (HasRoom numbers.new room.now.kept) }
+    ensures came { OnOk result (HasRoom numbers.new room.now.came) }
+    ensures taken { OnOk result (HasRoom numbers.new room.now.taken) }
+{
+    ensure_key(alloc, bills, room.bill)?;
+    numbers.make_room(room.kept)?;
+    numbers.make_room(room.came)?;
+    numbers.make_room(room.taken)
 }
 
 // The frames of a diary with a place for one more, and the room for that one. Out of memory, the diary as it is.

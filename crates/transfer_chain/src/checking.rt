@@ -45,7 +45,10 @@ pub fn check<G: KeyRing>(
     };
     let carrier = roster.carrier(document.provider(), document.code());
     match pass(carrier, document.bill(), links.as_slice()) {
-        Ok(_) => Ok(Chain::from_vec(links)),
+        Ok(_) => {
+            let chain = Chain::from_vec(alloc, links)?;
+            Ok(chain)
+        }
         Err(refusal) => Err(refusal),
     }
 }

@@ -115,7 +115,11 @@ fn frame_at_start(
             let begun = news(alloc, register, shown)?;
             frame_for(alloc, begun, subject, judgement)
         }
-        _ => frame_for(alloc, None, subject, judgement),
+        _ => {
+            // A call: a value that one arm alone moves is dropped field by field, which is long to prove.
+            drop(shown);
+            frame_for(alloc, None, subject, judgement)
+        }
     }
 }
 

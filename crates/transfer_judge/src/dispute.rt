@@ -19,9 +19,9 @@ pub(crate) fn dispute(
     match place {
         BillPlace::Absent => Ok(None),
         BillPlace::Held { known, .. } => Ok(Some(evidence(alloc, &known, shown)?)),
-        BillPlace::Parting { mut known, entry } => {
-            known.push(entry)?;
-            unless_beyond(alloc, &known, shown)
+        BillPlace::Parting { known, entry } => {
+            let own = known.followed_by(alloc, entry)?;
+            unless_beyond(alloc, &own, shown)
         }
         BillPlace::Gone { known } => unless_beyond(alloc, &known, shown),
     }

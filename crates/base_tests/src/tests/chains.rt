@@ -5,7 +5,7 @@ use bill_chain::{
     possessor_after,
 };
 use ebl_base::{
-    ByteList, Chain, ChainLink, Checksum, Entry, Kind, Moment, Party, SignedText, Transaction,
+    Chain, ChainLink, Checksum, Entry, Kind, Moment, Party, SharedBytes, SignedText, Transaction,
     TransactionList,
 };
 use std::alloc::Global;
@@ -29,7 +29,7 @@ fn act(kind: Kind, actor: &[u8], recipient: Option<&[u8]>) -> Result<Transaction
 fn link(alloc: Global, name: u8, transactions: &[Transaction]) -> Result<ChainLink, Fail> {
     let first = transactions.first().ok_or("a transaction")?;
     Ok(ChainLink {
-        text: SignedText(ByteList::new(alloc)),
+        text: SignedText(SharedBytes::new()),
         name: Checksum([name; 32]),
         entry: Entry {
             platform: first.actor.platform,
@@ -43,13 +43,13 @@ fn link(alloc: Global, name: u8, transactions: &[Transaction]) -> Result<ChainLi
 
 // An entry that issues to BETA, and one of this name that transfers from there to GAMM.
 fn two_links(alloc: Global, second: u8) -> Result<Chain, Fail> {
-    let mut chain = Chain::new(alloc);
+    let mut links = Vec::new(alloc);
     let sign = act(Kind::Sign, b"ALPH/CARRIER", None)?;
     let issue = act(Kind::Issue, b"ALPH/CARRIER", Some(b"BETA/EXPORT"))?;
     let transfer = act(Kind::Transfer, b"BETA/EXPORT", Some(b"GAMM/BANK"))?;
-    chain.push(link(alloc, 1, &[sign, issue])?)?;
-    chain.push(link(alloc, second, &[transfer])?)?;
-    Ok(chain)
+    links.push(link(alloc, 1, &[sign, issue])?)?;
+    links.push(link(alloc, second, &[transfer])?)?;
+    Ok(Chain::from_vec(alloc, links)?)
 }
 
 fn assert_names(rt: &impl Abort, links: &[ChainLink], others: &[ChainLink]) {

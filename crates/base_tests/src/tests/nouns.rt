@@ -158,7 +158,7 @@ fn sample_link(alloc: Global) -> Result<ChainLink, Fail> {
         time: Moment::try_new(7).ok_or("a moment")?,
     };
     Ok(ChainLink {
-        text: SignedText(ByteList::from_slice(alloc, b"a.b.c")?),
+        text: SignedText::from_bytes(alloc, ByteList::from_slice(alloc, b"a.b.c")?)?,
         name: Checksum([3; 32]),
         entry: Entry {
             platform: actor.platform,
@@ -186,13 +186,13 @@ fn assert_entries(rt: &impl Abort, copy: &Entry, entry: &Entry) {
     assert!(rt; are_same(copy.transactions.as_slice(), entry.transactions.as_slice()));
 }
 
-// A link and its copy.
+// A link, followed by its copy.
 fn sample_chain(alloc: Global) -> Result<Chain, Fail> {
     let link = sample_link(alloc)?;
-    let mut chain = Chain::new(alloc);
-    chain.push(link.copy(alloc)?)?;
-    chain.push(link)?;
-    Ok(chain)
+    let mut links = Vec::new(alloc);
+    links.push(link.copy(alloc)?)?;
+    let chain = Chain::from_vec(alloc, links)?;
+    Ok(chain.followed_by(alloc, link)?)
 }
 
 #[test]
@@ -223,7 +223,7 @@ fn copies_of_evidence(rt: HostRuntime) -> Result<(), Fail> {
     let bytes = ByteList::from_slice(rt.alloc(), b"abc")?;
     let evidence = Evidence {
         own: None,
-        theirs: Some(SignedText(bytes)),
+        theirs: Some(SignedText::from_bytes(rt.alloc(), bytes)?),
     };
     let copy = evidence.copy(rt.alloc())?;
     assert!(rt; copy.own.is_none());

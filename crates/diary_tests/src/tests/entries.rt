@@ -141,18 +141,19 @@ fn link(alloc: Global, bill: Bill, before: &[ChainLink], leg: Leg) -> Result<Cha
 }
 
 pub(crate) fn chain(alloc: Global, bill: Bill, route: Route) -> Result<Chain, Fail> {
-    let mut chain = Chain::new(alloc);
+    let mut links = Vec::new(alloc);
     for leg in route {
-        let link = link(alloc, bill, chain.as_slice(), *leg)?;
-        chain.push(link)?;
+        let link = link(alloc, bill, links.as_slice(), *leg)?;
+        links.push(link)?;
     }
-    Ok(chain)
+    Ok(Chain::from_vec(alloc, links)?)
 }
 
 /// The last entry of a chain.
 pub(crate) fn last(alloc: Global, bill: Bill, route: Route) -> Result<ChainLink, Fail> {
-    let mut links = chain(alloc, bill, route)?.into_vec();
-    Ok(links.pop().ok_or("an entry")?)
+    let chain = chain(alloc, bill, route)?;
+    let last = chain.as_slice().last().ok_or("an entry")?;
+    Ok(last.copy(alloc)?)
 }
 
 /// The name of the last entry of a chain.

@@ -156,7 +156,8 @@ fn text(
     flaws: &Flaws,
 ) -> Result<SignedText, Fail> {
     if has(flaws, at, Flaw::NotCompact) {
-        return Ok(SignedText(ByteList::from_slice(alloc, b"x")?));
+        let bytes = ByteList::from_slice(alloc, b"x")?;
+        return Ok(SignedText::from_bytes(alloc, bytes)?);
     }
     let entry = entry(alloc, bill, previous, at, flaws)?;
     if has(flaws, at, Flaw::NoEntry) {

@@ -10,7 +10,7 @@ use transfer_chain::{Meeting, dest, meet};
 
 fn checked_or_empty(alloc: Global, route: Route) -> Result<Chain, Fail> {
     if route.is_empty() {
-        return Ok(Chain::new(alloc));
+        return Ok(Chain::new());
     }
     checked(alloc, the_bill(alloc)?, route)
 }

@@ -100,16 +100,16 @@ fn link(
 
 // A chain of so many entries, of which the first has all these acts, and the others none.
 fn chain_with(alloc: Global, acts: &[Act], entries: usize) -> Result<Chain, Fail> {
-    let mut chain = Chain::new(alloc);
+    let mut links = Vec::new(alloc);
     let first = link(alloc, None, transactions(alloc, acts)?)?;
     let mut last = first.name;
-    chain.push(first)?;
+    links.push(first)?;
     for _ in 1..entries {
         let next = link(alloc, Some(last), TransactionList::new(alloc))?;
         last = next.name;
-        chain.push(next)?;
+        links.push(next)?;
     }
-    Ok(chain)
+    Ok(Chain::from_vec(alloc, links)?)
 }
 
 // A manifest that lists these documents. No plan looks at the entry that it names.

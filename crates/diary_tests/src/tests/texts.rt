@@ -2,7 +2,7 @@
 use bill_diary::{Frame, Record};
 use closed_family::{Family, Member, texts_in};
 use document_checksum::to_text;
-use ebl_base::{ByteList, Checksum, Items, NoMemory, PlatformCode};
+use ebl_base::{ByteList, Chain, Checksum, Items, NoMemory, PlatformCode};
 use envelope_manifest::Manifest;
 use std::alloc::Global;
 use std::test::Fail;
@@ -13,7 +13,7 @@ const BILL: Checksum = Checksum([9; 32]);
 fn begun(alloc: Global, body: &[u8]) -> Result<Record, NoMemory> {
     Ok(Record::Begun {
         bill: BILL,
-        chain: Items::new(alloc),
+        chain: Chain::new(),
         manifest: Manifest {
             bill: BILL,
             last: BILL,

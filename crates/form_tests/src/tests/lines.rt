@@ -9,7 +9,7 @@ use answer_lines::{Answer, Content, Parcel, answer_line};
 use document_checksum::checksum;
 use ebl_base::{
     ByteList, Checksum, ChecksumList, Code, Evidence, LimitKind, NoMemory, Party, PlaceTag, Reason,
-    Reference, SignedText,
+    Reference, SharedBytes, SignedText,
 };
 use pint_responses::Response;
 use platform_requests::{IgnoreReason, Reply, View};
@@ -343,7 +343,7 @@ fn signed(
     };
     Answer::Replied(Reply::Answer {
         response: response(code, standing, reason, missing, evidence),
-        text: SignedText(ByteList::new(alloc)),
+        text: SignedText(SharedBytes::new()),
     })
 }
 
@@ -446,7 +446,7 @@ fn compact(alloc: Global, text: &[u8]) -> Result<SignedText, Fail>
     ensures { IfOk result (λ signed. IsEvidence signed.0) }
 {
     match split(alloc, text, 16_384) {
-        Ok(_) => Ok(SignedText(ByteList::from_slice(alloc, text)?)),
+        Ok(_) => Ok(SignedText::from_bytes(alloc, ByteList::from_slice(alloc, text)?)?),
         Err(_) => Err("compact")?,
     }
 }
@@ -469,7 +469,7 @@ fn a_dispute_with_its_evidence(rt: HostRuntime) -> Result<(), Fail> {
             ChecksumList::new(alloc),
             evidence,
         ),
-        text: SignedText(ByteList::new(alloc)),
+        text: SignedText(SharedBytes::new()),
     });
     assert!(rt; answers(alloc, answer, DISPUTED)?);
     Ok(())

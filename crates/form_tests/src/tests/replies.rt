@@ -286,7 +286,7 @@ fn a_signed_answer(rt: HostRuntime) -> Result<(), Fail> {
             theirs: None,
         },
     };
-    let text = SignedText(ByteList::from_slice(alloc, b"a.b.c")?);
+    let text = SignedText::from_bytes(alloc, ByteList::from_slice(alloc, b"a.b.c")?)?;
     match reply_body(alloc, Reply::Answer { response, text })? {
         ReplyBody::Signed(text) => assert_eq!(rt; text.0.as_slice(), b"a.b.c".as_slice()),
         _ => panic!(rt; "no signed text"),

@@ -6,7 +6,7 @@ use crate::tests::making::{party, platform};
 use canonical_json::read;
 use ebl_base::{
     ByteList, Checksum, ChecksumList, Code, Copied, Evidence, Kind, Moment, NoMemory, PlaceTag,
-    PlatformCode, Reference, SignedText,
+    PlatformCode, Reference, SharedBytes, SignedText,
 };
 use holder_commands::Command;
 use pint_responses::Response;
@@ -186,7 +186,7 @@ fn answer(alloc: Global, code: Code) -> Reply {
     };
     Reply::Answer {
         response,
-        text: SignedText(ByteList::new(alloc)),
+        text: SignedText(SharedBytes::new()),
     }
 }
 

@@ -2,8 +2,8 @@
 //! since no look-up reads them.
 use bill_diary::{Frame, Record};
 use ebl_base::{
-    ByteList, ChainLink, CharList, Checksum, Code, Entry, Evidence, Items, Kind, Moment, NoMemory,
-    Party, Reason, SignedText, Transaction,
+    ByteList, Chain, ChainLink, CharList, Checksum, Code, Entry, Evidence, Items, Kind, Moment,
+    NoMemory, Party, Reason, SharedBytes, SignedText, Transaction,
 };
 use envelope_manifest::{Manifest, Piece};
 use std::alloc::Global;
@@ -88,7 +88,7 @@ impl Cast {
 
     fn link(self, alloc: Global, bill: Checksum, n: u8) -> ChainLink {
         ChainLink {
-            text: SignedText(Items::new(alloc)),
+            text: SignedText(SharedBytes::new()),
             name: name(n),
             entry: Entry {
                 platform: self.carrier.platform,
@@ -101,10 +101,11 @@ impl Cast {
     }
 
     fn begun(self, alloc: Global, bill: Checksum, first: u8, last: u8) -> Result<Record, NoMemory> {
-        let mut chain = Items::new(alloc);
+        let mut links = Vec::new(alloc);
         for n in first..=last {
-            chain.push(self.link(alloc, bill, n))?;
+            links.push(self.link(alloc, bill, n))?;
         }
+        let chain = Chain::from_vec(alloc, links)?;
         Ok(Record::Begun {
             bill,
             chain,
@@ -142,7 +143,7 @@ impl Cast {
                 bill,
                 link: self.link(alloc, bill, n),
                 manifest: manifest(alloc, bill, n)?,
-                manifest_text: SignedText(Items::new(alloc)),
+                manifest_text: SignedText(SharedBytes::new()),
             }),
             Step::Settled(n) => Ok(Record::Settled {
                 bill,

@@ -192,18 +192,18 @@ fn body_in(messages: MessageList) -> Option<ByteList> {
     Some(body)
 }
 
-fn answer_in(reply: Reply) -> Option<ByteList> {
+fn answer_in(alloc: Global, reply: &Reply) -> Option<ByteList> {
     match reply {
-        Reply::Answer { text, .. } => Some(text.0),
+        Reply::Answer { text, .. } => ByteList::from_slice(alloc, text.0.as_slice()).ok(),
         _ => None,
     }
 }
 
 // The reply's word, how many messages are sent, and the text of the signed answer or of the last message.
-fn given(outcome: Outcome) -> (&'static str, usize, Option<ByteList>) {
+fn given(alloc: Global, outcome: Outcome) -> (&'static str, usize, Option<ByteList>) {
     let Outcome { reply, messages } = outcome;
     let (word, sent) = (reply.as_str(), messages.as_slice().len());
-    let answer = answer_in(reply);
+    let answer = answer_in(alloc, &reply);
     (word, sent, answer.or(body_in(messages)))
 }
 
@@ -218,7 +218,7 @@ fn serve(
             shard.reopen(alloc).ok()?;
             Some(("OPENED", 0, None))
         }
-        _ => Some(given(outcome(alloc, shard, ask)?)),
+        _ => Some(given(alloc, outcome(alloc, shard, ask)?)),
     }
 }
 

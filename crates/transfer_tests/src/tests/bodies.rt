@@ -140,7 +140,8 @@ pub(crate) fn signed_manifest(
 
 /// A text that nobody signed.
 pub(crate) fn unsigned(alloc: Global) -> Result<SignedText, Fail> {
-    Ok(SignedText(ByteList::from_slice(alloc, b"x")?))
+    let bytes = ByteList::from_slice(alloc, b"x")?;
+    Ok(SignedText::from_bytes(alloc, bytes)?)
 }
 
 /// The name of a text.

@@ -130,11 +130,11 @@ fn sent_back(
             Ok(Some((to, Content::StartReply { bill, bytes })))
         }
         (Back::ToStart(to, bill), Reply::Answer { text, .. }) => {
-            let bytes = text.0;
+            let bytes = ByteList::from_slice(alloc, text.0.as_slice())?;
             Ok(Some((to, Content::StartReply { bill, bytes })))
         }
         (Back::ToFinish(to, bill), Reply::Answer { text, .. }) => {
-            let bytes = text.0;
+            let bytes = ByteList::from_slice(alloc, text.0.as_slice())?;
             Ok(Some((to, Content::FinishReply { bill, bytes })))
         }
         _ => Ok(None),

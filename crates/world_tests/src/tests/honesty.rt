@@ -1,7 +1,9 @@
 //! Requests that are honest, and requests that no run may see: another chain than the one that was sent, and forged
 //! continuations of it.
 use canonical_json::{is_lawful, read};
-use ebl_base::{ByteList, Checksum, Copied, PlatformCode, Reference, SignedText, TextList};
+use ebl_base::{
+    ByteList, Checksum, Copied, PlatformCode, Reference, SharedBytes, SignedText, TextList,
+};
 use envelope_manifest::Body;
 use honest_texts::{SentText, is_honest};
 use party_roster::Roster;
@@ -32,11 +34,17 @@ fn signed(alloc: Global, by: &str, payload: &[u8]) -> Result<SignedText, Fail> {
     Ok(compose(alloc, &mut ring, platform(by)?, &payload, 16_384)?)
 }
 
+// The bytes of an answer that a platform signed.
+fn reply(alloc: Global, by: &str, payload: &[u8]) -> Result<ByteList, Fail> {
+    let text = signed(alloc, by, payload)?;
+    Ok(ByteList::from_slice(alloc, text.0.as_slice())?)
+}
+
 // The body with a chain of these texts.
 fn body(alloc: Global, texts: &[SignedText]) -> Result<ByteList, Fail> {
     let body = Body {
         document: read(alloc, b"{}")?,
-        manifest: SignedText(ByteList::new(alloc)),
+        manifest: SignedText(SharedBytes::new()),
         chain: TextList::from_vec(SignedText::copy_all(alloc, texts)?),
     };
     Ok(body.write(alloc)?)
@@ -47,7 +55,7 @@ fn sent(alloc: Global) -> Result<Vec<SentText>, Fail> {
     let mut sent = Vec::new(alloc);
     sent.push(SentText::Reply {
         from: platform("BETA")?,
-        bytes: signed(alloc, "BETA", b"{\"of\":\"answer\"}")?.0,
+        bytes: reply(alloc, "BETA", b"{\"of\":\"answer\"}")?,
     })?;
     sent.push(SentText::Start {
         from: platform("ALPH")?,
@@ -81,7 +89,7 @@ fn texts_that_were_sent(rt: HostRuntime) -> Result<(), Fail> {
     let alloc = rt.alloc();
     let entry = signed(alloc, "ALPH", b"{\"of\":\"entry\"}")?;
     let stranger = signed(alloc, "DELT", b"{\"of\":\"entry\"}")?;
-    let rubbish = SignedText(ByteList::from_slice(alloc, b"x")?);
+    let rubbish = SignedText::from_bytes(alloc, ByteList::from_slice(alloc, b"x")?)?;
     assert!(rt; is_honest_chain(alloc, &[entry, rubbish, stranger])?);
     Ok(())
 }
@@ -113,12 +121,12 @@ fn forged_continuations(rt: HostRuntime) -> Result<(), Fail> {
 #[test]
 fn replies(rt: HostRuntime) -> Result<(), Fail> {
     let alloc = rt.alloc();
-    let sent = signed(alloc, "BETA", b"{\"of\":\"answer\"}")?;
-    assert!(rt; is_honest_reply(alloc, sent.0)?);
-    let stranger = signed(alloc, "DELT", b"{\"of\":\"other\"}")?;
-    assert!(rt; is_honest_reply(alloc, stranger.0)?);
-    let forged = signed(alloc, "BETA", b"{\"of\":\"other\"}")?;
-    assert!(rt; !is_honest_reply(alloc, forged.0)?);
+    let sent = reply(alloc, "BETA", b"{\"of\":\"answer\"}")?;
+    assert!(rt; is_honest_reply(alloc, sent)?);
+    let stranger = reply(alloc, "DELT", b"{\"of\":\"other\"}")?;
+    assert!(rt; is_honest_reply(alloc, stranger)?);
+    let forged = reply(alloc, "BETA", b"{\"of\":\"other\"}")?;
+    assert!(rt; !is_honest_reply(alloc, forged)?);
     Ok(())
 }
 

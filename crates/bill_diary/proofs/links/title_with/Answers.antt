@@ -1,20 +1,13 @@
 use Rattle.std.proofs.Common.{None, ap, sym, ◌∙◌}
-use Rattle.bill_chain.specs.Chain.{transactions_of, without_place}
+use Rattle.bill_chain.specs.Chain.{transactions_of}
 use Rattle.bill_chain.proofs.TitleLemmas.{folded_on, without_place-append}
 use Rattle.bill_diary.proofs.LinkLemmas.{behind}
 use Rattle.bill_diary.proofs.links.title_with.Goals as goal
 
-pub returns-in-Ok-fold_from : goal.returns-in-Ok-fold_from
-returns-in-Ok-fold_from c =
+pub returns-in-Ok : goal.returns-in-Ok
+returns-in-Ok c =
     let more = c.args.more.now in
-    ap without_place c.in-Ok-fold_from.ensures
-    ∙ sym (without_place-append (transactions_of (behind c.args.links.now)) more None
-    ∙ ap (λ folded. folded_on folded more) (sym c.in-Ok.ensures))
-
-pub returns-in-Err-fold_from : goal.returns-in-Err-fold_from
-returns-in-Err-fold_from c =
-    let more = c.args.more.now in
-    ap without_place c.in-Err-fold_from.ensures
+    c.fold_more.ensures
     ∙ sym (without_place-append (transactions_of (behind c.args.links.now)) more None
     ∙ ap (λ folded. folded_on folded more) (sym c.in-Ok.ensures))
 

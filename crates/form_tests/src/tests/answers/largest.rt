@@ -32,22 +32,22 @@ fn longest_evidence(alloc: Global) -> Result<SignedText, Fail>
 {
     let text = ByteList::from_vec(evidence_text(alloc, 16_384)?);
     match is_compact(alloc, text.as_slice(), 16_384) {
-        Ok(true) => Ok(SignedText(text)),
+        Ok(true) => Ok(SignedText::from_bytes(alloc, text)?),
         _ => Err(Fail::from("no evidence")),
     }
 }
 
 // An answer with this text as its own evidence.
-fn shown(own: Vec<u8>, missing: ChecksumList) -> Response {
-    let own = Some(SignedText(ByteList::from_vec(own)));
+fn shown(alloc: Global, own: Vec<u8>, missing: ChecksumList) -> Result<Response, NoMemory> {
+    let own = Some(SignedText::from_bytes(alloc, ByteList::from_vec(own))?);
     let theirs = None;
     let mut r = response(Code::DisputedEnvelope, None, None, missing);
     r.evidence = Evidence { own, theirs };
-    r
+    Ok(r)
 }
 
 fn is_shown_sealable(alloc: Global, own: Vec<u8>) -> Result<bool, NoMemory> {
-    let r = shown(own, ChecksumList::new(alloc));
+    let r = shown(alloc, own, ChecksumList::new(alloc))?;
     is_sealable(alloc, &r)
 }
 

@@ -5,11 +5,11 @@ use Rattle.transfer_chain.proofs.GoodChainLemmas.{good-checked, good-last}
 use Rattle.transfer_chain.proofs.LinkLemmas.{not_empty}
 use Rattle.transfer_chain.proofs.checking.check.Goals as goal
 
-pub returns-in-Ok-pass-clause-ok : goal.returns-in-Ok-pass-clause-ok
-returns-in-Ok-pass-clause-ok g c =
+pub returns-in_ok-chain-in-Ok-pass-clause-ok : goal.returns-in_ok-chain-in-Ok-pass-clause-ok
+returns-in_ok-chain-in-Ok-pass-clause-ok g c =
     check-good c.args.roster.now (g.G.KeyRing.keys c.args.ring.now) c.args.document.now c.args.texts.now
     c.as_slice-texts.result.now c.carrier-carrier.result c.bill.result c.in-Ok.links.items c.as_slice.result.now
-    c.from_vec.result c.in-Ok-pass.field-0
+    c.in_ok-chain-in-Ok-pass.chain c.in-Ok-pass.field-0
     (record {
       texts_seen = c.as_slice-texts.ensures;
       some = not_empty (length c.as_slice-texts.result.now) c.if-is_empty.ensures;
@@ -20,17 +20,17 @@ returns-in-Ok-pass-clause-ok g c =
       bill_seen = c.bill.ensures;
       chain_seen = c.as_slice.ensures.value;
     })
-    c.in-Ok.ensures.ok c.in-Ok-pass.ensures c.from_vec.ensures
+    c.in-Ok.ensures.ok c.in-Ok-pass.ensures c.in_ok-chain-in-Ok-pass.ensures
 
-pub returns-in-Ok-pass-clause-checked : goal.returns-in-Ok-pass-clause-checked
-returns-in-Ok-pass-clause-checked g c =
+pub returns-in_ok-chain-in-Ok-pass-clause-checked : goal.returns-in_ok-chain-in-Ok-pass-clause-checked
+returns-in_ok-chain-in-Ok-pass-clause-checked g c =
     good-checked c.args.roster.now (g.G.KeyRing.keys c.args.ring.now) c.args.document.now c.args.texts.now
-    c.from_vec.result (returns-in-Ok-pass-clause-ok g c)
+    c.in_ok-chain-in-Ok-pass.chain (returns-in_ok-chain-in-Ok-pass-clause-ok g c)
 
-pub returns-in-Ok-pass-clause-last : goal.returns-in-Ok-pass-clause-last
-returns-in-Ok-pass-clause-last g c =
+pub returns-in_ok-chain-in-Ok-pass-clause-last : goal.returns-in_ok-chain-in-Ok-pass-clause-last
+returns-in_ok-chain-in-Ok-pass-clause-last g c =
     good-last c.args.roster.now (g.G.KeyRing.keys c.args.ring.now) c.args.document.now c.args.texts.now
-    c.from_vec.result (returns-in-Ok-pass-clause-ok g c)
+    c.in_ok-chain-in-Ok-pass.chain (returns-in_ok-chain-in-Ok-pass-clause-ok g c)
 
 pub returns-in-Err-pass-clause-err : goal.returns-in-Err-pass-clause-err
 returns-in-Err-pass-clause-err g c =

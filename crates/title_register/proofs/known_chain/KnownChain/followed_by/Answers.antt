@@ -6,9 +6,8 @@ use Rattle.title_register.proofs.known_chain.KnownChain.followed_by.Goals as goa
 
 pub invariant_of-result : goal.invariant_of-result
 invariant_of-result c =
-    let longer : c.push.new.self ≡ c.args.self.now ++ c.args.link.now ∷ [] =
-    c.in_ok-push.ensures.ok
-    ∙ ap₂ (λ (links : List ChainLink) (link : ChainLink). links ++ link ∷ [])
-    (c.in_ok-chain.ensures ∙ c.self.view_is) c.in_ok-copy.ensures in
-    title_of_longer c.args.self.now c.push.new.self c.args.link.now c.as_slice.result.now c.title_with-title.result
+    let longer : c.in_ok-chain.chain ≡ c.args.self.now ++ c.args.link.now ∷ [] =
+    c.in_ok-chain.ensures
+    ∙ ap₂ (λ (links : List ChainLink) (link : ChainLink). links ++ link ∷ []) c.self.view_is c.in_ok-copy.ensures in
+    title_of_longer c.args.self.now c.in_ok-chain.chain c.args.link.now c.as_slice.result.now c.title_with-title.result
     c.title_with-title.ensures c.as_slice.ensures longer
