@@ -1,6 +1,6 @@
 //! Every answer that comes of the diary: what the sealed answer says, documents and evidence included.
 use super::bodies::{chain_in, name_of, start_of};
-use super::steps::{ISSUED, RECEIVED, Row, SENT, SENT_ALONE, Step, told, waiting};
+use super::steps::{ISSUED, RECEIVED, Row, SENT, Step, sent_alone, told, waiting};
 use super::words::says;
 use super::world::World;
 use document_checksum::checksum;
@@ -220,7 +220,7 @@ fn sent_in(alloc: Global, other: &World, number: usize, shown: usize) -> Result<
 
 // The bill went to BETA without an endorsement.
 fn sent_elsewhere<R: Abort>(rt: &R, alloc: Global) -> Result<Elsewhere, Fail> {
-    let other = told(rt, alloc, &[ISSUED, SENT_ALONE])?;
+    let other = sent_alone(rt, alloc)?;
     sent_in(alloc, &other, 1, 1)
 }
 
@@ -252,20 +252,13 @@ fn dispute_words(
     world.answered(at, start_of(body), sent.last)
 }
 
-fn tell_theirs<R: Abort>(
-    rt: &R,
-    alloc: Global,
-    world: &mut World,
-    at: &str,
-    sent: &Elsewhere,
-) -> Result<(), Fail> {
-    let answer = dispute(alloc, world, at, sent)?;
-    let is_theirs = is_text(&answer.evidence.theirs, &sent.text);
-    assert!(rt; is_theirs);
-    Ok(())
+// Whether an answer shows the platform's own text, and theirs.
+fn shows_both(answer: &Response, own: &SignedText, theirs: &SignedText) -> bool {
+    is_text(&answer.evidence.own, own) && is_text(&answer.evidence.theirs, theirs)
 }
 
-fn tell_own<R: Abort>(
+// BETA has its own entry by the first start here.
+fn tell_both<R: Abort>(
     rt: &R,
     alloc: Global,
     world: &mut World,
@@ -273,8 +266,8 @@ fn tell_own<R: Abort>(
 ) -> Result<(), Fail> {
     let own = last_text(alloc, world, 1)?;
     let answer = dispute(alloc, world, "BETA", sent)?;
-    let is_own = is_text(&answer.evidence.own, &own);
-    assert!(rt; is_own);
+    let are_shown = shows_both(&answer, &own, &sent.text);
+    assert!(rt; are_shown);
     assert_eq!(rt; world.beta_frames(), 2);
     Ok(())
 }
@@ -285,8 +278,9 @@ fn tell_evidence_of_both<R: Abort>(
     world: &mut World,
     sent: &Elsewhere,
 ) -> Result<(), Fail> {
-    tell_theirs(rt, alloc, world, "BETA", sent)?;
-    tell_own(rt, alloc, world, sent)?;
+    for _ in 0..2 {
+        tell_both(rt, alloc, world, sent)?;
+    }
     says(
         rt,
         dispute_words(alloc, world, "BETA", sent)?,
@@ -302,6 +296,18 @@ fn evidence_of_both(rt: HostRuntime) -> Result<(), Fail> {
     tell_evidence_of_both(&rt, rt.alloc(), &mut world, &sent)
 }
 
+fn tell_theirs<R: Abort>(
+    rt: &R,
+    alloc: Global,
+    world: &mut World,
+    sent: &Elsewhere,
+) -> Result<(), Fail> {
+    let answer = dispute(alloc, world, "ALPH", sent)?;
+    let is_theirs = is_text(&answer.evidence.theirs, &sent.text);
+    assert!(rt; is_theirs);
+    Ok(())
+}
+
 // ALPH holds the bill by no entry.
 fn tell_evidence_of_one<R: Abort>(
     rt: &R,
@@ -310,7 +316,7 @@ fn tell_evidence_of_one<R: Abort>(
     sent: &Elsewhere,
 ) -> Result<(), Fail> {
     for _ in 0..2 {
-        tell_theirs(rt, alloc, world, "ALPH", sent)?;
+        tell_theirs(rt, alloc, world, sent)?;
     }
     says(
         rt,

@@ -7,7 +7,7 @@ ghost use Rattle.platform_machine.specs.Machine.{MayBeAsked};
 
 use super::bodies::{chain_in, start_of, start_with, unsigned};
 use super::steps::{
-    ASKED_FOR, ATTACHED, ISSUED, RECEIVED, Row, SENT, SENT_ALONE, Step, told, waiting,
+    ASKED_FOR, ATTACHED, ISSUED, RECEIVED, Row, SENT, Step, sent_alone, told, waiting,
 };
 use super::words::says;
 use super::world::World;
@@ -208,12 +208,6 @@ fn chain_without_its_middle(rt: HostRuntime) -> Result<(), Fail> {
     tell_chain_without_its_middle(&rt, rt.alloc(), &mut world)
 }
 
-// The body of its start in a world where it went to BETA without an endorsement.
-fn sent_elsewhere<R: Abort>(rt: &R, alloc: Global) -> Result<ByteList, Fail> {
-    let other = told(rt, alloc, &[ISSUED, SENT_ALONE])?;
-    other.start_in(1)
-}
-
 fn tell_parted_chains<R: Abort>(rt: &R, world: &mut World, body: ByteList) -> Result<(), Fail> {
     let answer = world.foreign("BETA", start_of(body))?;
     says(rt, answer, "DISE PARTS standing own theirs");
@@ -222,7 +216,7 @@ fn tell_parted_chains<R: Abort>(rt: &R, world: &mut World, body: ByteList) -> Re
 
 #[test]
 fn parted_chains(rt: HostRuntime) -> Result<(), Fail> {
-    let body = sent_elsewhere(&rt, rt.alloc())?;
+    let body = sent_alone(&rt, rt.alloc())?.start_in(1)?;
     let mut world = told(&rt, rt.alloc(), &[ISSUED, SENT, RECEIVED])?;
     tell_parted_chains(&rt, &mut world, body)
 }

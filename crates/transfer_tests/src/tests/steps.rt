@@ -63,8 +63,8 @@ pub(crate) const RECEIVED: &[Row] = &[
     (Step::Deliver(2), "DONE GONE 1 LIVE BETA/IMPORT BETA/IMPORT"),
 ];
 
-/// It is sent to BETA/IMPORT without an endorsement.
-pub(crate) const SENT_ALONE: &[Row] = &[(
+// It is sent to BETA/IMPORT without an endorsement.
+const SENT_ALONE: &[Row] = &[(
     Step::Act("ALPH/EXPORT", "TRANSFER", "BETA/IMPORT"),
     "DONE PARTING 0 LIVE BETA/IMPORT ALPH/EXPORT [1]",
 )];
@@ -105,6 +105,11 @@ pub(crate) fn told<R: Abort>(rt: &R, alloc: Global, parts: &[&[Row]]) -> Result<
         tell(rt, &mut world, rows)?;
     }
     Ok(world)
+}
+
+/// The world in which the bill went to BETA without an endorsement, as its first start.
+pub(crate) fn sent_alone<R: Abort>(rt: &R, alloc: Global) -> Result<World, Fail> {
+    told(rt, alloc, &[ISSUED, SENT_ALONE])
 }
 
 /// The world in which BETA waits for the documents of the bill.
