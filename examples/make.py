@@ -91,9 +91,9 @@ class Script:
         self.deliver(1, "RECE", [2], standing=False)
         self.deliver(2, "DONE", place="GONE", entries=1)
 
-    def attach(self, data, name, reply="DONE", **members):
-        return self.event({"at": "ALPH", "bill": 1, "bytes": base64.b64encode(data).decode(), "do": "ATTACH",
-                           "media": "text/plain", "name": name, "party": EXPORT}, reply, **members)
+    def attach(self, data, name, reply="DONE", *, at="ALPH", number=1, actor=EXPORT, **members):
+        return self.event({"at": at, "bill": number, "bytes": base64.b64encode(data).decode(), "do": "ATTACH",
+                           "media": "text/plain", "name": name, "party": actor}, reply, **members)
 
     def ask(self, at, named=1, **members):
         return self.event({"ask": True, "at": at, "bill": named}, "DONE", **members)
@@ -106,6 +106,23 @@ class Script:
     def hear(self, at, kind, text, reply, sent=(), bill=1, **members):
         """A reply from outside."""
         return self.event({"at": at, "bill": bill, "foreign": kind, "text": text}, reply, sent, **members)
+
+    def show(self, number, **members):
+        return self.event({"show": number}, "SHOWN", **members)
+
+    def names(self, number, by, last=None, missing=(), bill=BILL):
+        """A signed answer is shown: by whom it is signed, and what it names."""
+        text = base64.b64decode(self.show(number, **{"from": by})["bytes"]).decode()
+        signer, response = model.verified(text, model.MOST_RESPONSE)
+        found = {"by": signer, **{it: response.get(it) for it in ("bill", "last", "missing")}}
+        assert found == {"by": by, "bill": bill, "last": last, "missing": list(missing)}, (self.name, found)
+
+    def brings(self, number, transactions, **members):
+        """A start is shown: how many transactions its last entry has, and what else that says."""
+        body = json.loads(base64.b64decode(self.show(number, kind="START")["bytes"]))
+        entry = model.verified(body["chain"][-1])[1]
+        assert len(entry["transactions"]) == transactions, (self.name, entry)
+        assert {name: entry.get(name) for name in members} == members, (self.name, entry)
 
     def sent(self, number):
         """The text of a message that was sent."""
@@ -125,6 +142,11 @@ AT_BETA = {"acts": ["BETA"], "end": "BETA", "entries": 1, "forked": False, "hold
 NEW = {"acts": ["ALPH"], "end": "ALPH", "entries": 0, "forked": False}
 
 
+def further(number):
+    """Another document of the carrier."""
+    return dict(DOCUMENT, transportDocumentReference="OCNL%07d" % number)
+
+
 # ---- a bill goes from platform to platform
 
 def transfer_to_another_platform():
@@ -139,6 +161,8 @@ def repeated_delivery():
     script.deliver(1, "RECE", [2], standing=False)
     script.deliver(1, "DUPE", [3], standing=False)
     script.deliver(1, "DUPE", [4], standing=False)
+    for number in (2, 3, 4):
+        script.names(number, "BETA", script.entry(1))
     script.write(AT_BETA)
 
 
@@ -151,6 +175,8 @@ def restart_while_parting():
     script.event({"at": "ALPH", "bill": 1, "resend": True}, "DONE", [3], place="PARTING")
     script.deliver(3, "DUPE", [4])
     script.deliver(4, "DONE", place="GONE")
+    script.event({"at": "ALPH", "bill": 1, "resend": True}, "NOT_PARTING", place="GONE")
+    assert script.show(1)["bytes"] == script.show(3)["bytes"]
     script.write(AT_BETA)
 
 
@@ -164,15 +190,19 @@ def uploads(name, is_restarted):
     reference = script.reference(1)
     script.deliver(1, "STARTED", [2], missing=[ABC, EMPTY], reference=reference)
     script.deliver(2, "DONE", [3, 4, 5], place="PARTING")
+    script.deliver(5, "MDOC", [6], missing=[ABC, EMPTY], standing=False)
     script.deliver(3, "STORED")
-    script.deliver(5, "MDOC", [6], missing=[EMPTY], standing=False)
+    script.deliver(5, "MDOC", [7], missing=[EMPTY], standing=False)
     script.event({"at": "BETA", "bytes": "YWJj", "checksum": EMPTY, "foreign": "PUT", "reference": reference},
-                 "INCD", [7], reason="BYTES", standing=False)
+                 "INCD", [8], reason="BYTES", standing=False)
     if is_restarted:
         script.event({"restart": "BETA"}, "OPENED")
     script.deliver(4, "STORED")
-    script.deliver(5, "RECE", [8], standing=False)
-    script.deliver(8, "DONE", place="GONE", entries=1)
+    script.deliver(5, "RECE", [9], standing=False)
+    script.deliver(7, "IGNORED", reason="PASSING")
+    script.deliver(9, "DONE", place="GONE", entries=1)
+    for number, missing in ((6, [ABC, EMPTY]), (7, [EMPTY]), (8, []), (9, [])):
+        script.names(number, "BETA", script.entry(1), missing)
     script.write(AT_BETA)
 
 
@@ -190,6 +220,7 @@ def start_delivered_twice():
     reference = script.reference(1)
     for sent in (2, 3):
         script.deliver(1, "STARTED", [sent], missing=[ABC, EMPTY], reference=reference)
+    assert script.show(2)["bytes"] == script.show(3)["bytes"]
     script.write({"acts": [], "end": "ALPH", "entries": 0, "forked": False, "holder": IMPORT})
 
 
@@ -204,10 +235,29 @@ def unknown_receiver():
     script.deliver(1, "BENV", [2], reason="PARTY", standing=True)
     script.deliver(2, "DONE", place="HELD", possessor=EXPORT)
     script.act("ALPH", "TRANSFER", EXPORT, AGENT, sent=[3], place="PARTING")
+    script.deliver(2, "IGNORED", reason="SIGNATURE")
     script.deliver(3, "RECE", [4])
     script.deliver(1, "BENV", [5], reason="PARTY", standing=True)
     script.deliver(4, "DONE", place="GONE", entries=1)
+    for number in (2, 5):
+        script.names(number, "BETA", script.entry(1))
     script.write({"acts": ["GAMM"], "end": "GAMM", "entries": 1, "holder": EXPORT, "possessor": AGENT})
+
+
+def answer_about_another_entry():
+    """The bill goes to the platform that declined its last entry: the answer to that one ends nothing."""
+    script = Script("answer_about_another_entry")
+    script.issue()
+    script.act("ALPH", "TRANSFER", EXPORT, "BETA/NOBODY", sent=[1], place="PARTING")
+    script.deliver(1, "BENV", [2], reason="PARTY", standing=True)
+    script.deliver(2, "DONE", place="HELD", possessor=EXPORT)
+    script.act("ALPH", "TRANSFER", EXPORT, IMPORT, sent=[3], place="PARTING")
+    script.deliver(2, "IGNORED", reason="OTHER_ENTRY")
+    script.deliver(3, "RECE", [4])
+    script.deliver(4, "DONE", place="GONE", entries=1)
+    for number, attempt in ((1, 1), (3, 2)):
+        script.brings(number, 3, platform="ALPH", bill=BILL, previous=None, attempt=attempt)
+    script.write({"acts": ["BETA"], "end": "BETA", "entries": 1, "holder": EXPORT, "possessor": IMPORT})
 
 
 def return_before_the_answer():
@@ -218,6 +268,7 @@ def return_before_the_answer():
     script.deliver(3, "RECE", [4])
     script.deliver(2, "IGNORED", reason="NOT_PARTING")
     script.deliver(4, "DONE", place="GONE", entries=2)
+    script.brings(3, 1, platform="BETA", bill=BILL, previous=script.entry(1), attempt=1)
     script.write({"acts": ["ALPH"], "end": "ALPH", "entries": 2, "holder": IMPORT, "possessor": EXPORT})
 
 
@@ -233,6 +284,8 @@ def to_another_platform():
     script.deliver(3, "DONE", place="GONE")
     for at, place in (("ALPH", "GONE"), ("BETA", "HELD"), ("GAMM", "ABSENT")):
         script.ask(at, place=place)
+    for number, by in ((2, "GAMM"), (3, "BETA"), (4, "ALPH")):
+        script.names(number, by, script.entry(1))
     script.write(AT_BETA)
 
 
@@ -242,9 +295,11 @@ def surrender():
     script.act("BETA", "SURRENDER_FOR_DELIVERY", IMPORT, sent=[3], possessor=CARRIER, holder=IMPORT, state="ASKED")
     script.deliver(3, "RECE", [4])
     script.deliver(4, "DONE", place="GONE", entries=2)
+    script.ask("ALPH", place="HELD", entries=2, state="ASKED", possessor=CARRIER, holder=IMPORT)
     script.act("ALPH", "SURRENDER_REFUSED", CARRIER, sent=[5], possessor=IMPORT, state="LIVE")
     script.deliver(5, "RECE", [6])
     script.deliver(6, "DONE", place="GONE", entries=3)
+    script.ask("BETA", place="HELD", entries=3, state="LIVE", possessor=IMPORT, holder=IMPORT)
     script.act("BETA", "SURRENDER_FOR_DELIVERY", IMPORT, sent=[7], state="ASKED")
     script.deliver(7, "RECE", [8])
     script.deliver(8, "DONE", place="GONE", entries=4)
@@ -274,10 +329,9 @@ def two_bills_of_two_carriers():
 
 
 def in_shard_of(document, count):
-    """Further documents whose bills are in the same shard as a document's: only their references differ."""
+    """Further documents whose bills are in the same shard as a document's."""
     shard = int(model.bill_of(document)[:2], 16) % model.SHARDS
-    for number in itertools.count(2):
-        other = dict(document, transportDocumentReference="OCNL%07d" % number)
+    for other in map(further, itertools.count(2)):
         if int(model.bill_of(other)[:2], 16) % model.SHARDS == shard:
             yield other
             count -= 1
@@ -354,7 +408,172 @@ def parted_chains():
     body = body_of([forged])
     script.start("BETA", body, "DISE", [3], reason="PARTS", standing=True, own=held, theirs=forged)
     script.start("BETA", body, "DISE", [4], reason="PARTS", standing=True, own=held, theirs=forged)
+    for number in (3, 4):
+        script.names(number, "BETA", model.checksum(forged.encode()))
     script.write(AT_BETA)
+
+
+def route(bill, length, other=0, front=(), **changed):
+    """So many texts of a bill that goes from ALPH to BETA and back, behind those in front: the one of this number is
+    another attempt, and the last one is changed."""
+    texts = list(front)
+    for number in range(len(texts) + 1, length + 1):
+        transactions = [transfer(EXPORT, IMPORT) if number % 2 else transfer(IMPORT, EXPORT)]
+        entry = entry_of("ALPH" if number % 2 else "BETA", [SIGN, ISSUE] * (number == 1) + transactions,
+                         texts[-1] if texts else None, bill=bill, attempt=9 if number == other else 1)
+        entry.update(changed if number == length else {})
+        texts.append(model.sign(entry, entry["platform"]))
+    return texts
+
+
+# Where a bill is, after so many entries there; the chain that is shown then, by its length and the number of the entry
+# that is another one; and what it meets: it is received, or it parts at the own entry and at theirs of these numbers.
+AT_BETA_SHOWN = (
+    ("HELD", 1, (1, 1), (1, 1)), ("HELD", 1, (3, 0), (1, 2)), ("HELD", 3, (1, 0), (2, 1)), ("HELD", 3, (1, 1), (1, 1)),
+    ("HELD", 3, (3, 1), (1, 1)), ("HELD", 3, (3, 2), (2, 2)), ("HELD", 3, (3, 3), (3, 3)), ("HELD", 3, (5, 0), (3, 4)),
+    ("PARTING", 1, (3, 0), "RECE"), ("PARTING", 1, (3, 2), (2, 2)), ("PARTING", 1, (3, 1), (1, 1)),
+    ("PARTING", 1, (1, 1), (1, 1)), ("PARTING", 3, (1, 1), (1, 1)), ("PARTING", 3, (5, 0), "RECE"),
+    ("GONE", 1, (3, 0), "RECE"), ("GONE", 1, (3, 2), (2, 2)), ("GONE", 1, (3, 1), (1, 1)), ("GONE", 1, (1, 1), (1, 1)),
+    ("GONE", 3, (5, 0), "RECE"), ("GONE", 3, (5, 4), (4, 4)))
+AT_ALPH_SHOWN = (
+    ("HELD", 0, (2, 0), (0, 1)), ("HELD", 2, (4, 0), (2, 3)), ("HELD", 2, (2, 2), (2, 2)), ("HELD", 2, (2, 1), (1, 1)),
+    ("PARTING", 0, (2, 0), "RECE"), ("PARTING", 0, (4, 0), "RECE"), ("PARTING", 0, (2, 1), (1, 1)),
+    ("PARTING", 2, (4, 0), "RECE"), ("PARTING", 2, (4, 3), (3, 3)), ("PARTING", 2, (4, 2), (2, 2)),
+    ("PARTING", 2, (2, 2), (2, 2)),
+    ("GONE", 0, (2, 0), "RECE"), ("GONE", 0, (4, 0), "RECE"), ("GONE", 0, (2, 1), (1, 1)), ("GONE", 2, (4, 0), "RECE"),
+    ("GONE", 2, (4, 3), (3, 3)), ("GONE", 2, (4, 2), (2, 2)), ("GONE", 2, (2, 2), (2, 2)))
+
+
+class Meeting:
+    """A bill that is brought somewhere by starts from outside, to see what another start meets there."""
+
+    def __init__(self, script, number):
+        self.script, self.document = script, further(number)
+        self.bill = model.bill_of(self.document)
+
+    def start(self, at, texts, reply, **members):
+        body = body_of(texts, document=self.document, bill=self.bill)
+        self.script.start(at, body, reply, [len(self.script.world.sent) + 1], **members)
+
+    def leave(self, at, actor, recipient):
+        """The bill leaves a platform: the text of the entry."""
+        number = len(self.script.world.sent) + 1
+        self.script.act(at, "TRANSFER", actor, recipient, number=self.bill, sent=[number], place="PARTING")
+        return json.loads(self.script.sent(number))["chain"][-1]
+
+    def hear(self, at, by, text, code, **members):
+        response = {"last": model.checksum(text.encode()), "missing": [], "responseCode": code, "standing": False}
+        self.script.hear(at, "FINISH_REPLY", model.sign({**response, **members}, by), "DONE", bill=self.bill)
+
+    def bring(self, at, place, entries):
+        """Brings the bill where it is to be after so many entries; the texts that are known then, a parting one too."""
+        party, other, by = (IMPORT, EXPORT, "ALPH") if at == "BETA" else (EXPORT, IMPORT, "BETA")
+        texts = []
+        if at == "ALPH":
+            self.script.sign(self.document)
+            self.script.event({"at": at, "bill": self.bill, "do": "ISSUE", "party": CARRIER, "recipient": EXPORT}, "DONE")
+            texts = [self.leave(at, party, other)] if entries or place != "HELD" else []
+        if entries:
+            texts = route(self.bill, entries, front=texts)
+            self.start(at, texts, "RECE")
+        if place != "HELD" and (entries or at == "BETA"):
+            texts.append(self.leave(at, party, other))
+        if place == "GONE":
+            self.hear(at, by, texts[-1], "RECE")
+        return texts
+
+    def shown(self, texts, length, other):
+        """The chain that is shown: the texts that are known, up to the one in whose place there is another one."""
+        return route(self.bill, length, other, texts[:other - 1 if other else length])
+
+
+def chains_that_meet():
+    """What a chain meets where a bill is held, parting or gone: it goes on from there, or it parts, and where."""
+    script = Script("chains_that_meet")
+    numbers = itertools.count(1)
+    for at, rows in (("BETA", AT_BETA_SHOWN), ("ALPH", AT_ALPH_SHOWN)):
+        for place, entries, (length, other), wanted in rows:
+            meeting = Meeting(script, next(numbers))
+            texts = meeting.bring(at, place, entries)
+            shown = meeting.shown(texts, length, other)
+            if wanted == "RECE":
+                meeting.start(at, shown, "RECE", standing=False)
+                meeting.start(at, shown, "DUPE", standing=False)
+                continue
+            own = texts[wanted[0] - 1] if wanted[0] else None
+            for _ in range(2):
+                meeting.start(at, shown, "DISE", reason="PARTS", standing=True, own=own, theirs=shown[wanted[1] - 1])
+    script.write(*[{}] * sum(line.get("do") == "SIGN" for line in script.lines))
+
+
+def first_judgement():
+    """Of several things that a start may meet, the first in the order of docs/machine.md is answered."""
+    script = Script("first_judgement")
+    numbers = itertools.count(1)
+
+    def brought(at, place, entries):
+        meeting = Meeting(script, next(numbers))
+        return meeting, meeting.bring(at, place, entries)
+
+    # a chain that ends elsewhere, whatever is known
+    meeting, texts = brought("BETA", "PARTING", 1)
+    meeting.start("BETA", texts, "BENV", reason="DESTINATION", standing=False)
+    meeting.start("BETA", route(meeting.bill, 2, 1), "BENV", reason="DESTINATION", standing=False)
+    # what was received, though the bill left since
+    meeting.start("BETA", texts[:1], "DUPE", standing=False)
+    meeting.hear("BETA", "ALPH", texts[-1], "RECE")
+    meeting.start("BETA", texts[:1], "DUPE", standing=False)
+    # what was declined, with the texts of that time
+    meeting, texts = brought("BETA", "HELD", 1)
+    other = route(meeting.bill, 1, 1)
+    dispute = {"reason": "PARTS", "standing": True, "own": texts[0], "theirs": other[0]}
+    meeting.start("BETA", other, "DISE", **dispute)
+    meeting.leave("BETA", IMPORT, EXPORT)
+    meeting.start("BETA", other, "DISE", **dispute)
+    # a dispute before a party that isn't known, and that before missing documents
+    nobody = [SIGN, ISSUE, transfer(EXPORT, "BETA/NOBODY")]
+    stranger = route(meeting.bill, 1, transactions=nobody)
+    meeting.start("BETA", stranger, "DISE", reason="PARTS", standing=True, own=texts[0], theirs=stranger[0])
+    piece = {"checksum": ABC, "media": "text/plain", "name": "A", "size": 3}
+    meeting = Meeting(script, next(numbers))
+    stranger = route(meeting.bill, 1, transactions=nobody)
+    body = body_of(stranger, document=meeting.document, bill=meeting.bill, documents=[piece])
+    for _ in range(2):
+        script.start("BETA", body, "BENV", [len(script.world.sent) + 1], reason="PARTY", standing=True)
+    # a party that isn't known where a bill comes back
+    for at, place, entries in (("BETA", "PARTING", 1), ("BETA", "GONE", 1), ("ALPH", "PARTING", 0), ("ALPH", "GONE", 0)):
+        meeting, texts = brought(at, place, entries)
+        last = [transfer(EXPORT, "BETA/NOBODY") if at == "BETA" else transfer(IMPORT, "ALPH/NOBODY")]
+        shown = route(meeting.bill, len(texts) + 1, front=texts, transactions=last)
+        meeting.start(at, shown, "BENV", reason="PARTY", standing=True)
+    # the bill goes out by another entry than the one that was declined
+    meeting, texts = brought("ALPH", "PARTING", 0)
+    meeting.hear("ALPH", "BETA", texts[0], "BENV", reason="PARTY", standing=True)
+    again = meeting.leave("ALPH", EXPORT, IMPORT)
+    meeting.start("ALPH", route(meeting.bill, 2, front=texts), "DISE", reason="PARTS", standing=True, own=again,
+                  theirs=texts[0])
+    meeting.start("ALPH", route(meeting.bill, 2, front=[again]), "RECE", standing=False)
+    script.write(*[{}] * sum(line.get("do") == "SIGN" for line in script.lines))
+
+
+def dispute_at_the_finish():
+    """While a platform waits for documents the bill comes to it by another chain: the finish meets a dispute."""
+    script = Script("dispute_at_the_finish")
+    script.issue()
+    script.attach(b"abc", "A")
+    script.endorse()
+    script.part()
+    reference = script.reference(1)
+    script.deliver(1, "STARTED", [2], missing=[ABC], reference=reference)
+    script.deliver(2, "DONE", [3, 4], place="PARTING")
+    script.start("BETA", body_of([FIRST]), "RECE", [5])
+    theirs = json.loads(script.sent(1))["chain"][0]
+    for sent in (6, 7):
+        script.deliver(4, "DISE", [sent], reason="PARTS", standing=True, own=FIRST, theirs=theirs)
+        script.names(sent, "BETA", script.entry(1))
+    script.deliver(3, "STORED")
+    script.deliver(4, "DISE", [8], reason="PARTS", standing=True, own=FIRST, theirs=theirs)
+    script.write({"acts": ["BETA"], "end": "BETA", "entries": 1, "forked": False})
 
 
 def texts_of_disputes():
@@ -389,21 +608,38 @@ def forked_chains():
     script.write(dict(AT_BETA, acts=["BETA", "GAMM"], forked=True))
 
 
+def two_continuations():
+    """With the key of the platform that holds a bill, two continuations of its chain: three platforms may act."""
+    script = Script("two_continuations")
+    script.move()
+    held = json.loads(script.sent(1))["chain"][0]
+    for number, at, to in ((3, "GAMM", AGENT), (4, "ALPH", EXPORT)):
+        forged = model.sign(entry_of("BETA", [transfer(IMPORT, to)], held), "BETA")
+        script.start(at, body_of([held, forged]), "RECE", [number])
+        script.ask(at, place="HELD", entries=2, state="LIVE", possessor=to, holder=IMPORT)
+    script.ask("BETA", place="HELD", entries=1, state="LIVE", possessor=IMPORT, holder=IMPORT)
+    script.write({"acts": ["ALPH", "BETA", "GAMM"], "end": "ALPH", "entries": 2, "forked": True})
+
+
 def refused_bodies():
-    """A body for each thing that can be wrong with it, in the order in which they are looked for."""
+    """A body for each thing that can be wrong with it, in the order in which they are looked for, and then for each
+    thing that can be wrong with a second entry. What the sealed answer names is what could be read."""
     script = Script("refused_bodies")
     number = 0
 
-    def refused(body, code, reason, index=None):
+    def refused(body, code, reason, index=None, bill=BILL):
         nonlocal number
         number += 1
         script.start("BETA", body, code, [number], reason=reason, index=index, standing=False)
+        chain = [] if reason == "BODY" else body["chain"]
+        script.names(number, "BETA", model.checksum(chain[-1].encode()) if chain else None, bill=bill)
 
     good = body_of([FIRST])
     for body in ("", "[]", {"chain": [], "document": DOCUMENT}, dict(good, document=1), dict(good, chain=[1])):
-        refused(body, "BENV", "BODY")
-    refused(dict(good, document={}), "BENV", "DOCUMENT")
-    refused(dict(good, document=dict(DOCUMENT, transportDocumentTypeCode="SWB")), "BENV", "DOCUMENT")
+        refused(body, "BENV", "BODY", bill=None)
+    for changed in ({"document": {}}, {"document": dict(DOCUMENT, transportDocumentTypeCode="SWB")},
+                    {"document": {}, "chain": []}):
+        refused(dict(good, **changed), "BENV", "DOCUMENT", bill=None)
     refused(dict(good, chain=[]), "BENV", "LENGTH")
     refused(dict(good, chain=[FIRST] * 65), "BENV", "LENGTH")
     refused(dict(good, chain=["a.b"]), "BSIG", "SIGNATURE", 0)
@@ -428,6 +664,17 @@ def refused_bodies():
     refused(body_of([FIRST], bill=ABC), "BENV", "MANIFEST_NAMES")
     refused(body_of([model.sign(entry_of("ALPH", [SIGN, ISSUE, transfer(EXPORT, AGENT)]), "ALPH")]),
             "BENV", "DESTINATION")
+    back = transfer(IMPORT, EXPORT)
+    for text, code, reason in (
+            ("x", "BSIG", "SIGNATURE"),
+            (model.sign({}, "BETA"), "BENV", "ENTRY"),
+            (model.sign(entry_of("BETA", [back], FIRST), "ALPH"), "BSIG", "SIGNER"),
+            (model.sign(entry_of("BETA", [back]), "BETA"), "BENV", "LINK"),
+            (model.sign(entry_of("BETA", [back], FIRST, bill=ABC), "BETA"), "BENV", "BILL"),
+            (model.sign(entry_of("GAMM", [back], FIRST), "GAMM"), "BENV", "PLATFORM"),
+            (model.sign(entry_of("BETA", [transfer(EXPORT, AGENT)], FIRST), "BETA"), "BENV", "FOLD"),
+            (model.sign(entry_of("BETA", [transfer(IMPORT, "BETA/NOBODY")], FIRST), "BETA"), "BENV", "MOVE")):
+        refused(body_of([FIRST, text], "BETA"), code, reason, 1)
     script.ask("BETA", BILL, place="ABSENT")
     script.start("BETA", good, "RECE", [number + 1])
     script.start("BETA", dict(good, further=[]), "DUPE", [number + 2])
@@ -456,14 +703,21 @@ def ignored_replies():
         ignored("SIGNATURE", kind, model.sign(response, "BETA", model.key_of("GAMM")))
         ignored("FORM", kind, model.sign(dict(response, responseCode="NONE"), "BETA"))
         ignored("FORM", kind, model.sign(dict(response, reason="PARTY"), "BETA"))
+        ignored("FORM", kind, model.sign({}, "BETA"))
         ignored("OTHER_ENTRY", kind, model.sign(dict(response, last=ABC), "BETA"))
+        of_no_entry = {name: it for name, it in response.items() if name != "last"}
+        ignored("OTHER_ENTRY", kind, model.sign(of_no_entry, "BETA"))
         ignored("PASSING", kind, model.sign(dict(response, responseCode="MDOC", missing=[ABC]), "BETA"))
         ignored("PASSING", kind, model.sign(dict(response, responseCode="BENV", reason="BODY"), "BETA"))
     ignored("SIGNATURE", "FINISH_REPLY", "{}")
+    for text in ("x", " {}"):
+        ignored("SIGNATURE", "START_REPLY", text)
     script.hear("BETA", "FINISH_REPLY", model.sign(response, "BETA"), "IGNORED", reason="NOT_PARTING")
     started = {"missing": [ABC], "reference": script.reference(1).upper()}
     script.hear("ALPH", "START_REPLY", model.canon(started), "DONE", [2], place="PARTING")
     script.hear("ALPH", "FINISH_REPLY", model.sign(response, "BETA"), "DONE", place="GONE", entries=1)
+    ignored("NOT_PARTING", "START_REPLY", "{}")
+    ignored("NOT_PARTING", "FINISH_REPLY", "")
     script.write({"acts": [], "end": "ALPH", "entries": 0, "forked": False})
 
 
@@ -491,7 +745,16 @@ def foreign_uploads():
     script.event({"at": "BETA", "foreign": "FINISH", "reference": "{%s}" % reference}, "DUPE", [7])
     script.deliver(6, "NO_MESSAGE")
     script.deliver(6, "DONE", at="ALPH", place="GONE")
-    script.event({"show": 6}, "SHOWN", **{"from": "BETA"}, kind="FINISH_REPLY", to=None)
+    script.show(6, **{"from": "BETA"}, kind="FINISH_REPLY", to=None)
+    for number, missing in ((3, []), (4, []), (5, [ABC]), (6, []), (7, [])):
+        script.names(number, "BETA", script.entry(1), missing)
+    # of another bill of the same shard the same document is missing, and the order is the manifest's
+    for other in in_shard_of(DOCUMENT, 1):
+        bill = model.bill_of(other)
+        documents = [{"checksum": it, "media": "text/plain", "name": "A", "size": size}
+                     for it, size in ((EMPTY, 2), (ABC, 3))]
+        body = body_of(route(bill, 1), document=other, bill=bill, documents=documents)
+        script.start("BETA", body, "STARTED", [8], missing=[EMPTY, ABC])
     script.write(AT_BETA)
 
 
@@ -510,9 +773,8 @@ def asked_documents():
     script.hear("ALPH", "START_REPLY", model.canon(dict(asked, missing=[ABC] * 17)), "IGNORED", reason="FORM")
     script.hear("ALPH", "START_REPLY", model.canon(asked), "DONE", [2, 3, 4], place="PARTING")
     for number, data in ((2, b"abc"), (3, b"1")):
-        script.event({"show": number}, "SHOWN", **{"from": "ALPH"}, to="BETA", kind="PUT",
-                     bytes=base64.b64encode(data).decode())
-    script.event({"show": 4}, "SHOWN", **{"from": "ALPH"}, to="BETA", kind="FINISH", bytes="")
+        script.show(number, **{"from": "ALPH"}, to="BETA", kind="PUT", bytes=base64.b64encode(data).decode())
+    script.show(4, **{"from": "ALPH"}, to="BETA", kind="FINISH", bytes="")
     script.write(dict(NEW, acts=[]))
 
 
@@ -614,6 +876,86 @@ def rules_of_titles():
     script.write({"acts": [], "end": "ALPH", "entries": 0, "state": "ENDED"})
 
 
+# Acts on a bill of the carrier: the kind, the actor, and the recipient where there is one.
+ISSUING, ENDORSING, HANDING = ("ISSUE", CARRIER, EXPORT), ("ENDORSE", EXPORT, BANK), ("TRANSFER", EXPORT, BANK)
+LEAVING, DELIVERY = ("TRANSFER", EXPORT, IMPORT), ("SURRENDER_FOR_DELIVERY", EXPORT)
+ACCEPTING, REFUSING = ("SURRENDER_ACCEPTED", CARRIER), ("SURRENDER_REFUSED", CARRIER)
+ACTS = (ISSUING, ENDORSING, HANDING, LEAVING, DELIVERY, ("SURRENDER_FOR_AMENDMENT", EXPORT), ACCEPTING, REFUSING)
+
+# What was done on a bill since it was signed, what each of those acts comes to then, and an attachment by the exporter.
+STATES = (((), "DONE F4 F4 F4 F4 F4 F4 F4", "F7"),
+          ((ISSUING,), "F4 DONE DONE DONE DONE DONE F4 F4", "DONE"),
+          ((ISSUING, ENDORSING), "F4 F8 DONE DONE F8 F8 F4 F4", "DONE"),
+          ((ISSUING, HANDING), "F4 F7 F7 F7 F7 F7 F4 F4", "F7"),
+          ((ISSUING, DELIVERY), "F4 F4 F4 F4 F4 F4 DONE DONE", "F7"),
+          ((ISSUING, DELIVERY, ACCEPTING), "F3 F3 F3 F3 F3 F3 F3 F3", "F3"))
+
+
+def commands_in_every_state():
+    """Each kind of command in each state and place of a bill. What changes a bill is done on a bill of its own."""
+    script = Script("commands_in_every_state")
+    count = 0
+
+    def refusal(word):
+        return {} if word == "DONE" else {"answer": "NOT_ALLOWED", "rule": word}
+
+    def comes(number, act, **members):
+        is_leaving = act == LEAVING and not members
+        sent, place = ([len(script.world.sent) + 1], "PARTING") if is_leaving else ([], "HELD")
+        script.act("ALPH", *act, number=number, sent=sent, **members or {"place": place})
+
+    def new(done):
+        """The number of a new bill on which this was done."""
+        nonlocal count
+        count += 1
+        script.sign(further(count), bill=count)
+        for act in done:
+            comes(count, act)
+        return count
+
+    def not_here(number, place):
+        for act in ACTS:
+            comes(number, act, answer="NOT_HERE", **{"place": place})
+        script.attach(b"abc", "A", "NOT_HERE", number=number, place=place)
+
+    for done, words, attached in STATES:
+        here = new(done)
+        for act, word in zip(ACTS, words.split()):
+            comes(new(done) if word == "DONE" else here, act, **refusal(word))
+        reply = {} if attached == "DONE" else {"reply": "NOT_ALLOWED", "rule": attached}
+        script.attach(b"abc", "A", number=here, **reply)
+        script.sign(further(here), answer="KNOWN_BILL")
+    away = new((ISSUING, LEAVING))
+    start = len(script.world.sent)
+    not_here(away, "PARTING")
+    script.sign(further(away), answer="KNOWN_BILL")
+    script.deliver(start, "RECE", [start + 1])
+    script.deliver(start + 1, "DONE", place="GONE")
+    not_here(away, "GONE")
+    script.sign(further(away), answer="KNOWN_BILL")
+    not_here(model.bill_of(further(count + 1)), "ABSENT")
+    new(())
+    script.write(*[{"forked": False}] * count)
+
+
+def first_refusal():
+    """Of several refusals of a command the first in the order of docs/commands.md is told."""
+    script = Script("first_refusal")
+    nobody = "ALPH/NOBODY"
+    for party, answer in ((IMPORT, "NOT_OURS"), (EXPORT, "DOCUMENT")):
+        script.sign({}, party=party, answer=answer)
+    script.sign(party=EXPORT, answer="NOT_CARRIER")
+    script.act("ALPH", "TRANSFER", IMPORT, nobody, number=BILL, answer="NOT_OURS")
+    script.act("ALPH", "TRANSFER", BANK, nobody, number=BILL, answer="NOT_HERE", place="ABSENT")
+    script.issue()
+    script.sign(party=IMPORT, answer="NOT_OURS")
+    script.sign(party=EXPORT, answer="NOT_CARRIER")
+    script.sign(answer="KNOWN_BILL")
+    for kind in ("TRANSFER", "SURRENDER_FOR_DELIVERY"):
+        script.act("ALPH", kind, BANK, nobody, answer="NO_PARTY", party=nobody)
+    script.write(NEW)
+
+
 def no_message():
     script = Script("no_message")
     script.deliver(9, "NO_MESSAGE")
@@ -639,7 +981,17 @@ def attached_twice():
     script.endorse()
     script.part()
     script.deliver(1, "STARTED", [2], missing=[ABC])
-    script.write(dict(NEW, acts=[]))
+    script.deliver(2, "DONE", [3, 4])
+    script.deliver(3, "STORED")
+    script.deliver(4, "RECE", [5])
+    for data in (b"abc", b"{}"):
+        script.attach(data, "C", at="BETA", actor=IMPORT)
+    script.act("BETA", "TRANSFER", IMPORT, EXPORT, sent=[6], place="PARTING")
+    _, manifest = model.verified(json.loads(script.sent(6))["manifest"])
+    assert [it["checksum"] for it in manifest["documents"]] == [ABC, EMPTY]
+    script.show(6)
+    script.deliver(6, "STARTED", [7], missing=[EMPTY])
+    script.write({"acts": [], "end": "BETA", "entries": 1, "forked": False})
 
 
 def documents_limit():
@@ -663,16 +1015,36 @@ def documents_limit():
 
 
 def transactions_limit():
-    """After 31 transactions that stay only a move is left; a surrender that stays needs a further place."""
+    """After 31 transactions that stay only a move is left; a surrender that stays needs a further place, for its
+    refusal. A rule is told before a limit."""
     script = Script("transactions_limit")
-    script.issue()
-    holders = [EXPORT, BANK]
-    for at in range(29):
-        script.act("ALPH", "TRANSFER", holders[at % 2], holders[1 - at % 2], possessor=holders[1 - at % 2])
-    script.act("ALPH", "TRANSFER", BANK, EXPORT, answer="LIMIT", which="TRANSACTIONS")
+
+    def handed(number, *route):
+        """A new bill goes from the exporter along these parties."""
+        script.sign(further(number), bill=number)
+        script.act("ALPH", "ISSUE", CARRIER, EXPORT, number=number)
+        for actor, recipient in zip((EXPORT, *route), route):
+            script.act("ALPH", "TRANSFER", actor, recipient, number=number, possessor=recipient)
+
+    def refused(number, *act):
+        script.act("ALPH", *act, number=number, answer="LIMIT", which="TRANSACTIONS")
+
+    handed(1, *[BANK, EXPORT] * 14, BANK)
+    refused(1, "TRANSFER", BANK, EXPORT)
+    script.act("ALPH", "TRANSFER", EXPORT, BANK, answer="NOT_ALLOWED", rule="F7")
     script.act("ALPH", "TRANSFER", BANK, IMPORT, sent=[1], place="PARTING")
     script.deliver(1, "RECE", [2])
-    script.write({"acts": ["BETA"], "end": "BETA", "entries": 1, "holder": EXPORT, "possessor": IMPORT})
+    handed(2, *[BANK, EXPORT] * 14)
+    for kind in ("SURRENDER_FOR_DELIVERY", "SURRENDER_FOR_AMENDMENT"):
+        refused(2, kind, EXPORT)
+    for number, kind in ((3, "SURRENDER_FOR_DELIVERY"), (4, "SURRENDER_FOR_AMENDMENT")):
+        handed(number, *[BANK, EXPORT] * 12, BANK, CARRIER, EXPORT)
+        script.act("ALPH", kind, EXPORT, number=number, state="ASKED")
+    script.act("ALPH", "SURRENDER_REFUSED", CARRIER, number=3, state="LIVE")
+    refused(3, "TRANSFER", EXPORT, BANK)
+    script.act("ALPH", "SURRENDER_ACCEPTED", CARRIER, number=4, state="ENDED")
+    script.write({"acts": ["BETA"], "end": "BETA", "entries": 1, "holder": EXPORT, "possessor": IMPORT},
+                 {"possessor": EXPORT, "state": "LIVE"}, {"possessor": EXPORT, "state": "LIVE"}, {"state": "ENDED"})
 
 
 def entries_limit():
@@ -728,7 +1100,7 @@ def every_reply():
     script.event({"restart": "BETA"}, "OPENED")
     script.deliver(21, "RECE", [24])
     script.deliver(21, "DUPE", [25])
-    script.event({"show": 21}, "SHOWN", **{"from": "ALPH"}, to="BETA", kind="FINISH", bytes="")
+    script.show(21, **{"from": "ALPH"}, to="BETA", kind="FINISH", bytes="")
     script.deliver(22, "IGNORED", reason="PASSING")
     script.deliver(24, "DONE", place="GONE")
     forged = model.sign(entry_of("ALPH", [SIGN, ISSUE, transfer(EXPORT, IMPORT)]), "ALPH")
@@ -751,13 +1123,14 @@ def bad_line():
 
 def main():
     for make in (transfer_to_another_platform, repeated_delivery, restart_while_parting, uploaded_documents,
-                 start_delivered_twice, restart_between_uploads, unknown_receiver, return_before_the_answer,
-                 to_another_platform, surrender, two_bills_of_two_carriers, bills_of_one_shard,
-                 chain_without_its_middle, parted_chains, texts_of_disputes, forked_chains, refused_bodies,
+                 start_delivered_twice, restart_between_uploads, unknown_receiver, answer_about_another_entry,
+                 return_before_the_answer, to_another_platform, surrender, two_bills_of_two_carriers,
+                 bills_of_one_shard, chain_without_its_middle, parted_chains, texts_of_disputes, chains_that_meet,
+                 first_judgement, dispute_at_the_finish, forked_chains, two_continuations, refused_bodies,
                  ignored_replies, foreign_uploads, asked_documents, other_partys_platform, no_bill_before_not_ours,
-                 not_the_carrier, documents_of_no_bill, nobody_here, asker_of_no_platform, rules_of_titles, no_message,
-                 unknown_reference, attached_twice, documents_limit, transactions_limit, entries_limit, every_reply,
-                 bad_line):
+                 not_the_carrier, documents_of_no_bill, nobody_here, asker_of_no_platform, rules_of_titles,
+                 commands_in_every_state, first_refusal, no_message, unknown_reference, attached_twice,
+                 documents_limit, transactions_limit, entries_limit, every_reply, bad_line):
         make()
 
 
