@@ -1,5 +1,4 @@
-//! Tests of `transfer_core`'s shards: transfers between platforms, told step by step, and each answer by a real body.
-//! There is nothing here but tests.
+//! Tests of `transfer_core`'s shards: what a script of the program can't tell of them. There is nothing here but tests.
 #![tactic(auto)]
 
 #[cfg(test)]

@@ -1,12 +1,4 @@
-//! Shards of several platforms that hand their messages to each other, and every reason of their answers.
-mod answers;
+//! Single shards: what they write down, and a ring that fails to sign.
 mod asking;
-mod bodies;
-mod forging;
-mod ignored;
-mod reasons;
-mod rows;
 mod signing;
-mod steps;
-mod words;
-mod world;
+mod writing;

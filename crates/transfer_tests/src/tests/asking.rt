@@ -1,4 +1,4 @@
-//! Rosters, parties, commands.
+//! Shards, and what they are asked: rosters, parties, commands, and the body of a start.
 ghost use Rattle.std.specs.Prelude.{IfOk};
 ghost use Rattle.ebl_base.specs.Moment.{IsMoment};
 ghost use Rattle.ebl_base.specs.Party.{IsParty};
@@ -7,20 +7,23 @@ ghost use Rattle.holder_commands.specs.Form.{IsCommand};
 ghost use Rattle.party_roster.specs.RosterForm.{IsRoster};
 ghost use Rattle.transfer_judge.specs.PlannedTexts.{Nests};
 
-use canonical_json::{Json, read};
-use document_checksum::from_text;
-use ebl_base::{Checksum, Moment, Party, PlatformCode};
+use canonical_json::read;
+use ebl_base::{ByteList, Moment, Party, PlatformCode};
 use envelope_manifest::Body;
 use holder_commands::Command;
 use party_roster::Roster;
+use platform_requests::{Message, Outcome, Request};
+use signed_envelope::KeyRing;
 use std::alloc::Global;
+use std::process::Abort;
 use std::test::Fail;
+use test_signer::KeyedRing;
+use transfer_core::Shard;
 
-// BETA/NOBODY isn't among the parties.
 const ROSTER: &[u8] = br#"{
     "carriers":[{"code":"OCNL","party":"ALPH/CARRIER","provider":"NMFTA"}],
-    "parties":["ALPH/BANK","ALPH/CARRIER","ALPH/EXPORT","BETA/IMPORT","GAMM/AGENT"],
-    "platforms":["ALPH","BETA","GAMM"]
+    "parties":["ALPH/CARRIER","ALPH/EXPORT","BETA/IMPORT"],
+    "platforms":["ALPH","BETA"]
 }"#;
 
 // The document of the bill, as the one of a body.
@@ -39,11 +42,7 @@ const SIGNED: &[u8] = br#"{
 // The SHA-256 checksum of the document's canonical text, by sha256sum of GNU coreutils.
 const BILL: &str = "542fe9ce054c1f484751231f6d4e2ea1b57b5cc8e11d531525d1296ddd157e14";
 
-/// The bill's name.
-pub(crate) fn bill() -> Result<Checksum, Fail> {
-    Ok(from_text(BILL.as_bytes()).ok_or("a checksum")?)
-}
-
+/// ALPH and BETA, with the bill's carrier.
 pub(crate) fn roster(alloc: Global) -> Result<Roster, Fail>
     ensures { IfOk result (λ roster. IsRoster roster) }
 {
@@ -51,11 +50,12 @@ pub(crate) fn roster(alloc: Global) -> Result<Roster, Fail>
     Ok(Roster::read(alloc, &json)?)
 }
 
+/// The platform of this code.
 pub(crate) fn platform(code: &str) -> Result<PlatformCode, Fail> {
     Ok(PlatformCode::try_new(code.as_bytes()).ok_or("a code")?)
 }
 
-pub(crate) fn party(text: &str) -> Result<Party, Fail>
+fn party(text: &str) -> Result<Party, Fail>
     ensures { IfOk result (λ party. IsParty party) }
 {
     match Party::from_text(text.as_bytes()) {
@@ -64,7 +64,7 @@ pub(crate) fn party(text: &str) -> Result<Party, Fail>
     }
 }
 
-pub(crate) fn moment(number: u64) -> Result<Moment, Fail>
+fn moment(number: u64) -> Result<Moment, Fail>
     ensures { IfOk result (λ now. IsMoment now) }
 {
     match Moment::try_new(number) {
@@ -73,14 +73,8 @@ pub(crate) fn moment(number: u64) -> Result<Moment, Fail>
     }
 }
 
-/// The bill's document.
-pub(crate) fn document(alloc: Global) -> Result<Json, Fail> {
-    let Body { document, .. } = Body::read(alloc, SIGNED)?;
-    Ok(document)
-}
-
-/// The SIGN of the bill's document.
-pub(crate) fn signing(alloc: Global) -> Result<Command, Fail>
+// The SIGN of the bill's document.
+fn signing(alloc: Global) -> Result<Command, Fail>
     ensures form { IfOk result (λ c. IsCommand (command_view c)) }
     ensures nests { IfOk result (λ c. Nests (command_view c)) }
 {
@@ -88,12 +82,14 @@ pub(crate) fn signing(alloc: Global) -> Result<Command, Fail>
     Ok(Command::Sign { document })
 }
 
-/// A command on the bill: its `do` and the members that follow, as `,"recipient":"BETA/IMPORT"`.
-pub(crate) fn command(alloc: Global, word: &str, members: &str) -> Result<Command, Fail>
+// The act of this kind on the bill, for a recipient.
+fn act_for(alloc: Global, word: &str, to: &str) -> Result<Command, Fail>
     ensures form { IfOk result (λ c. IsCommand (command_view c)) }
     ensures nests { IfOk result (λ c. Nests (command_view c)) }
 {
-    let text = format!(in alloc; "{{\"bill\":\"{BILL}\",\"do\":\"{word}\"{members}}}")?;
+    let text = format!(in alloc;
+        "{{\"bill\":\"{BILL}\",\"do\":\"{word}\",\"recipient\":\"{to}\"}}"
+    )?;
     let json = read(alloc, text.as_bytes())?;
     match Command::read(alloc, &json)? {
         Command::Act {
@@ -105,17 +101,97 @@ pub(crate) fn command(alloc: Global, word: &str, members: &str) -> Result<Comman
             kind,
             recipient,
         }),
-        Command::Attach {
-            bill,
-            name,
-            media,
-            bytes,
-        } => Ok(Command::Attach {
-            bill,
-            name,
-            media,
-            bytes,
-        }),
-        Command::Sign { .. } => Err("a SIGN".into()),
+        _ => Err("an act".into()),
     }
+}
+
+// A party asks a shard of its platform.
+fn asks<G: KeyRing>(
+    shard: &mut Shard<G>,
+    alloc: Global,
+    by: &str,
+    command: Command,
+) -> Result<Outcome, Fail>
+    requires form { IsCommand (command_view command) }
+    requires nests { Nests (command_view command) }
+{
+    let (party, now) = (party(by)?, moment(1000)?);
+    if !shard.has_attempts(&command) {
+        return Err("too many attempts".into());
+    }
+    Ok(shard.take(alloc, now, Request::Command { party, command }))
+}
+
+/// Who acts on the bill, in which kind, and for whom.
+pub(crate) type Act = (&'static str, &'static str, &'static str);
+
+/// The bill is issued.
+pub(crate) const ISSUE: Act = ("ALPH/CARRIER", "ISSUE", "ALPH/EXPORT");
+
+/// It is endorsed to whom it is for.
+pub(crate) const ENDORSE: Act = ("ALPH/EXPORT", "ENDORSE", "BETA/IMPORT");
+
+/// It is sent to BETA.
+pub(crate) const SEND: Act = ("ALPH/EXPORT", "TRANSFER", "BETA/IMPORT");
+
+/// A party of ALPH acts on the bill.
+pub(crate) fn acts<G: KeyRing>(
+    alloc: Global,
+    shard: &mut Shard<G>,
+    (by, word, to): Act,
+) -> Result<Outcome, Fail> {
+    let command = act_for(alloc, word, to)?;
+    asks(shard, alloc, by, command)
+}
+
+/// The carrier signs the bill.
+pub(crate) fn sign<G: KeyRing>(alloc: Global, shard: &mut Shard<G>) -> Result<(), Fail> {
+    asks(shard, alloc, "ALPH/CARRIER", signing(alloc)?)?;
+    Ok(())
+}
+
+/// A start with this body comes to a shard.
+pub(crate) fn starts<G: KeyRing>(
+    alloc: Global,
+    shard: &mut Shard<G>,
+    body: &[u8],
+) -> Result<Outcome, Fail> {
+    let (now, body) = (moment(2000)?, ByteList::from_slice(alloc, body)?);
+    Ok(shard.take(alloc, now, Request::Start { body }))
+}
+
+// The body of the start that is the first message.
+fn body_of(outcome: Outcome) -> Result<ByteList, Fail> {
+    match outcome.messages.into_vec().pop() {
+        Some(Message::Start { body, .. }) => Ok(body),
+        _ => Err("a start".into()),
+    }
+}
+
+/// A shard of a platform, with the test signer's keys.
+pub(crate) fn keyed(alloc: Global, code: &str) -> Result<Shard<KeyedRing>, Fail> {
+    let (me, roster) = (platform(code)?, roster(alloc)?);
+    Ok(Shard::new(alloc, me, roster, KeyedRing::derived()))
+}
+
+/// The body of the start by which ALPH sends the bill to BETA after these acts.
+pub(crate) fn sent_after(alloc: Global, before: &[Act]) -> Result<ByteList, Fail> {
+    let mut shard = keyed(alloc, "ALPH")?;
+    sign(alloc, &mut shard)?;
+    for act in before {
+        acts(alloc, &mut shard, *act)?;
+    }
+    body_of(acts(alloc, &mut shard, SEND)?)
+}
+
+/// Asserts the reply, how many messages are sent, and how many frames stand in the diary.
+pub(crate) fn comes_to<R: Abort, G: KeyRing>(
+    rt: &R,
+    shard: &Shard<G>,
+    outcome: &Outcome,
+    (reply, messages, frames): (&str, usize, usize),
+) {
+    assert_eq!(rt; outcome.reply.as_str(), reply);
+    assert_eq!(rt; outcome.messages.as_slice().len(), messages);
+    assert_eq!(rt; shard.diary().as_slice().len(), frames);
 }
