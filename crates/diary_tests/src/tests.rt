@@ -1,16 +1,14 @@
-//! Chains, places of bills, judgements, plans, families of diaries, and lines of bills.
+//! Chains, places of bills, a judgement, and families of diaries.
 mod chains;
 mod conjuncts;
 mod entries;
 mod families;
 mod flaws;
 mod judgements;
-mod lines;
 mod making;
 mod meetings;
 mod names;
 mod places;
-mod plans;
 mod real_texts;
 mod refusals;
 mod steps;

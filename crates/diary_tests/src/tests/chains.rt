@@ -2,7 +2,7 @@
 use super::entries::{
     FIRST_BY_UNKNOWN, FOURTH, NONE, SECOND_BY_UNKNOWN, chain, checked, found, turn,
 };
-use super::making::{At, Bill, WIDE, code, roster, the_bill};
+use super::making::{At, Bill, code, roster, the_bill};
 use super::steps::manifest;
 use ebl_base::{Chain, Items};
 use std::alloc::Global;
@@ -23,7 +23,7 @@ fn longest_chain_is_checked(rt: HostRuntime) -> Result<(), Fail> {
 
 fn is_elsewhere(alloc: Global, bill: Bill, at: At, chain: &Chain) -> Result<bool, Fail> {
     let none = Items::new(alloc);
-    let roster = roster(alloc, WIDE)?;
+    let roster = roster(alloc)?;
     let manifest = manifest(alloc, bill.name, bill.name, &[])?;
     let judgement = judge(alloc, &none, &roster, code(at)?, chain, &manifest)?;
     Ok(matches!(judgement, Judgement::Elsewhere))

@@ -1,8 +1,7 @@
 //! Chains of a bill that goes to and fro between ALPH and BETA, each named by what its entries do. A chain's name is
 //! that of its last entry too.
 use super::making::{
-    Act, At, Bill, ENDORSE_TO_IMPORTER, EXPORTER, IMPORTER, ISSUE, SIGN, TO_AGENT, WIDE, code,
-    link_of, roster, transaction,
+    Act, At, Bill, EXPORTER, IMPORTER, ISSUE, SIGN, TO_AGENT, code, link_of, roster, transaction,
 };
 use ebl_base::{
     Chain, ChainLink, Checksum, Copied, Entry, Kind, SignedText, TextList, TransactionList,
@@ -19,12 +18,8 @@ pub(crate) enum Leg {
     Usual,
     /// The same, as another attempt.
     Other,
-    /// The same; the title is endorsed to the importer before. ALPH's first entry alone does so.
-    Endorsed,
     /// It hands the bill to GAMM, as another attempt. ALPH alone does so.
     ToAgent,
-    /// It hands the bill to a party of the other platform that the roster doesn't know.
-    ToUnknown,
     /// A party that doesn't have the bill hands it on, which is refused.
     ByUnknown,
 }
@@ -57,26 +52,11 @@ pub(crate) const OTHER_SECOND: Route = &[Leg::Usual, Leg::Other];
 
 pub(crate) const OTHER_SECOND_THIRD: Route = &[Leg::Usual, Leg::Other, Leg::Usual];
 
-pub(crate) const OTHER_SECOND_FOURTH: Route = &[Leg::Usual, Leg::Other, Leg::Usual, Leg::Usual];
-
 /// At the third entry.
 pub(crate) const OTHER_THIRD: Route = &[Leg::Usual, Leg::Usual, Leg::Other];
 
-pub(crate) const OTHER_THIRD_FOURTH: Route = &[Leg::Usual, Leg::Usual, Leg::Other, Leg::Usual];
-
-/// Chains whose last entry hands the bill to GAMM, or endorses it.
+/// The chain whose entry hands the bill to GAMM.
 pub(crate) const FORK: Route = &[Leg::ToAgent];
-
-pub(crate) const ENDORSED: Route = &[Leg::Endorsed];
-
-pub(crate) const ENDORSED_SECOND: Route = &[Leg::Endorsed, Leg::Usual];
-
-/// Chains whose last entry hands the bill to an unknown party.
-pub(crate) const FIRST_TO_UNKNOWN: Route = &[Leg::ToUnknown];
-
-pub(crate) const SECOND_TO_UNKNOWN: Route = &[Leg::Usual, Leg::ToUnknown];
-
-pub(crate) const THIRD_TO_UNKNOWN: Route = &[Leg::Usual, Leg::Usual, Leg::ToUnknown];
 
 /// Chains whose last entry is refused.
 pub(crate) const FIRST_BY_UNKNOWN: Route = &[Leg::ByUnknown];
@@ -96,7 +76,6 @@ fn transfer(entries: usize, leg: Leg) -> Act {
     };
     match leg {
         Leg::ToAgent => TO_AGENT,
-        Leg::ToUnknown => (Kind::Transfer, from, unknown),
         Leg::ByUnknown => (Kind::Transfer, unknown, to),
         _ => (Kind::Transfer, from, to),
     }
@@ -107,9 +86,6 @@ fn transactions(alloc: Global, entries: usize, leg: Leg) -> Result<TransactionLi
     if entries == 0 {
         list.push(transaction(SIGN)?)?;
         list.push(transaction(ISSUE)?)?;
-    }
-    if leg == Leg::Endorsed {
-        list.push(transaction(ENDORSE_TO_IMPORTER)?)?;
     }
     list.push(transaction(transfer(entries, leg))?)?;
     Ok(list)
@@ -198,7 +174,7 @@ pub(crate) fn found_of(
     bill: Bill,
     texts: &TextList,
 ) -> Result<Result<Chain, ChainRefusal>, Fail> {
-    let roster = roster(alloc, WIDE)?;
+    let roster = roster(alloc)?;
     let document = bill.document(alloc)?;
     Ok(check(alloc, &roster, &KeyedRing::derived(), &document, texts))
 }

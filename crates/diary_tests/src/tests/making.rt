@@ -13,22 +13,16 @@ use std::test::Fail;
 use test_signer::KeyedRing;
 use transport_document::Document;
 
-/// Three platforms. No party NOBODY or STORE is among the parties.
-pub(crate) const WIDE: &[u8] = br#"{
+// Three platforms. No party NOBODY or STORE is among the parties.
+const ROSTER: &[u8] = br#"{
     "carriers":[{"code":"OCNL","party":"ALPH/CARRIER","provider":"NMFTA"}],
     "parties":["ALPH/BANK","ALPH/CARRIER","ALPH/EXPORT","BETA/IMPORT","GAMM/AGENT"],
     "platforms":["ALPH","BETA","GAMM"]
 }"#;
 
-/// The same without BETA and GAMM.
-pub(crate) const NARROW: &[u8] = br#"{
-    "carriers":[{"code":"OCNL","party":"ALPH/CARRIER","provider":"NMFTA"}],
-    "parties":["ALPH/BANK","ALPH/CARRIER","ALPH/EXPORT"],
-    "platforms":["ALPH"]
-}"#;
-
-pub(crate) fn roster(alloc: Global, text: &[u8]) -> Result<Roster, Fail> {
-    Ok(Roster::read(alloc, &read(alloc, text)?)?)
+/// The roster of the tests.
+pub(crate) fn roster(alloc: Global) -> Result<Roster, Fail> {
+    Ok(Roster::read(alloc, &read(alloc, ROSTER)?)?)
 }
 
 /// A platform of the tests.
@@ -70,13 +64,7 @@ pub(crate) const ISSUE: Act = (Kind::Issue, CARRIER, EXPORTER);
 /// The exporter may not issue the bill.
 pub(crate) const ISSUE_BY_EXPORTER: Act = (Kind::Issue, EXPORTER, EXPORTER);
 
-pub(crate) const ENDORSE_TO_BANK: Act = (Kind::Endorse, EXPORTER, BANK);
-
-pub(crate) const ENDORSE_TO_IMPORTER: Act = (Kind::Endorse, EXPORTER, IMPORTER);
-
 pub(crate) const TO_BANK: Act = (Kind::Transfer, EXPORTER, BANK);
-
-pub(crate) const FROM_BANK: Act = (Kind::Transfer, BANK, EXPORTER);
 
 pub(crate) const TO_IMPORTER: Act = (Kind::Transfer, EXPORTER, IMPORTER);
 
@@ -84,11 +72,7 @@ pub(crate) const TO_AGENT: Act = (Kind::Transfer, EXPORTER, "GAMM/AGENT");
 
 pub(crate) const FOR_DELIVERY: Act = (Kind::SurrenderForDelivery, EXPORTER, "");
 
-pub(crate) const FOR_AMENDMENT: Act = (Kind::SurrenderForAmendment, EXPORTER, "");
-
 pub(crate) const ACCEPT: Act = (Kind::SurrenderAccepted, CARRIER, "");
-
-pub(crate) const REFUSE: Act = (Kind::SurrenderRefused, CARRIER, "");
 
 pub(crate) fn party(text: &str) -> Result<Party, Fail> {
     Ok(Party::from_text(text.as_bytes()).ok_or("a party")?)

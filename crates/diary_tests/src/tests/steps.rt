@@ -29,11 +29,9 @@ pub(crate) enum Step {
     Begun(Route),
     BegunTaken(Route),
     Stored(Paper),
-    StoredOfAnotherBill(Paper),
     Taken(Route),
     TakenOfAnotherBill(Route),
     /// Since the chains part; the evidence is the entry.
-    Disputed(Route),
     DisputedOfAnotherBill(Route),
     /// Since the roster doesn't know the party; without evidence.
     Declined(Route),
@@ -52,22 +50,16 @@ pub(crate) fn paper_name(paper: Paper) -> Checksum {
     checksum(bytes_of(paper))
 }
 
-/// A document of this size and this checksum, whatever its bytes.
-pub(crate) fn piece(alloc: Global, size: u32, checksum: Checksum) -> Piece {
+fn piece_of(alloc: Global, paper: Paper) -> Piece {
     Piece {
         name: CharList::new(alloc),
         media: CharList::new(alloc),
-        size,
-        checksum,
+        size: match paper {
+            Paper::Packing => 12,
+            Paper::Weights => 7,
+        },
+        checksum: paper_name(paper),
     }
-}
-
-fn piece_of(alloc: Global, paper: Paper) -> Piece {
-    let size = match paper {
-        Paper::Packing => 12,
-        Paper::Weights => 7,
-    };
-    piece(alloc, size, paper_name(paper))
 }
 
 /// The manifest of a chain that ends in this entry, with these documents.
@@ -121,10 +113,10 @@ fn attached(alloc: Global, bill: Bill, paper: Paper) -> Result<Record, Fail> {
     })
 }
 
-fn stored(alloc: Global, of: Checksum, entry: Checksum, paper: Paper) -> Result<Record, Fail> {
+fn stored(alloc: Global, bill: Bill, paper: Paper) -> Result<Record, Fail> {
     Ok(Record::Stored {
-        bill: of,
-        entry,
+        bill: bill.name,
+        entry: bill.name,
         checksum: paper_name(paper),
         bytes: ByteList::from_slice(alloc, bytes_of(paper))?,
     })
@@ -185,10 +177,10 @@ fn taken(alloc: Global, of: Checksum, bill: Bill, route: Route) -> Result<Record
     })
 }
 
-fn disputed(alloc: Global, of: Checksum, bill: Bill, route: Route) -> Result<Record, Fail> {
+fn disputed_of_another_bill(alloc: Global, bill: Bill, route: Route) -> Result<Record, Fail> {
     let link = last(alloc, bill, route)?;
     Ok(Record::Declined {
-        bill: of,
+        bill: another_bill(),
         entry: link.name,
         code: Code::DisputedEnvelope,
         reason: Reason::Parts,
@@ -220,12 +212,10 @@ fn record(alloc: Global, bill: Bill, step: Step) -> Result<Record, Fail> {
         Step::Settled(route) => settled(alloc, bill, route),
         Step::Regained(route) => regained(alloc, bill, route),
         Step::Begun(route) | Step::BegunTaken(route) => begun(alloc, bill, route),
-        Step::Stored(paper) => stored(alloc, bill.name, bill.name, paper),
-        Step::StoredOfAnotherBill(paper) => stored(alloc, another_bill(), bill.name, paper),
+        Step::Stored(paper) => stored(alloc, bill, paper),
         Step::Taken(route) => taken(alloc, bill.name, bill, route),
         Step::TakenOfAnotherBill(route) => taken(alloc, another_bill(), bill, route),
-        Step::Disputed(route) => disputed(alloc, bill.name, bill, route),
-        Step::DisputedOfAnotherBill(route) => disputed(alloc, another_bill(), bill, route),
+        Step::DisputedOfAnotherBill(route) => disputed_of_another_bill(alloc, bill, route),
         Step::Declined(route) => declined(alloc, bill, route),
     }
 }
