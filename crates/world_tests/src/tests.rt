@@ -1,7 +1,4 @@
-//! Events of a world, a bill that goes to another platform, disks that fail, rehearsals, and what is honest.
-mod events;
+//! Worlds on disks and with rings that fail, and what is honest.
 mod failures;
 mod honesty;
-mod rehearsals;
-mod transfer;
 mod worlds;

@@ -1,9 +1,13 @@
 //! Disks and rings that fail at chosen calls of BETA's shard, and what the same start is answered then and later.
 //!
 //! The disk's calls 0, 1 and 2 open it; an append writes the frame, syncs, writes the gate, and syncs: calls 3 to 6.
-use super::transfer::AT_BETA;
 use super::worlds::{Failing, answers};
 use std::test::Fail;
+
+// The bill's line once BETA has taken it.
+const AT_BETA: &str =
+    r#"{"acts":["BETA"],"bill":1,"end":"BETA","entries":1,"forked":false,"holder":"BETA/IMPORT","possessor":"BETA/IMPORT","state":"LIVE"}
+"#;
 
 // The place of BETA's shard of the bill among the racks.
 const BETA: usize = 20;

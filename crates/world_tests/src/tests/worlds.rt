@@ -11,15 +11,15 @@ use std::process::Abort;
 use std::test::Fail;
 use test_signer::FailingRing;
 
-/// The roster line of two platforms.
-pub(crate) const ROSTER: &[u8] = br#"{"roster":{
+// The roster line of two platforms.
+const ROSTER: &[u8] = br#"{"roster":{
     "carriers":[{"code":"OCNL","party":"ALPH/CARRIER","provider":"NMFTA"}],
     "parties":["ALPH/CARRIER","ALPH/EXPORT","BETA/IMPORT"],
     "platforms":["ALPH","BETA"]
 }}"#;
 
-/// The carrier signs and issues a bill, and its possessor hands it to BETA: message 1 is the start.
-pub(crate) const HANDED_OVER: [(&str, &str); 4] = [
+// The carrier signs and issues a bill, and its possessor hands it to BETA: message 1 is the start.
+const HANDED_OVER: [(&str, &str); 4] = [
     (
         r#"{"at":"ALPH","do":"SIGN","document":{"carrierCode":"OCNL","carrierCodeListProvider":"NMFTA","isToOrder":true,
         "transportDocumentReference":"OCNL0000001","transportDocumentTypeCode":"BOL"},"party":"ALPH/CARRIER"}"#,
@@ -43,11 +43,11 @@ pub(crate) const HANDED_OVER: [(&str, &str); 4] = [
     ),
 ];
 
-/// What a shard runs on.
-pub(crate) type TestRack = Rack<MemoryDisk, FailingRing>;
+// What a shard runs on.
+type TestRack = Rack<MemoryDisk, FailingRing>;
 
-/// A world of these.
-pub(crate) type TestWorld = World<JournaledShard<MemoryDisk, FailingRing>>;
+// A world of these.
+type TestWorld = World<JournaledShard<MemoryDisk, FailingRing>>;
 
 /// The calls that are to fail on one rack: of its disk, those of them whose bytes go in all the same, and of its ring.
 /// The disk's first three calls are those of the opening.
@@ -59,8 +59,8 @@ pub(crate) struct Failing {
     pub(crate) signs: &'static [u64],
 }
 
-/// No call fails.
-pub(crate) const NONE: Failing = Failing {
+// No call fails.
+const NONE: Failing = Failing {
     place: 0,
     calls: &[],
     written: &[],
@@ -87,12 +87,8 @@ fn rack(alloc: Global, failing: Option<Failing>) -> Result<TestRack, NoMemory>
     })
 }
 
-/// So many racks with blank disks.
-pub(crate) fn racks(
-    alloc: Global,
-    count: usize,
-    failing: Failing,
-) -> Result<Vec<TestRack>, NoMemory>
+// So many racks with blank disks.
+fn racks(alloc: Global, count: usize, failing: Failing) -> Result<Vec<TestRack>, NoMemory>
     ensures count { IfOk result (λ racks. length racks.items ≡ count) }
     ensures blank { IfOk result (λ racks. AreBlank ⟦<MemoryDisk as Disk>⟧.tells ⟦<MemoryDisk as Disk>⟧.seen
         racks.items) }
@@ -109,8 +105,8 @@ pub(crate) fn racks(
     Ok(racks)
 }
 
-/// The roster's platforms, which have written nothing.
-pub(crate) fn world(alloc: Global, failing: Failing) -> Result<TestWorld, Fail>
+// The roster's platforms, which have written nothing.
+fn world(alloc: Global, failing: Failing) -> Result<TestWorld, Fail>
     ensures { IfOk result (λ world. world.fates ≡ []) }
 {
     let Some(roster) = roster_in(alloc, ROSTER)? else {
