@@ -26,6 +26,18 @@ BAD_LINE = "ebl: line %d is not a script line\n"
 # An exit for each script of examples/ that doesn't end by 0, and its line on standard error.
 ENDS = {"bad_line": (3, BAD_LINE % 3)}
 
+# Texts, and their canonical texts with the checksums of those by sha256sum of GNU coreutils. The names of the second
+# are in the order of their UTF-16 code units, which RFC 8785 shows in section 3.2.3.
+CANON = (
+    (" { } \n", "{}\n44136fa355b3678a1146ad16f7e8649e94fb4fc21fe77e8310c060f61caaff8a\n"),
+    (r'{"\ufb33":7,"\ud83d\ude00":6,"\u20ac":5,"\u00f6":4,"\u0080":3,"1":2,"\r":1}',
+     '{"\\r":1,"1":2,"\u0080":3,"\u00f6":4,"\u20ac":5,"\U0001f600":6,"\ufb33":7}\n'
+     "4bd52d82f332c2e5c7206abd57c74b45dd4f0fef63ab7af87b8bde4481e450e7\n"),
+    ("9007199254740991", "9007199254740991\nf40b423c2dd95ff2b2f027e22208f438cf7242862e5e746860e697308c9add26\n"),
+    ("24000.50", "24000.5\ne7c9432e4925b5d64f14b32a08da55fa53730e10a0e9af0932197a9a4e39f27f\n"),
+    ("-0.00", "0\n5feceb66ffc86f38d952786c6d696c79c2dbc239dd4e91b46729d73a27fb57e9\n"),
+)
+
 
 def run(words, given=b"", out=subprocess.PIPE):
     ended = subprocess.run([PROGRAM, *words], input=given, stdout=out, stderr=subprocess.PIPE)
@@ -58,11 +70,11 @@ def exits():
     yield "a second line feed at the end", run(["drive"], roster + b"\n\n") == (3, b"", BAD_LINE % 2)
     yield "100,001 lines", lines_too_many()
     yield "67,108,865 bytes", run(["drive"], b" " * 67_108_865) == (4, b"", "ebl: the input is too long\n")
-    empty = b"{}\n44136fa355b3678a1146ad16f7e8649e94fb4fc21fe77e8310c060f61caaff8a\n"
-    yield "canon", run(["canon"], b"{}") == (0, empty, "")
-    for text, why in ((b"{", "NOT_JSON"), (b"{\"a\":1e3,\"\\u0061\":2}", "REPEATED"), (b"24000.5e0", "FRACTION"),
-                      (b"9007199254740992", "RANGE")):
-        yield "canon of " + text.decode(), run(["canon"], text) == (5, b"", "ebl: JSON is refused: %s\n" % why)
+    for text, wanted in CANON:
+        yield "canon of " + text, run(["canon"], text.encode()) == (0, wanted.encode(), "")
+    for text, why in (("", "NOT_JSON"), ("{", "NOT_JSON"), ("{\"a\":1e3,\"\\u0061\":2}", "REPEATED"),
+                      ("24000.5e0", "FRACTION"), ("9007199254740992", "RANGE")):
+        yield "canon of " + text, run(["canon"], text.encode()) == (5, b"", "ebl: JSON is refused: %s\n" % why)
     yield "a source that fails", source_fails()
     yield "a sink that fails", sink_fails()
     code, out, err = run(["--help"])

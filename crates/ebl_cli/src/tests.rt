@@ -1,12 +1,11 @@
-//! The top call over memory: what is written, to the byte, and each status.
-use crate::command::command_of;
+//! The top call over memory: racks that are too few or don't serve, and a source, a sink and a disk that fail. What it
+//! writes where nothing fails is compared by `tools/check_program.py`.
 use crate::ended::Ended;
 use crate::run::run_ebl;
 use crate::status::Status;
-use canonical_json::ReadError;
 use disk_model::{Failures, MemoryDisk};
 use ebl_base::{ByteList, CallList, NoMemory};
-use ebl_edge::{MemorySink, MemorySource, RepeatedSource};
+use ebl_edge::{MemorySink, MemorySource};
 use journaled_shard::Rack;
 use platform_world::FateEnd;
 use std::alloc::Global;
@@ -111,20 +110,8 @@ fn racks_with(
     Ok(racks)
 }
 
-// Runs the command of these words on the pieces of a text with racks for three platforms, and compares the status and
-// the bytes written.
-fn expect_of(
-    rt: &impl Abort,
-    alloc: Global,
-    word: &str,
-    text: &[&str],
-    status: Status,
-    written: &[u8],
-) -> Result<(), NoMemory> {
-    expect_with(rt, alloc, word, text, 48, status, written)
-}
-
-// The same with so many racks.
+// Runs the command of these words on the pieces of a text with so many racks, and compares the status and the bytes
+// written.
 fn expect_with(
     rt: &impl Abort,
     alloc: Global,
@@ -165,81 +152,9 @@ fn faults_at(ended: &Ended<MemoryDisk, KeyedRing>, place: usize) -> Option<u64> 
     }
 }
 
-// Runs `drive` on the pieces of a script.
-fn expect(
-    rt: &impl Abort,
-    alloc: Global,
-    script: &[&str],
-    status: Status,
-    written: &[&str],
-) -> Result<(), NoMemory> {
-    let written = text_of(alloc, written)?;
-    expect_of(rt, alloc, "drive", script, status, written.as_slice())
-}
-
-#[test]
-fn first_run(rt: HostRuntime) -> Result<(), Fail> {
-    let alloc = rt.alloc();
-    expect(
-        &rt,
-        alloc,
-        &[ROSTER, FIRST_RUN, TRANSFER_TO_BANK],
-        Status::Done,
-        &[FIRST_THREE_ANSWERS, FOURTH_ANSWER],
-    )?;
-    Ok(())
-}
-
-#[test]
-fn refused_scripts(rt: HostRuntime) -> Result<(), Fail> {
-    let alloc = rt.alloc();
-    // A script, the first line outside the grammar, and the answers before it.
-    let rows: [(&[&str], u64, &[&str]); 5] = [
-        (&[], 1, &[]),
-        (&["{}\n"], 1, &[]),
-        (&[ROSTER, "\n"], 2, &[]),
-        (&[ROSTER, "{\"restart\":\"BETA\"}\n"], 2, &[]),
-        (&[ROSTER, SIGN, "{", SIGN], 3, &[SIGNED]),
-    ];
-    for (script, line, written) in rows {
-        expect(&rt, alloc, script, Status::BadScript(line), written)?;
-    }
-    Ok(())
-}
-
 const THREE: &str =
     r#"{"roster":{"carriers":[{"code":"OCNL","party":"ALPH/CARRIER","provider":"NMFTA"}],"parties":["ALPH/BANK","ALPH/CARRIER","ALPH/EXPORT","BETA/IMPORT","GAMM/AGENT"],"platforms":["ALPH","BETA","GAMM"]}}
 "#;
-
-const TRANSFER_TO_BETA: &str =
-    r#"{"at":"ALPH","bill":1,"do":"ISSUE","now":2000,"party":"ALPH/CARRIER","recipient":"ALPH/EXPORT"}
-{"at":"ALPH","bill":1,"do":"ENDORSE","now":3000,"party":"ALPH/EXPORT","recipient":"BETA/IMPORT"}
-{"at":"ALPH","bill":1,"do":"TRANSFER","now":4000,"party":"ALPH/EXPORT","recipient":"BETA/IMPORT"}
-{"deliver":1}
-{"deliver":2}
-"#;
-
-const TRANSFERRED_TO_BETA: &str =
-    r#"{"event":2,"reply":"DONE","sent":[],"view":{"bill":1,"entries":0,"holder":"ALPH/EXPORT","place":"HELD","possessor":"ALPH/EXPORT","state":"LIVE"}}
-{"event":3,"reply":"DONE","sent":[],"view":{"bill":1,"entries":0,"holder":"BETA/IMPORT","place":"HELD","possessor":"ALPH/EXPORT","state":"LIVE"}}
-{"event":4,"reply":"DONE","sent":[1],"view":{"bill":1,"entries":0,"holder":"BETA/IMPORT","place":"PARTING","possessor":"BETA/IMPORT","state":"LIVE"}}
-{"event":5,"reply":"RECE","sent":[2],"standing":false}
-{"event":6,"reply":"DONE","sent":[],"view":{"bill":1,"entries":1,"holder":"BETA/IMPORT","place":"GONE","possessor":"BETA/IMPORT","state":"LIVE"}}
-{"acts":["BETA"],"bill":1,"end":"BETA","entries":1,"forked":false,"holder":"BETA/IMPORT","possessor":"BETA/IMPORT","state":"LIVE"}
-"#;
-
-#[test]
-fn transfer_to_another_platform(rt: HostRuntime) -> Result<(), Fail> {
-    let alloc = rt.alloc();
-    expect(
-        &rt,
-        alloc,
-        &[THREE, SIGN, TRANSFER_TO_BETA],
-        Status::Done,
-        &[SIGNED, TRANSFERRED_TO_BETA],
-    )?;
-    Ok(())
-}
 
 #[test]
 fn too_few_racks(rt: HostRuntime) -> Result<(), Fail> {
@@ -255,6 +170,7 @@ fn too_few_racks(rt: HostRuntime) -> Result<(), Fail> {
     expect_with(&rt, alloc, "drive", bad, 47, Status::BadScript(3), b"")?;
     expect_with(&rt, alloc, "drive", &[THREE], 48, Status::Done, b"")?;
     expect_with(&rt, alloc, "drive", &[THREE], 49, Status::Done, b"")?;
+    expect_with(&rt, alloc, "rehearse 7 1 1", &[], 47, lacking, b"")?;
     Ok(())
 }
 
@@ -350,75 +266,6 @@ fn failing_gate_write(rt: HostRuntime) -> Result<(), Fail> {
 }
 
 #[test]
-fn smallest_rehearsal(rt: HostRuntime) -> Result<(), Fail> {
-    let alloc = rt.alloc();
-    let line =
-        b"{\"bills\":1,\"entries\":0,\"events\":3,\"forked\":false,\"replies\":{\"DONE\":2,\"NOT_HERE\":1}}\n";
-    expect_of(&rt, alloc, "rehearse 7 1 1", &[], Status::Done, line)?;
-    let lacking = Status::WrongRacks {
-        given: 47,
-        needed: 48,
-    };
-    expect_with(&rt, alloc, "rehearse 7 1 1", &[], 47, lacking, b"")?;
-    Ok(())
-}
-
-#[test]
-fn numbers_of_a_rehearsal(rt: HostRuntime) -> Result<(), Fail> {
-    let alloc = rt.alloc();
-    for line in ["rehearse 0 1 1", "rehearse 9223372036854775807 1000 20000"] {
-        assert!(rt; command_of(&words_of(alloc, line)?).is_some(), "{line}");
-    }
-    let refused = [
-        "rehearse",
-        "rehearse 7",
-        "rehearse 7 1",
-        "rehearse 7 1 1 1",
-        "rehearse 9223372036854775808 1 1",
-        "rehearse 18446744073709551623 1 1",
-        "rehearse 7 0 1",
-        "rehearse 7 1001 1",
-        "rehearse 7 1 0",
-        "rehearse 7 1 20001",
-        "rehearse +7 1 1",
-        "rehearse -7 1 1",
-        "rehearse 07 1 1",
-        "rehearse 7 01 1",
-        "rehearse 7 1 1.0",
-        "rehearse seven 1 1",
-    ];
-    for line in refused {
-        assert!(rt; command_of(&words_of(alloc, line)?).is_none(), "{line}");
-    }
-    Ok(())
-}
-
-#[test]
-fn words_and_lengths(rt: HostRuntime) -> Result<(), Fail> {
-    let alloc = rt.alloc();
-    let none = Vec::new(alloc);
-    let mut source = MemorySource::new(ByteList::new(alloc), CallList::new(alloc));
-    let mut sink = MemorySink::new(alloc, CallList::new(alloc));
-    assert_eq!(rt;
-        run_ebl(alloc, &none, &mut source, &mut sink, racks(alloc, 16)?).status,
-        Status::Usage
-    );
-    let unknown = words_of(alloc, "driven")?;
-    assert_eq!(rt;
-        run_ebl(alloc, &unknown, &mut source, &mut sink, racks(alloc, 16)?).status,
-        Status::Usage
-    );
-    let drive = words_of(alloc, "drive")?;
-    let mut long = RepeatedSource::new(b' ', 67_108_865);
-    assert_eq!(rt;
-        run_ebl(alloc, &drive, &mut long, &mut sink, racks(alloc, 16)?).status,
-        Status::TooLong
-    );
-    assert!(rt; sink.written().is_empty());
-    Ok(())
-}
-
-#[test]
 fn faults_of_the_outside(rt: HostRuntime) -> Result<(), Fail> {
     let alloc = rt.alloc();
     let words = words_of(alloc, "drive")?;
@@ -454,43 +301,6 @@ fn faults_of_the_outside(rt: HostRuntime) -> Result<(), Fail> {
         };
         assert_eq!(rt; status, wanted, "at read {call}");
         assert_eq!(rt; sink.written().is_empty(), call < 2, "at read {call}");
-    }
-    Ok(())
-}
-
-#[test]
-fn canonical_texts(rt: HostRuntime) -> Result<(), Fail> {
-    let alloc = rt.alloc();
-    let empty = b"{}\n44136fa355b3678a1146ad16f7e8649e94fb4fc21fe77e8310c060f61caaff8a\n";
-    expect_of(&rt, alloc, "canon", &[" { } \n"], Status::Done, empty)?;
-    // The names in the order of their UTF-16 code units.
-    let names =
-        b"{\"\\r\":1,\"1\":2,\"\xc2\x80\":3,\"\xc3\xb6\":4,\"\xe2\x82\xac\":5,\"\xf0\x9f\x98\x80\":6,\"\xef\xac\xb3\":7}\n4bd52d82f332c2e5c7206abd57c74b45dd4f0fef63ab7af87b8bde4481e450e7\n";
-    let text = r#"{"\ufb33":7,"\ud83d\ude00":6,"\u20ac":5,"\u00f6":4,"\u0080":3,"1":2,"\r":1}"#;
-    expect_of(&rt, alloc, "canon", &[text], Status::Done, names)?;
-    let greatest =
-        b"9007199254740991\nf40b423c2dd95ff2b2f027e22208f438cf7242862e5e746860e697308c9add26\n";
-    expect_of(
-        &rt,
-        alloc,
-        "canon",
-        &["9007199254740991"],
-        Status::Done,
-        greatest,
-    )?;
-    let decimal = b"24000.5\ne7c9432e4925b5d64f14b32a08da55fa53730e10a0e9af0932197a9a4e39f27f\n";
-    expect_of(&rt, alloc, "canon", &["24000.50"], Status::Done, decimal)?;
-    let zero = b"0\n5feceb66ffc86f38d952786c6d696c79c2dbc239dd4e91b46729d73a27fb57e9\n";
-    expect_of(&rt, alloc, "canon", &["-0.00"], Status::Done, zero)?;
-    let refused = [
-        ("9007199254740992", ReadError::Range),
-        ("24000.5e0", ReadError::Fraction),
-        ("{\"a\":1e3,\"\\u0061\":2}", ReadError::Repeated),
-        ("{", ReadError::NotJson),
-        ("", ReadError::NotJson),
-    ];
-    for (text, error) in refused {
-        expect_of(&rt, alloc, "canon", &[text], Status::BadJson(error), b"")?;
     }
     Ok(())
 }
