@@ -54,6 +54,10 @@ class Script:
             with open(os.path.join(HERE, self.name + end), "w", encoding="utf-8") as file:
                 file.write("".join(model.canon(row) + "\n" for row in rows))
 
+    def write_all(self):
+        """The same where nothing is said of the bills by hand."""
+        self.write(*[{}] * len(self.world.bill_lines()))
+
     # events that scripts share
 
     def act(self, at, do, actor, recipient=None, *, number=1, now=None, answer="DONE", sent=(), **members):
@@ -76,6 +80,13 @@ class Script:
         """The bill is on its way to the importer's platform."""
         return self.act("ALPH", "TRANSFER", EXPORT, IMPORT, now=4000, sent=[1], place="PARTING", entries=0,
                         possessor=IMPORT)
+
+    def regain(self):
+        """The bill was sent to a party that BETA doesn't know, and is held again."""
+        self.issue()
+        self.act("ALPH", "TRANSFER", EXPORT, "BETA/NOBODY", sent=[1], place="PARTING")
+        self.deliver(1, "BENV", [2], reason="PARTY", standing=True)
+        self.deliver(2, "DONE", place="HELD", possessor=EXPORT)
 
     def begin(self):
         self.issue()
@@ -230,10 +241,7 @@ def restart_between_uploads():
 
 def unknown_receiver():
     script = Script("unknown_receiver")
-    script.issue()
-    script.act("ALPH", "TRANSFER", EXPORT, "BETA/NOBODY", sent=[1], place="PARTING")
-    script.deliver(1, "BENV", [2], reason="PARTY", standing=True)
-    script.deliver(2, "DONE", place="HELD", possessor=EXPORT)
+    script.regain()
     script.act("ALPH", "TRANSFER", EXPORT, AGENT, sent=[3], place="PARTING")
     script.deliver(2, "IGNORED", reason="SIGNATURE")
     script.deliver(3, "RECE", [4])
@@ -247,10 +255,7 @@ def unknown_receiver():
 def answer_about_another_entry():
     """The bill goes to the platform that declined its last entry: the answer to that one ends nothing."""
     script = Script("answer_about_another_entry")
-    script.issue()
-    script.act("ALPH", "TRANSFER", EXPORT, "BETA/NOBODY", sent=[1], place="PARTING")
-    script.deliver(1, "BENV", [2], reason="PARTY", standing=True)
-    script.deliver(2, "DONE", place="HELD", possessor=EXPORT)
+    script.regain()
     script.act("ALPH", "TRANSFER", EXPORT, IMPORT, sent=[3], place="PARTING")
     script.deliver(2, "IGNORED", reason="OTHER_ENTRY")
     script.deliver(3, "RECE", [4])
@@ -444,6 +449,9 @@ AT_ALPH_SHOWN = (
     ("GONE", 2, (4, 3), (3, 3)), ("GONE", 2, (4, 2), (2, 2)), ("GONE", 2, (2, 2), (2, 2)))
 
 
+TO_NOBODY = [SIGN, ISSUE, transfer(EXPORT, "BETA/NOBODY")]
+
+
 class Meeting:
     """A bill that is brought somewhere by starts from outside, to see what another start meets there."""
 
@@ -487,14 +495,26 @@ class Meeting:
         return route(self.bill, length, other, texts[:other - 1 if other else length])
 
 
+class Meetings:
+    """The bills of a script, each brought somewhere."""
+
+    def __init__(self, name):
+        self.script, self.numbers = Script(name), itertools.count(1)
+
+    def new(self):
+        return Meeting(self.script, next(self.numbers))
+
+    def brought(self, at, place, entries):
+        meeting = self.new()
+        return meeting, meeting.bring(at, place, entries)
+
+
 def chains_that_meet():
     """What a chain meets where a bill is held, parting or gone: it goes on from there, or it parts, and where."""
-    script = Script("chains_that_meet")
-    numbers = itertools.count(1)
+    meetings = Meetings("chains_that_meet")
     for at, rows in (("BETA", AT_BETA_SHOWN), ("ALPH", AT_ALPH_SHOWN)):
         for place, entries, (length, other), wanted in rows:
-            meeting = Meeting(script, next(numbers))
-            texts = meeting.bring(at, place, entries)
+            meeting, texts = meetings.brought(at, place, entries)
             shown = meeting.shown(texts, length, other)
             if wanted == "RECE":
                 meeting.start(at, shown, "RECE", standing=False)
@@ -503,57 +523,63 @@ def chains_that_meet():
             own = texts[wanted[0] - 1] if wanted[0] else None
             for _ in range(2):
                 meeting.start(at, shown, "DISE", reason="PARTS", standing=True, own=own, theirs=shown[wanted[1] - 1])
-    script.write(*[{}] * sum(line.get("do") == "SIGN" for line in script.lines))
+    meetings.script.write_all()
 
 
-def first_judgement():
-    """Of several things that a start may meet, the first in the order of docs/machine.md is answered."""
-    script = Script("first_judgement")
-    numbers = itertools.count(1)
-
-    def brought(at, place, entries):
-        meeting = Meeting(script, next(numbers))
-        return meeting, meeting.bring(at, place, entries)
-
-    # a chain that ends elsewhere, whatever is known
-    meeting, texts = brought("BETA", "PARTING", 1)
-    meeting.start("BETA", texts, "BENV", reason="DESTINATION", standing=False)
-    meeting.start("BETA", route(meeting.bill, 2, 1), "BENV", reason="DESTINATION", standing=False)
-    # what was received, though the bill left since
+def elsewhere_and_received(meetings):
+    """A chain that ends elsewhere, whatever is known; what was received, though the bill left since."""
+    meeting, texts = meetings.brought("BETA", "PARTING", 1)
+    for shown in (texts, route(meeting.bill, 2, 1)):
+        meeting.start("BETA", shown, "BENV", reason="DESTINATION", standing=False)
     meeting.start("BETA", texts[:1], "DUPE", standing=False)
     meeting.hear("BETA", "ALPH", texts[-1], "RECE")
     meeting.start("BETA", texts[:1], "DUPE", standing=False)
-    # what was declined, with the texts of that time
-    meeting, texts = brought("BETA", "HELD", 1)
+
+
+def declined_and_disputed(meetings):
+    """What was declined, with the texts of that time; a dispute before a party that isn't known."""
+    meeting, texts = meetings.brought("BETA", "HELD", 1)
     other = route(meeting.bill, 1, 1)
-    dispute = {"reason": "PARTS", "standing": True, "own": texts[0], "theirs": other[0]}
-    meeting.start("BETA", other, "DISE", **dispute)
+    dispute = {"reason": "PARTS", "standing": True, "own": texts[0]}
+    meeting.start("BETA", other, "DISE", **dispute, theirs=other[0])
     meeting.leave("BETA", IMPORT, EXPORT)
-    meeting.start("BETA", other, "DISE", **dispute)
-    # a dispute before a party that isn't known, and that before missing documents
-    nobody = [SIGN, ISSUE, transfer(EXPORT, "BETA/NOBODY")]
-    stranger = route(meeting.bill, 1, transactions=nobody)
-    meeting.start("BETA", stranger, "DISE", reason="PARTS", standing=True, own=texts[0], theirs=stranger[0])
-    piece = {"checksum": ABC, "media": "text/plain", "name": "A", "size": 3}
-    meeting = Meeting(script, next(numbers))
-    stranger = route(meeting.bill, 1, transactions=nobody)
-    body = body_of(stranger, document=meeting.document, bill=meeting.bill, documents=[piece])
+    meeting.start("BETA", other, "DISE", **dispute, theirs=other[0])
+    stranger = route(meeting.bill, 1, transactions=TO_NOBODY)
+    meeting.start("BETA", stranger, "DISE", **dispute, theirs=stranger[0])
+
+
+def unknown_parties(meetings):
+    """A party that isn't known before missing documents; and where a bill comes back."""
+    meeting, script = meetings.new(), meetings.script
+    documents = [{"checksum": ABC, "media": "text/plain", "name": "A", "size": 3}]
+    body = body_of(route(meeting.bill, 1, transactions=TO_NOBODY), document=meeting.document, bill=meeting.bill,
+                   documents=documents)
     for _ in range(2):
         script.start("BETA", body, "BENV", [len(script.world.sent) + 1], reason="PARTY", standing=True)
-    # a party that isn't known where a bill comes back
-    for at, place, entries in (("BETA", "PARTING", 1), ("BETA", "GONE", 1), ("ALPH", "PARTING", 0), ("ALPH", "GONE", 0)):
-        meeting, texts = brought(at, place, entries)
-        last = [transfer(EXPORT, "BETA/NOBODY") if at == "BETA" else transfer(IMPORT, "ALPH/NOBODY")]
-        shown = route(meeting.bill, len(texts) + 1, front=texts, transactions=last)
-        meeting.start(at, shown, "BENV", reason="PARTY", standing=True)
-    # the bill goes out by another entry than the one that was declined
-    meeting, texts = brought("ALPH", "PARTING", 0)
+    for at, entries in (("BETA", 1), ("ALPH", 0)):
+        for place in ("PARTING", "GONE"):
+            meeting, texts = meetings.brought(at, place, entries)
+            last = [transfer(EXPORT, "BETA/NOBODY") if at == "BETA" else transfer(IMPORT, "ALPH/NOBODY")]
+            shown = route(meeting.bill, len(texts) + 1, front=texts, transactions=last)
+            meeting.start(at, shown, "BENV", reason="PARTY", standing=True)
+
+
+def sent_by_another_entry(meetings):
+    """The bill goes out by another entry than the one that was declined: a chain through that one parts."""
+    meeting, texts = meetings.brought("ALPH", "PARTING", 0)
     meeting.hear("ALPH", "BETA", texts[0], "BENV", reason="PARTY", standing=True)
     again = meeting.leave("ALPH", EXPORT, IMPORT)
     meeting.start("ALPH", route(meeting.bill, 2, front=texts), "DISE", reason="PARTS", standing=True, own=again,
                   theirs=texts[0])
     meeting.start("ALPH", route(meeting.bill, 2, front=[again]), "RECE", standing=False)
-    script.write(*[{}] * sum(line.get("do") == "SIGN" for line in script.lines))
+
+
+def first_judgement():
+    """Of several things that a start may meet, the first in the order of docs/machine.md is answered."""
+    meetings = Meetings("first_judgement")
+    for part in (elsewhere_and_received, declined_and_disputed, unknown_parties, sent_by_another_entry):
+        part(meetings)
+    meetings.script.write_all()
 
 
 def dispute_at_the_finish():
