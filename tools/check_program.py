@@ -151,16 +151,19 @@ def limits():
     """(what, the run is as it should be) of scripts that are too large to be stored."""
     most = base64.b64encode(bytes(model.MOST_BYTES)).decode()
     other = base64.b64encode(b"1" + bytes(model.MOST_BYTES - 1)).decode()
+    # sixteen documents with the first, which have all the bytes that they may have together
+    small = [base64.b64encode(bytes([at])).decode() for at in range(13)] + [""]
+    rest = base64.b64encode(b"1" + bytes(model.MOST_BYTES - 14)).decode()
     for what, files, wanted in (
             ("a document of 2,097,153 bytes", [base64.b64encode(bytes(model.MOST_BYTES + 1)).decode()],
              "LIMIT DOCUMENT_SIZE"),
             ("documents of 4,194,304 bytes together, twice", [most, other, most, ""], "DONE"),
-            ("documents of 4,194,305 bytes together", [most, other, "MQ=="], "LIMIT DOCUMENT_BYTES")):
+            ("documents of 4,194,305 bytes together", [most, other, "MQ=="], "LIMIT DOCUMENT_BYTES"),
+            ("sixteen documents of 4,194,304 bytes together", [most, rest, *small], "DONE"),
+            ("a seventeenth document, which is past both limits", [most, rest, *small, "MQ=="], "LIMIT DOCUMENTS")):
         yield what, last_answer([attached(at, file) for at, file in enumerate(files)]) == wanted
     for length, wanted in ((model.MOST_DOCUMENT, "DONE"), (model.MOST_DOCUMENT + 1, "DOCUMENT TOO_LARGE")):
         yield "a bill of %d bytes" % length, last_answer([signed(length)]) == wanted
-
-
     for what, script in long_texts():
         yield what, run(["drive"], script) == (0, model.text_of(script), "")
 
