@@ -160,7 +160,7 @@ pub(crate) fn starts<G: KeyRing>(
     Ok(shard.take(alloc, now, Request::Start { body }))
 }
 
-// The body of the start that is the first message.
+// The body of the start that was sent, and nothing else.
 fn body_of(outcome: Outcome) -> Result<ByteList, Fail> {
     match outcome.messages.into_vec().pop() {
         Some(Message::Start { body, .. }) => Ok(body),
