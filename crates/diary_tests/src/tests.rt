@@ -1,4 +1,4 @@
-//! Chains, places of bills, a judgement, and families of diaries.
+//! Chains, places of bills, judgements and plans, and families of diaries.
 mod chains;
 mod conjuncts;
 mod entries;
@@ -9,6 +9,7 @@ mod making;
 mod meetings;
 mod names;
 mod places;
+mod plans;
 mod real_texts;
 mod refusals;
 mod steps;
