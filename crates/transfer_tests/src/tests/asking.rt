@@ -8,7 +8,8 @@ ghost use Rattle.party_roster.specs.RosterForm.{IsRoster};
 ghost use Rattle.transfer_judge.specs.PlannedTexts.{Nests};
 
 use canonical_json::read;
-use ebl_base::{ByteList, Moment, Party, PlatformCode};
+use document_checksum::checksum;
+use ebl_base::{ByteList, Moment, Party, PlatformCode, Reference};
 use envelope_manifest::Body;
 use holder_commands::Command;
 use party_roster::Roster;
@@ -105,6 +106,31 @@ fn act_for(alloc: Global, word: &str, to: &str) -> Result<Command, Fail>
     }
 }
 
+// The attachment of a document of three bytes.
+fn attachment(alloc: Global) -> Result<Command, Fail>
+    ensures form { IfOk result (λ c. IsCommand (command_view c)) }
+    ensures nests { IfOk result (λ c. Nests (command_view c)) }
+{
+    let text = format!(in alloc;
+        "{{\"bill\":\"{BILL}\",\"bytes\":\"YWJj\",\"do\":\"ATTACH\",\"media\":\"text/plain\",\"name\":\"list\"}}"
+    )?;
+    let json = read(alloc, text.as_bytes())?;
+    match Command::read(alloc, &json)? {
+        Command::Attach {
+            bill,
+            name,
+            media,
+            bytes,
+        } => Ok(Command::Attach {
+            bill,
+            name,
+            media,
+            bytes,
+        }),
+        _ => Err("an attachment".into()),
+    }
+}
+
 // A party asks a shard of its platform.
 fn asks<G: KeyRing>(
     shard: &mut Shard<G>,
@@ -160,6 +186,26 @@ pub(crate) fn starts<G: KeyRing>(
     Ok(shard.take(alloc, now, Request::Start { body }))
 }
 
+/// A document of these bytes comes to a shard, under its checksum.
+pub(crate) fn puts<G: KeyRing>(
+    alloc: Global,
+    shard: &mut Shard<G>,
+    reference: Reference,
+    bytes: &[u8],
+) -> Result<Outcome, Fail> {
+    let (now, checksum) = (moment(3000)?, checksum(bytes));
+    let bytes = ByteList::from_slice(alloc, bytes)?;
+    Ok(shard.take(
+        alloc,
+        now,
+        Request::Put {
+            reference,
+            checksum,
+            bytes,
+        },
+    ))
+}
+
 // The body of the start that was sent, and nothing else.
 fn body_of(outcome: Outcome) -> Result<ByteList, Fail> {
     match outcome.messages.into_vec().pop() {
@@ -181,6 +227,15 @@ pub(crate) fn sent_after(alloc: Global, before: &[Act]) -> Result<ByteList, Fail
     for act in before {
         acts(alloc, &mut shard, *act)?;
     }
+    body_of(acts(alloc, &mut shard, SEND)?)
+}
+
+/// The same where the three bytes `abc` are attached.
+pub(crate) fn sent_with_document(alloc: Global) -> Result<ByteList, Fail> {
+    let mut shard = keyed(alloc, "ALPH")?;
+    sign(alloc, &mut shard)?;
+    acts(alloc, &mut shard, ISSUE)?;
+    asks(&mut shard, alloc, "ALPH/EXPORT", attachment(alloc)?)?;
     body_of(acts(alloc, &mut shard, SEND)?)
 }
 

@@ -1,5 +1,10 @@
-//! What is written down of what is answered: a chain that is received, and one that is declined for good, each once.
-use super::asking::{ENDORSE, ISSUE, comes_to, keyed, sent_after, starts};
+//! What is written down of what is answered: a chain that is received, one that is declined for good, and a document,
+//! each once.
+use super::asking::{
+    ENDORSE, ISSUE, comes_to, keyed, puts, sent_after, sent_with_document, starts,
+};
+use ebl_base::Reference;
+use platform_requests::{Outcome, Reply};
 use std::alloc::Global;
 use std::process::Abort;
 use std::test::Fail;
@@ -36,4 +41,35 @@ fn frames_of_starts(rt: HostRuntime) -> Result<(), Fail> {
         (other.as_slice(), ["DISE", "DISE"], 2),
     ];
     tell_starts(&rt, rt.alloc(), &mut shard, &rows)
+}
+
+fn reference_of(outcome: &Outcome) -> Result<Reference, Fail> {
+    match &outcome.reply {
+        Reply::Started { reference, .. } => Ok(*reference),
+        _ => Err("a transfer that is started".into()),
+    }
+}
+
+// The start comes, and its document twice.
+fn tell_document<R: Abort>(
+    rt: &R,
+    alloc: Global,
+    shard: &mut Shard<KeyedRing>,
+    body: &[u8],
+) -> Result<(), Fail> {
+    let started = starts(alloc, shard, body)?;
+    comes_to(rt, shard, &started, ("STARTED", 0, 1));
+    let reference = reference_of(&started)?;
+    for _ in 0..2 {
+        let outcome = puts(alloc, shard, reference, b"abc")?;
+        comes_to(rt, shard, &outcome, ("STORED", 0, 2));
+    }
+    Ok(())
+}
+
+#[test]
+fn frames_of_a_document(rt: HostRuntime) -> Result<(), Fail> {
+    let body = sent_with_document(rt.alloc())?;
+    let mut shard = keyed(rt.alloc(), "BETA")?;
+    tell_document(&rt, rt.alloc(), &mut shard, body.as_slice())
 }
