@@ -31,15 +31,16 @@ class Visit:
         with open(os.path.join(self.clone, name), encoding="utf-8") as file:
             return file.read()
 
-    def types(self, command, exit_code=0, out=None, says="", is_silent=False, path=None):
-        """Types a command into a shell at the top of the clone, and compares its exit, its output and what it says."""
+    def types(self, command, exit_code=0, out=None, says="", errors=None, path=None):
+        """Types a command into a shell at the top of the clone, and compares its exit, its output, what it says, and
+        how many lines it writes to standard error."""
         begun = time.monotonic()
         environment = dict(os.environ, **({"PATH": path} if path else {}))
         ended = subprocess.run(["sh", "-c", command], cwd=self.clone, env=environment, stdout=subprocess.PIPE,
                                stderr=subprocess.PIPE, stdin=subprocess.DEVNULL, text=True)
         whole = ended.stdout + ended.stderr
         is_well = ended.returncode == exit_code and out in (None, ended.stdout) and says in whole
-        is_well = is_well and not (is_silent and ended.stderr)
+        is_well = is_well and errors in (None, len(ended.stderr.splitlines()))
         print("%-6s %6.1f s  %s" % ("ok" if is_well else "FAILED", time.monotonic() - begun, command), flush=True)
         if not is_well:
             print("    it ended with %d and printed:\n%s" % (ended.returncode, whole[-2000:]))
@@ -48,14 +49,15 @@ class Visit:
 
 def unproved(visit):
     visit.types("make help", says="make program")
-    visit.types("make run", out=visit.read("examples/first_run.out"), says=UNPROVED)
+    visit.types("make run", out=visit.read("examples/first_run.out"), says=UNPROVED, errors=1)
     visit.types("cp examples/refused_transfer.jsonl 'a script.jsonl'")
-    visit.types("make run SCRIPT='a script.jsonl'", out=visit.read("examples/refused_transfer.out"), says=UNPROVED)
+    visit.types("make run SCRIPT='a script.jsonl'", out=visit.read("examples/refused_transfer.out"), says=UNPROVED,
+                errors=1)
     visit.types("make run SCRIPT=examples/bad_line.jsonl", exit_code=2, out=visit.read("examples/bad_line.out"),
-                says="Error 3")
+                says="Error 3", errors=3)
     visit.types("tools/ebl drive < examples/bad_line.jsonl", exit_code=3, out=visit.read("examples/bad_line.out"),
-                says="ebl: line 3 is not a script line")
-    visit.types("printf '{}' | tools/ebl canon", out=EMPTY, says=UNPROVED)
+                says="ebl: line 3 is not a script line", errors=2)
+    visit.types("printf '{}' | tools/ebl canon", out=EMPTY, says=UNPROVED, errors=1)
     visit.types("make run SCRIPT=nowhere", exit_code=2, says="nowhere")
 
 
@@ -71,11 +73,11 @@ def proved(visit):
     crates = len(crates_below("ebl_cli"))
     visit.types("make program", says="%d of %d" % (crates, crates))
     visit.types("make program", says="proved and built")
-    visit.types("make run", out=visit.read("examples/first_run.out"), is_silent=True)
-    visit.types("make run SCRIPT='a script.jsonl'", out=visit.read("examples/refused_transfer.out"), is_silent=True)
+    visit.types("make run", out=visit.read("examples/first_run.out"), errors=0)
+    visit.types("make run SCRIPT='a script.jsonl'", out=visit.read("examples/refused_transfer.out"), errors=0)
     visit.types("tools/ebl drive < examples/bad_line.jsonl", exit_code=3, out=visit.read("examples/bad_line.out"))
     visit.types("make install PREFIX=" + shlex.quote(visit.clone + "/in stalled"), says="in stalled/bin/ebl")
-    visit.types("printf '{}' | 'in stalled/bin/ebl' canon", out=EMPTY, is_silent=True)
+    visit.types("printf '{}' | 'in stalled/bin/ebl' canon", out=EMPTY, errors=0)
     visit.types("python3 tools/check_program.py", says=" 0 failed")
 
 
