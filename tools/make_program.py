@@ -8,6 +8,7 @@ What was proved before and hasn't changed isn't proved again. Ends with 0, or wi
 import argparse
 import contextlib
 import os
+import shutil
 import signal
 import subprocess
 import sys
@@ -33,12 +34,18 @@ def prove(crate, jobs):
     words = ["rt", "lib", "--jobs", str(jobs)]
     if crate == "ebl_cli":
         words = ["rt", "run", "--jobs", str(jobs), "--", "--version"]
+    folder = os.path.join(TOP, "crates", crate)
+    kept = os.path.join(folder, "out", "incremental")
+    was_kept = os.path.exists(kept)
     with tempfile.TemporaryFile() as said:
-        prover = subprocess.Popen(words, cwd=os.path.join(TOP, "crates", crate), stdin=subprocess.DEVNULL,
-                                  stdout=said, stderr=subprocess.STDOUT, start_new_session=True)
+        prover = subprocess.Popen(words, cwd=folder, stdin=subprocess.DEVNULL, stdout=said, stderr=subprocess.STDOUT,
+                                  start_new_session=True)
         PROVERS.add(prover)
         status = prover.wait()
         PROVERS.discard(prover)
+        # what the crate's next check would begin with takes more room than its library, and no other crate reads it
+        if not status and not was_kept:
+            shutil.rmtree(kept, ignore_errors=True)
         said.seek(0)
         return status, said.read()
 
