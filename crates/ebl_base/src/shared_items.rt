@@ -9,8 +9,8 @@ use std::sync::Arc;
 
 /// A list inside a public type that may have several owners, in any threads. Contracts see the list of its items.
 ///
-/// It never changes. A copy is one owner more: it costs the same whatever the list's length, and takes no memory. The
-/// empty list has no owner to count.
+/// It never changes. A copy is one owner more: it costs the same whatever the list's length, and takes no memory. It
+/// answers NoMemory only where the count of owners is full. The empty list has no owner to count.
 #[derive(Debug, Drop)]
 pub struct SharedItems<T> {
     items: Option<Arc<Items<T>>>,
@@ -82,7 +82,12 @@ impl<T: Copied> SharedItems<T> {
     pub fn followed_by(&self, alloc: Global, item: T) -> Result<Self, NoMemory>
         ensures { IfOk result (λ longer. longer ≡ self.now ++ item ∷ []) }
     {
-        let mut items = T::copy_all(alloc, self.as_slice())?;
+        let own = self.as_slice();
+        // with room for the one more from the start, or the list would be moved, and grow by more than one
+        let mut items = Vec::with_capacity(alloc, own.len().saturating_add(1))?;
+        for one in own {
+            items.push(one.copy(alloc)?)?;
+        }
         items.push(item)?;
         SharedItems::from_vec(alloc, items)
     }
