@@ -291,7 +291,11 @@ impl Register {
             &self.numbers,
             frame,
         )?;
-        let room = with_keys(alloc, &mut self.bills, &mut self.numbers, room)?;
+        if let Err(no_memory) = ensure_keys(alloc, &mut self.bills, &mut self.numbers, &room) {
+            // by a call, since a value that one arm moves is dropped field by field in the other
+            drop(room);
+            return Err(no_memory);
+        }
         let diary = mem::replace(&mut self.diary, Items::new(alloc));
         match with_place(diary, room) {
             Ok(reserved) => {
@@ -342,30 +346,8 @@ impl Register {
     }
 }
 
-// The room of a frame, once its bill and its keys are among those that are kept. Nothing that is kept changes, out of
-// memory neither.
-fn with_keys(
-    alloc: Global,
-    bills: &mut BTreeMap<Checksum, BillState>,
-    numbers: &mut FrameNumbers,
-    room: Room,
-) -> Result<Room, NoMemory>
-    ensures states { (other : Checksum) → state_in bills.new other ≡ state_in bills.old other }
-    ensures numbers { (other : FrameKey)
-        → number_in numbers.new.numbers other ≡ number_in numbers.old.numbers other }
-    ensures same { IfOk result (λ r. r ≡ room) }
-    ensures bill { IfOk result (λ r. IsSome (get checksum_cmp bills.new r.bill)) }
-    ensures kept { IfOk result (λ r. HasRoom numbers.new r.kept) }
-    ensures came { IfOk result (λ r. HasRoom numbers.new r.came) }
-    ensures taken { IfOk result (λ r. HasRoom numbers.new r.taken) }
-{
-    match ensure_keys(alloc, bills, numbers, &room) {
-        Ok(()) => Ok(room),
-        Err(no_memory) => Err(no_memory),
-    }
-}
-
-// Puts a frame's bill and its keys among those that are kept, where they aren't there.
+// Puts a frame's bill and its keys among those that are kept, where they aren't there. Nothing that is kept changes,
+// out of memory neither.
 fn ensure_keys(
     alloc: Global,
     bills: &mut BTreeMap<Checksum, BillState>,
