@@ -7,7 +7,6 @@ mod evidence;
 mod fault;
 mod fields;
 mod laws;
-mod nesting;
 mod reading;
 mod records;
 mod texts;

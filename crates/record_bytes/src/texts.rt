@@ -17,8 +17,7 @@ ghost use Rattle.record_bytes.specs.Reading.{Finds, IsTransactionText, IsPieceTe
 
 use crate::canonical::{piece_text, transaction_text};
 use crate::fields::are_same;
-use crate::nesting::nests_within;
-use canonical_json::{Json, read_if_any};
+use canonical_json::{Json, nests_within, read_if_any};
 use chain_entry::{EntryFault, decode, decode_transaction};
 use document_checksum::checksum;
 use ebl_base::{
