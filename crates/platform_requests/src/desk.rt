@@ -21,7 +21,7 @@ pub trait Desk {
 
     /// Answers a request at a moment.
     ///
-    /// A command has its form, and the document that it signs nests at most 126 deep.
+    /// A command has its form, and the document that it signs nests at most 126 deep (`canonical_json::nests_within`).
     fn take(&mut self, alloc: Global, now: Moment, request: Request) -> Outcome
         requires { MayAsk (request_view request) }
         ensures messages { MayGive (request_view request) result.messages }
