@@ -4,9 +4,7 @@
 mod bills;
 mod commands;
 mod parties;
-#[cfg(test)]
-mod tests;
 
 pub use bills::{bill, document};
 pub use commands::{acting, attaching, signing};
-pub use parties::roster;
+pub use parties::{ROSTER, roster};

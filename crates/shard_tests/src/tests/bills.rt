@@ -1,6 +1,6 @@
 //! The first bill's name.
-use crate::bills::bill;
 use document_checksum::to_text;
+use sample_bills::bill;
 use std::str::from_utf8;
 use std::test::Fail;
 
