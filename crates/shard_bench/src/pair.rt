@@ -12,6 +12,13 @@ use std::alloc::Global;
 use test_signer::KeyedRing;
 use transfer_core::Shard;
 
+// The commands behind the signing: the kind of transaction, who asks, and the recipient.
+const ACTS: [(&str, &str, &str); 3] = [
+    ("ISSUE", "ALPH/CARRIER", "ALPH/EXPORT"),
+    ("ENDORSE", "ALPH/EXPORT", "BETA/IMPORT"),
+    ("TRANSFER", "ALPH/EXPORT", "BETA/IMPORT"),
+];
+
 /// Two platforms of one shard each.
 #[derive(Drop)]
 pub(crate) struct Pair {
@@ -43,23 +50,32 @@ impl Pair {
             return Some(());
         }
         let bill = self.sign(alloc, number)?;
-        if requests == 1 {
+        let parted = self.part(alloc, bill, requests - 1)?;
+        if requests < 5 {
             return Some(());
         }
-        self.act(alloc, bill, "ISSUE", "ALPH/CARRIER", "ALPH/EXPORT")?;
-        if requests == 2 {
-            return Some(());
+        self.hand_over(alloc, bill, parted, requests == 5)
+    }
+
+    // So many of the three commands behind the signing, and what the last one of them sends.
+    fn part(&mut self, alloc: Global, bill: Checksum, commands: u32) -> Option<MessageList> {
+        let mut messages = MessageList::new(alloc);
+        for &(word, by, to) in ACTS.iter().take(commands as usize) {
+            messages = self.act(alloc, bill, word, by, to)?;
         }
-        self.act(alloc, bill, "ENDORSE", "ALPH/EXPORT", "BETA/IMPORT")?;
-        if requests == 3 {
-            return Some(());
-        }
-        let parted = self.act(alloc, bill, "TRANSFER", "ALPH/EXPORT", "BETA/IMPORT")?;
-        if requests == 4 {
-            return Some(());
-        }
-        let reply = self.start(alloc, parted)?;
-        if requests == 5 {
+        Some(messages)
+    }
+
+    // The bill is received, and settled unless that is left out.
+    fn hand_over(
+        &mut self,
+        alloc: Global,
+        bill: Checksum,
+        messages: MessageList,
+        unsettled: bool,
+    ) -> Option<()> {
+        let reply = self.start(alloc, messages)?;
+        if unsettled {
             return Some(());
         }
         self.settle(alloc, bill, reply)
