@@ -16,7 +16,7 @@ import sys
 import bad_lines
 import model
 import rehearsal
-from program import PROGRAM, TOP, is_built
+from program import PROGRAM, TOP, is_built, words_of
 
 EXAMPLES = os.path.join(TOP, "examples")
 
@@ -239,8 +239,11 @@ def rehearsals():
 
 def main():
     global PROGRAM
-    if len(sys.argv) == 2:
-        PROGRAM = sys.argv[1]
+    words = words_of(__doc__)
+    words.add_argument("program", nargs="?")
+    given = words.parse_args()
+    if given.program:
+        PROGRAM = given.program
     elif not is_built():
         sys.exit("no proved program of these sources: run make program first")
     passed = failed = 0

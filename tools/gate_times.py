@@ -10,7 +10,6 @@
 seconds, which other work on the machine changes little, and after them the wall time of each part, which it does.
 The record is out/gate_times.jsonl, one prover a line. Ends with the gate's status.
 """
-import argparse
 import json
 import os
 import re
@@ -18,7 +17,8 @@ import subprocess
 import sys
 import time
 
-TOP = os.path.dirname(os.path.dirname(os.path.abspath(__file__)))
+from program import TOP, words_of
+
 OUT = os.path.join(TOP, "out")
 TICKS = os.sysconf("SC_CLK_TCK")
 KINDS = ("proof", "tests", "edits", "runs")
@@ -143,7 +143,7 @@ def print_edits(record):
 
 
 def main():
-    words = argparse.ArgumentParser(description=__doc__, formatter_class=argparse.RawDescriptionHelpFormatter)
+    words = words_of(__doc__)
     words.add_argument("--pid", type=int)
     words.add_argument("--read", metavar="FILE")
     words.add_argument("--edits", metavar="FILE")

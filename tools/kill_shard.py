@@ -6,15 +6,17 @@ a random moment of its opening or its serving, and reads the file by its own rul
 frames that were there before are there still, byte for byte; there are as many as the last answer said, or one more,
 whose answer was on its way; and the next start finds just these, so the diary is legal. Prints how often it was killed,
 how many answers there were and how many frames had no answer; ends with 1 where anything else is found.
-Words: the program; how many kills (200 otherwise); a number from which the random moments follow (1 otherwise).
+
+    tools/kill_shard.py PROGRAM [KILLS [SEED]]   200 kills otherwise; the random moments follow from SEED, otherwise 1
 """
 import os
 import random
 import shutil
 import subprocess
-import sys
 import tempfile
 import time
+
+from program import words_of
 
 # With more frames than these a new file is begun, so that an opening stays short.
 MOST_FRAMES = 1500
@@ -56,9 +58,12 @@ def lines_of(output):
 
 
 def main():
-    program = sys.argv[1]
-    kills = int(sys.argv[2]) if len(sys.argv) > 2 else 200
-    moments = random.Random(int(sys.argv[3]) if len(sys.argv) > 3 else 1)
+    words = words_of(__doc__)
+    words.add_argument("program")
+    words.add_argument("kills", nargs="?", type=int, default=200)
+    words.add_argument("seed", nargs="?", type=int, default=1)
+    given = words.parse_args()
+    program, kills, moments = given.program, given.kills, random.Random(given.seed)
     folder = tempfile.mkdtemp()
     path, out = os.path.join(folder, "journal"), os.path.join(folder, "answers")
     before, answers, unanswered, unopened, files = [], 0, 0, 0, 1

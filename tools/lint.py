@@ -12,7 +12,8 @@ import re
 import subprocess
 import sys
 
-TOP = os.path.dirname(os.path.dirname(os.path.abspath(__file__)))
+from program import TOP, words_of
+
 WIDTH = 120
 CODE = (".rt", ".antt")
 SCRIPTS = (".py", ".sh", ".c", ".rs", "Makefile", "tools/ebl")
@@ -177,6 +178,7 @@ def missing_in(page, quoted, paths, known):
 
 
 def main():
+    words_of(__doc__).parse_args()
     texts, found = files(), 0
     for check in (names_in_pages, heads, widths, crates_named, uncited):
         for where, what in check(texts):

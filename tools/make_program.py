@@ -5,7 +5,6 @@
 
 What was proved before and hasn't changed isn't proved again. Ends with 0, or with 1 where a crate isn't proved.
 """
-import argparse
 import contextlib
 import os
 import shutil
@@ -15,7 +14,7 @@ import sys
 import tempfile
 import time
 
-from program import PROGRAM, TOP, commit, crates_below, need_toolchain
+from program import PROGRAM, TOP, commit, crates_below, need_toolchain, words_of
 
 LOG = os.path.join(TOP, "out", "program.log")
 # The prover that runs, the leader of a group, so that none is left behind when this script is stopped.
@@ -66,7 +65,7 @@ def prove_all(crates, jobs, log):
 
 
 def main():
-    words = argparse.ArgumentParser(description=__doc__, formatter_class=argparse.RawDescriptionHelpFormatter)
+    words = words_of(__doc__)
     words.add_argument("--jobs", type=int, default=len(os.sched_getaffinity(0)))
     jobs = max(1, words.parse_args().jobs)
     need_toolchain()

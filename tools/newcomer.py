@@ -14,7 +14,7 @@ import sys
 import tempfile
 import time
 
-from program import crates_below
+from program import crates_below, words_of
 
 TOP = os.path.dirname(os.path.dirname(os.path.abspath(__file__)))
 UNPROVED = "unproved build"
@@ -82,6 +82,9 @@ def proved(visit):
 
 
 def main():
+    words = words_of(__doc__)
+    words.add_argument("--program", action="store_true")
+    given = words.parse_args()
     with tempfile.TemporaryDirectory(prefix="newcomer ") as room:
         clone = os.path.join(room, "a clone")
         bare = os.path.join(room, "no toolchain")
@@ -90,7 +93,7 @@ def main():
         visit = Visit(clone)
         unproved(visit)
         without_toolchain(visit, bare)
-        if sys.argv[1:] == ["--program"]:
+        if given.program:
             proved(visit)
     print("%d passed, %d failed" % (visit.passed, visit.failed))
     return 1 if visit.failed else 0

@@ -1,4 +1,5 @@
 """The program and the crates that it is built from, for the scripts of this folder."""
+import argparse
 import os
 import shutil
 import subprocess
@@ -9,6 +10,11 @@ CRATE = os.path.join(TOP, "crates", "ebl_cli")
 PROGRAM = os.path.join(CRATE, "out", "ebl_cli")
 NO_TOOLCHAIN = ("ebl: the Rattle toolchain isn't here: no command rt on the PATH. README.md says which kit it is;"
                 " the kit's guide is its file START-HERE.md.")
+
+
+def words_of(head):
+    """A reader of a script's words, whose --help is what stands at the script's head."""
+    return argparse.ArgumentParser(description=head, formatter_class=argparse.RawDescriptionHelpFormatter)
 
 
 def libraries():

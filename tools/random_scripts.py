@@ -11,7 +11,6 @@ so), and line by line beside model.py. Where something differs, the script's see
 
 Its last line is 'N scripts, M events, F failed, seed TEXT', and it ends with status 1 where something failed.
 """
-import argparse
 import base64
 import collections
 import concurrent.futures
@@ -23,7 +22,7 @@ import sys
 import time
 
 import model
-from program import PROGRAM, is_built
+from program import PROGRAM, is_built, words_of
 
 PLATFORMS = ["ALPH", "BETA", "GAMM"]
 PARTIES = ["%s/%s" % (p, name) for p in PLATFORMS for name in ("ONE", "TWO")]
@@ -324,7 +323,7 @@ def keep(seed):
 
 
 def main():
-    words = argparse.ArgumentParser(description=__doc__, formatter_class=argparse.RawDescriptionHelpFormatter)
+    words = words_of(__doc__)
     words.add_argument("--scripts", type=int, default=10_000)
     words.add_argument("--seconds", type=float, default=50)
     words.add_argument("--seed", default=os.urandom(4).hex())

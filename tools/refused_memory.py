@@ -23,7 +23,7 @@ import subprocess
 import sys
 import tempfile
 
-from program import PROGRAM, TOP
+from program import PROGRAM, TOP, words_of
 
 EXAMPLES = os.path.join(TOP, "examples")
 SCRIPTS = ("first_run", "uploaded_documents", "restart_while_parting")
@@ -106,14 +106,17 @@ def cases(program, trial):
 
 
 def main():
-    program, trial = (sys.argv[1:] + [PROGRAM, TRIAL][len(sys.argv) - 1:])[:2]
-    for one, how in ((program, "make program builds it"), (trial, "rt run in crates/shard_trial builds it")):
+    words = words_of(__doc__)
+    words.add_argument("program", nargs="?", default=PROGRAM)
+    words.add_argument("trial", nargs="?", default=TRIAL)
+    given = words.parse_args()
+    for one, how in ((given.program, "make program builds it"), (given.trial, "rt run in crates/shard_trial builds it")):
         if not os.access(one, os.X_OK):
             sys.exit("refused_memory: no program at %s: %s" % (one, how))
     runs, failed = 0, 0
     with tempfile.TemporaryDirectory() as folder:
         library(folder)
-        for name, words, script, answers, right_end in cases(program, trial):
+        for name, words, script, answers, right_end in cases(given.program, given.trial):
             if run(words, script)[:2] != (0, answers):
                 sys.exit("%s: it goes wrong with all memory" % name)
             for at, right in refusals(words, script, right_end, folder):

@@ -8,6 +8,7 @@ import json
 import sys
 
 import model
+from program import words_of
 
 PLATFORMS = ("ALPH", "BETA", "GAMM")
 PARTIES = tuple(p + "/" + name for p in PLATFORMS for name in ("ONE", "TWO"))
@@ -82,4 +83,8 @@ def line_of(seed, bills, steps):
 
 
 if __name__ == "__main__":
-    sys.stdout.write(line_of(*map(int, sys.argv[1:])))
+    words = words_of(__doc__)
+    for name in ("seed", "bills", "steps"):
+        words.add_argument(name, type=int)
+    given = words.parse_args()
+    sys.stdout.write(line_of(given.seed, given.bills, given.steps))
