@@ -4,7 +4,7 @@ ghost use Rattle.std.specs.Prelude.{◌<◌, IfOk, length};
 use canonical_json::{
     Json, JsonList, Member, MemberList, ReadError, append, canonical_reads, decimal_of,
     equal_texts_have_equal_values, flag_of, formerly_read_is_read_alike, int_of, is_lawful,
-    list_of, member_of, read, read_if_any, take_member, text_of, write, write_text,
+    list_of, member_of, nests_within, read, read_if_any, take_member, text_of, write, write_text,
 };
 use ebl_base::{CharList, NoMemory};
 use serde_json::Value;
@@ -276,6 +276,35 @@ fn assert_found(rt: &impl Abort, json: &Json) {
     assert_eq!(rt; flag_of(json, "f"), Some(false));
     assert_eq!(rt; list_of(json, "l").map(|l| l.len()), Some(2));
     assert!(rt; matches!(member_of(json, "o"), Some(Json::Object(_))));
+}
+
+// A text, and how deep its value nests, counted by hand.
+const DEPTHS: [(&[u8], usize); 6] = [
+    (b"null", 0),
+    (b"[]", 1),
+    (b"{}", 1),
+    (b"{\"a\":{\"b\":1},\"c\":[]}", 2),
+    (b"[0,[],[{}]]", 3),
+    (b"[{\"a\":[null]}]", 3),
+];
+
+fn assert_nests(rt: &impl Abort, json: &Json, depth: usize) {
+    for most in 0..5 {
+        assert_eq!(rt;
+            nests_within(json, most),
+            depth <= most,
+            "{depth} within {most}"
+        );
+    }
+}
+
+#[test]
+fn values_nest_within_their_depth(rt: HostRuntime) -> Result<(), Fail> {
+    for &(text, depth) in &DEPTHS {
+        let json = read(rt.alloc(), text)?;
+        assert_nests(&rt, &json, depth);
+    }
+    Ok(())
 }
 
 fn assert_not_found(rt: &impl Abort, json: &Json) {
