@@ -5,6 +5,7 @@
 - a source file, a module of definitions or one of lemmas without its head sentence
 - a line of more than 120 columns, without what stands between quotes; imports, proofs and Markdown left out
 - a crate of crates.txt without a row in the map or in the README's table, a folder of crates/ that it doesn't name
+- a library in a crate's line of crates.txt that nothing of the crate names
 - a lemma that nothing cites
 """
 import os
@@ -66,6 +67,19 @@ def crates_named(texts):
             yield page, "has no row for the crate " + crate
     for crate in sorted({name.split("/")[1] for name in texts if name.startswith("crates/")} - listed):
         yield "crates.txt", "doesn't name crates/" + crate
+
+
+def libraries_named(texts):
+    for line in texts["crates.txt"].split("\n"):
+        head, colon, names = line.split("#")[0].partition(":")
+        if not colon:
+            continue
+        crate = head.split()[0]
+        code = "\n".join(text for name, text in texts.items()
+                         if name.startswith("crates/%s/" % crate) and name.endswith(CODE))
+        for library in names.split():
+            if not re.search(r"\b%s\b" % library, code):
+                yield "crates.txt", "names %s for %s, which doesn't" % (library, crate)
 
 
 # ---- lemmas
@@ -180,7 +194,7 @@ def missing_in(page, quoted, paths, known):
 def main():
     words_of(__doc__).parse_args()
     texts, found = files(), 0
-    for check in (names_in_pages, heads, widths, crates_named, uncited):
+    for check in (names_in_pages, heads, widths, crates_named, libraries_named, uncited):
         for where, what in check(texts):
             print("%s %s" % (where, what))
             found += 1
