@@ -56,12 +56,18 @@ pub(crate) fn answer_with<G: KeyRing>(
     ensures later { G.faults ring.old ≤ G.faults ring.new }
     ensures same { G.keys ring.new ≡ G.keys ring.old }
 {
-    let reply = answer(alloc, ring, me, response)?;
-    Ok(Decision {
-        frame,
-        reply: DecidedReply::Ready(reply),
-        messages: Items::new(alloc),
-    })
+    match answer(alloc, ring, me, response) {
+        Ok(reply) => Ok(Decision {
+            frame,
+            reply: DecidedReply::Ready(reply),
+            messages: Items::new(alloc),
+        }),
+        Err(fault) => {
+            // A call: what one arm alone moves is dropped in the others field by field, which is long to prove.
+            drop(frame);
+            Err(fault)
+        }
+    }
 }
 
 /// The response, sealed.
@@ -204,14 +210,13 @@ fn no_evidence() -> Evidence
     }
 }
 
-/// What is written of a judgement, with the Begun that is new, if one is.
-pub(crate) fn frame_for(
+/// What is written of a judgement where no Begun is new.
+pub(crate) fn frame_without(
     alloc: Global,
-    begun: Option<Record>,
     subject: Subject,
     judgement: &Judgement,
 ) -> Result<Option<Frame>, NoMemory>
-    ensures { IfOk result (λ frame. frame ≡ frame_for begun subject judgement.now) }
+    ensures { IfOk result (λ frame. frame ≡ frame_for None subject judgement.now) }
 {
     match judgement {
         Judgement::Parts(evidence) => Ok(Some(Frame::One(Record::Declined {
@@ -228,13 +233,13 @@ pub(crate) fn frame_for(
             reason: Reason::Party,
             evidence: no_evidence(),
         }))),
-        Judgement::Missing(_) => Ok(alone(begun)),
-        Judgement::Accept => Ok(Some(taken_with(begun, subject))),
+        Judgement::Accept => Ok(Some(taken_with(None, subject))),
         _ => Ok(None),
     }
 }
 
-fn alone(begun: Option<Record>) -> Option<Frame>
+/// The frame of a Begun that is new, if one is.
+pub(crate) fn alone(begun: Option<Record>) -> Option<Frame>
     ensures { result ≡ option_map One begun }
 {
     match begun {
@@ -243,7 +248,8 @@ fn alone(begun: Option<Record>) -> Option<Frame>
     }
 }
 
-fn taken_with(begun: Option<Record>, subject: Subject) -> Frame
+/// The frame of an entry that is taken, with the Begun that is new, if one is.
+pub(crate) fn taken_with(begun: Option<Record>, subject: Subject) -> Frame
     ensures { result ≡ taken_with begun subject }
 {
     match begun {

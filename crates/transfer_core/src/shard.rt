@@ -213,9 +213,17 @@ fn add(alloc: Global, register: &mut Register, frame: Option<Frame>) -> Result<(
     let Some(frame) = frame else {
         return Ok(());
     };
-    register.reserve(alloc, &frame)?;
-    register.add(frame);
-    Ok(())
+    match register.reserve(alloc, &frame) {
+        Ok(()) => {
+            register.add(frame);
+            Ok(())
+        }
+        Err(fault) => {
+            // A call, as in `answer_with`.
+            drop(frame);
+            Err(fault)
+        }
+    }
 }
 
 // A reply without messages.

@@ -15,7 +15,8 @@ ghost use Rattle.transfer_core.specs.Decision.{step_by};
 ghost use Rattle.transfer_core.specs.Shown.{shown_view};
 
 use crate::answering::{
-    answer, answer_with, frame_for, reference_for, refusal_response, response_for, subject_of,
+    alone, answer, answer_with, frame_without, reference_for, refusal_response, response_for,
+    subject_of, taken_with,
 };
 use crate::decision::{DecidedReply, Decision};
 use crate::judging::judge;
@@ -91,14 +92,27 @@ fn start_shown<G: KeyRing>(
     ensures same { G.keys ring.new ≡ G.keys ring.old }
 {
     let subject = subject_of(&shown.manifest);
-    let judgement = judge(alloc, register, roster, me, &shown.chain, &shown.manifest)?;
+    let judgement = match judge(alloc, register, roster, me, &shown.chain, &shown.manifest) {
+        Ok(judgement) => judgement,
+        Err(fault) => {
+            // A call, as in `answer_with`.
+            drop(shown);
+            return Err(fault.into());
+        }
+    };
     let frame = frame_at_start(alloc, register, shown, &judgement)?;
-    let reply = say_at_start(alloc, ring, me, subject, judgement)?;
-    Ok(Decision {
-        frame,
-        reply: DecidedReply::Ready(reply),
-        messages: Items::new(alloc),
-    })
+    match say_at_start(alloc, ring, me, subject, judgement) {
+        Ok(reply) => Ok(Decision {
+            frame,
+            reply: DecidedReply::Ready(reply),
+            messages: Items::new(alloc),
+        }),
+        Err(fault) => {
+            // A call, as in `answer_with`.
+            drop(frame);
+            Err(fault)
+        }
+    }
 }
 
 fn frame_at_start(
@@ -111,14 +125,11 @@ fn frame_at_start(
 {
     let subject = subject_of(&shown.manifest);
     match judgement {
-        Judgement::Missing(_) | Judgement::Accept => {
-            let begun = news(alloc, register, shown)?;
-            frame_for(alloc, begun, subject, judgement)
-        }
+        Judgement::Missing(_) => Ok(alone(news(alloc, register, shown)?)),
+        Judgement::Accept => Ok(Some(taken_with(news(alloc, register, shown)?, subject))),
         _ => {
-            // A call: a value that one arm alone moves is dropped field by field, which is long to prove.
             drop(shown);
-            frame_for(alloc, None, subject, judgement)
+            frame_without(alloc, subject, judgement)
         }
     }
 }

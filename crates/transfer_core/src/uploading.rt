@@ -14,7 +14,7 @@ ghost use Rattle.platform_machine.specs.Step.{OnlyReplies};
 ghost use Rattle.transfer_core.specs.Begun.{begun_view};
 ghost use Rattle.transfer_core.specs.Decision.{step_by};
 
-use crate::answering::{answer_with, document_response, frame_for, response_for, subject_of};
+use crate::answering::{answer_with, document_response, frame_without, response_for, subject_of};
 use crate::decision::{DecidedReply, Decision, only_reply};
 use crate::judging::judge;
 use crate::lookups::{first_bytes, last_with_reference};
@@ -203,7 +203,7 @@ fn finish_begun<G: KeyRing>(
 {
     let subject = subject_of(begun.manifest);
     let judgement = judge(alloc, register, roster, me, begun.chain, begun.manifest)?;
-    let frame = frame_for(alloc, None, subject, &judgement)?;
+    let frame = frame_without(alloc, subject, &judgement)?;
     answer_with(
         alloc,
         ring,
