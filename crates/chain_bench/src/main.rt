@@ -5,6 +5,7 @@ mod chain;
 
 use chain::{Bill, chain_texts, sample_bill};
 use ebl_base::TextList;
+use std::alloc::Global;
 use std::process::ExitCode;
 use std::{env, io};
 use test_signer::KeyedRing;
@@ -27,18 +28,42 @@ fn main(rt: HostRuntime) -> ExitCode {
 
 // Whether the words were right; none where the chain could not be made, or was refused.
 fn run(rt: &HostRuntime) -> Option<bool> {
-    let words = words(rt).ok()?;
-    let [entries, transactions, rounds] = words.as_slice() else {
+    let Some(counts) = read_counts(&words(rt).ok()?) else {
         return Some(false);
     };
-    let entries = entries.as_str().parse::<u32>().ok()?;
-    let transactions = transactions.as_str().parse::<usize>().ok()?;
-    let rounds = rounds.as_str().parse::<u32>().ok()?;
-    let mut ring = KeyedRing::derived();
     let bill = sample_bill(rt.alloc())?;
-    let texts = chain_texts(rt.alloc(), &mut ring, &bill, entries, transactions)?;
-    check_often(rt, &ring, &bill, &texts, rounds)?;
-    Some(true)
+    carry_out(rt.alloc(), &bill, counts)
+}
+
+// What the words say, in their order.
+#[derive(Clone, Copy)]
+struct Counts {
+    entries: u32,
+    transactions: usize,
+    rounds: u32,
+}
+
+fn read_counts(words: &[String]) -> Option<Counts> {
+    let [entries, transactions, rounds] = words else {
+        return None;
+    };
+    Some(Counts {
+        entries: entries.as_str().parse().ok()?,
+        transactions: transactions.as_str().parse().ok()?,
+        rounds: rounds.as_str().parse().ok()?,
+    })
+}
+
+// True, once all is done.
+fn carry_out(alloc: Global, bill: &Bill, counts: Counts) -> Option<bool> {
+    let Counts {
+        entries,
+        transactions,
+        rounds,
+    } = counts;
+    let mut ring = KeyedRing::derived();
+    let texts = chain_texts(alloc, &mut ring, bill, entries, transactions)?;
+    check_often(alloc, &ring, bill, &texts, rounds)
 }
 
 // The words behind the program's name.
@@ -51,14 +76,14 @@ fn words(rt: &HostRuntime) -> io::Result<Vec<String>> {
 }
 
 fn check_often(
-    rt: &HostRuntime,
+    alloc: Global,
     ring: &KeyedRing,
     bill: &Bill,
     texts: &TextList,
     rounds: u32,
-) -> Option<()> {
+) -> Option<bool> {
     for _ in 0..rounds {
-        check(rt.alloc(), &bill.roster, ring, &bill.document, texts).ok()?;
+        check(alloc, &bill.roster, ring, &bill.document, texts).ok()?;
     }
-    Some(())
+    Some(true)
 }
