@@ -223,20 +223,32 @@ pub(crate) fn keyed(alloc: Global, code: &str) -> Result<Shard<KeyedRing>, Fail>
 /// The body of the start by which ALPH sends the bill to BETA after these acts.
 pub(crate) fn sent_after(alloc: Global, before: &[Act]) -> Result<ByteList, Fail> {
     let mut shard = keyed(alloc, "ALPH")?;
-    sign(alloc, &mut shard)?;
+    sends_after(alloc, &mut shard, before)
+}
+
+fn sends_after(
+    alloc: Global,
+    shard: &mut Shard<KeyedRing>,
+    before: &[Act],
+) -> Result<ByteList, Fail> {
+    sign(alloc, shard)?;
     for act in before {
-        acts(alloc, &mut shard, *act)?;
+        acts(alloc, shard, *act)?;
     }
-    body_of(acts(alloc, &mut shard, SEND)?)
+    body_of(acts(alloc, shard, SEND)?)
 }
 
 /// The same where the three bytes `abc` are attached.
 pub(crate) fn sent_with_document(alloc: Global) -> Result<ByteList, Fail> {
     let mut shard = keyed(alloc, "ALPH")?;
-    sign(alloc, &mut shard)?;
-    acts(alloc, &mut shard, ISSUE)?;
-    asks(&mut shard, alloc, "ALPH/EXPORT", attachment(alloc)?)?;
-    body_of(acts(alloc, &mut shard, SEND)?)
+    sends_with_document(alloc, &mut shard)
+}
+
+fn sends_with_document(alloc: Global, shard: &mut Shard<KeyedRing>) -> Result<ByteList, Fail> {
+    sign(alloc, shard)?;
+    acts(alloc, shard, ISSUE)?;
+    asks(shard, alloc, "ALPH/EXPORT", attachment(alloc)?)?;
+    body_of(acts(alloc, shard, SEND)?)
 }
 
 /// Asserts the reply, how many messages are sent, and how many frames stand in the diary.

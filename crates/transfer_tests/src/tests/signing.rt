@@ -35,12 +35,14 @@ fn start(rt: HostRuntime) -> Result<(), Fail> {
     tell_start(&rt, rt.alloc(), &mut shard, body.as_slice())
 }
 
-// The entry is signed, and its manifest isn't.
+// The bill is signed and issued; its entry is signed, and the manifest isn't.
 fn tell_transfer<R: Abort>(
     rt: &R,
     alloc: Global,
     shard: &mut Shard<FailingRing>,
 ) -> Result<(), Fail> {
+    sign(alloc, shard)?;
+    acts(alloc, shard, ISSUE)?;
     for row in [("SIGN", 0, 2), ("DONE", 1, 3)] {
         let outcome = acts(alloc, shard, SEND)?;
         comes_to(rt, shard, &outcome, row);
@@ -51,7 +53,5 @@ fn tell_transfer<R: Abort>(
 #[test]
 fn transfer(rt: HostRuntime) -> Result<(), Fail> {
     let mut shard = failing_at(rt.alloc(), "ALPH", 1)?;
-    sign(rt.alloc(), &mut shard)?;
-    acts(rt.alloc(), &mut shard, ISSUE)?;
     tell_transfer(&rt, rt.alloc(), &mut shard)
 }
