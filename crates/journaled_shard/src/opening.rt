@@ -1,5 +1,5 @@
 //! What a disk stands for, as a shard finds it when it is opened and when it is read again from nothing.
-ghost use Rattle.std.specs.Prelude.{◌≡◌, ◌<◌, ◌≤◌, [], true, ℕ, length, IfErr, IfOk, IsErrOf, MatchResult, None, OnErr, OnOk};
+ghost use Rattle.std.specs.Prelude.{◌≡◌, ◌<◌, ◌≤◌, ◌++◌, [], ◌∷◌, true, ℕ, length, IfErr, IfOk, IsErrOf, MatchResult, None, OnErr, OnOk};
 ghost use Rattle.ebl_base.specs.Faults.{Rose};
 ghost use Rattle.disk_model.specs.Disk.{LeavesOnly, Looked, Only};
 ghost use Rattle.transfer_judge.specs.Legal.{IsLegal};
@@ -13,7 +13,7 @@ ghost use Rattle.journaled_shard.specs.View.{written_view};
 ghost use Rattle.journaled_shard.specs.Written.{HasDiary, HasNamesOf, IsKeptOrDropped, IsOnDisk, IsRead, IsStill};
 
 use crate::written::{Written, forget};
-use bill_diary::Diary;
+use bill_diary::{Diary, Frame};
 use bill_journal::{FrameBytes, Journal, OpenFault, no_journal_is_damaged};
 use disk_model::Disk;
 use ebl_base::{NoMemory, PlatformCode};
@@ -153,10 +153,27 @@ fn register_of(alloc: Global, diary: Diary) -> Result<Register, NoMemory>
 {
     let mut register = Register::new(alloc);
     for frame in diary.into_vec() {
-        register.reserve(alloc, &frame)?;
-        register.add(frame);
+        add(alloc, &mut register, frame)?;
     }
     Ok(register)
+}
+
+fn add(alloc: Global, register: &mut Register, frame: Frame) -> Result<(), NoMemory>
+    requires { register.old.room ≡ None }
+    ensures diary { OnOk result (register.new.diary ≡ register.old.diary ++ frame ∷ []) }
+    ensures room { register.new.room ≡ None }
+{
+    match register.reserve(alloc, &frame) {
+        Ok(()) => {
+            register.add(frame);
+            Ok(())
+        }
+        Err(fault) => {
+            // A call, as in `Written::write`.
+            drop(frame);
+            Err(fault)
+        }
+    }
 }
 
 fn fault_of(fault: DiaryFault) -> OpenFault

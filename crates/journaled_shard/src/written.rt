@@ -133,12 +133,14 @@ impl<D: Disk> Written<D> {
                 Ok(())
             }
             Err(AppendFault::Full) => {
+                // A call: what one arm alone moves is dropped in the others field by field, which is long to prove.
+                drop(frame);
                 self.register.release();
                 Err(Unwritten::Full)
             }
             Err(AppendFault::Disk) => {
                 self.register.release();
-                self.loose = Some(frame);
+                hold(&mut self.loose, frame);
                 self.unread = true;
                 Err(Unwritten::Disk)
             }
@@ -149,7 +151,15 @@ impl<D: Disk> Written<D> {
     pub(crate) fn close(self) -> D
         ensures { result ≡ self.journal.disk }
     {
-        self.journal.close()
+        let Written {
+            register,
+            loose,
+            journal,
+            ..
+        } = self;
+        drop(register);
+        drop(loose);
+        journal.close()
     }
 
     // The disk and the diary.
@@ -157,7 +167,14 @@ impl<D: Disk> Written<D> {
         requires { self.register.room ≡ None }
         ensures { result ≡ (self.journal.disk, self.register.diary) }
     {
-        (self.journal.close(), self.register.into_diary())
+        let Written {
+            register,
+            loose,
+            journal,
+            ..
+        } = self;
+        drop(loose);
+        (journal.close(), register.into_diary())
     }
 }
 
@@ -283,7 +300,14 @@ fn keep_if_there(
 pub(crate) fn forget(loose: &mut Option<Frame>)
     ensures { loose.new ≡ None }
 {
-    *loose = None;
+    drop(loose.take());
+}
+
+// The loose frame is this one.
+fn hold(loose: &mut Option<Frame>, frame: Frame)
+    ensures { loose.new ≡ Some frame }
+{
+    drop(loose.replace(frame));
 }
 
 // Puts the loose frame behind the diary's. Out of memory, both stay as they are.
@@ -301,7 +325,7 @@ fn keep(alloc: Global, register: &mut Register, loose: &mut Option<Frame>) -> Re
     let result = register.reserve(alloc, &frame);
     match result {
         Ok(()) => register.add(frame),
-        Err(NoMemory) => *loose = Some(frame),
+        Err(NoMemory) => hold(loose, frame),
     }
     result
 }

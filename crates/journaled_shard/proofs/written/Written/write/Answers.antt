@@ -1,4 +1,4 @@
-use Rattle.std.proofs.Common.{◌≡◌, ◌<◌, ◌+◌, ℕ, Bool, true, List, Some, Err, length, ap, sym, subst, ◌∙◌, refl, rules}
+use Rattle.std.proofs.Common.{◌≡◌, ◌<◌, ◌+◌, ℕ, Bool, true, List, Err, length, ap, sym, subst, ◌∙◌, refl, rules}
 use Rattle.disk_model.proofs.Moments.{LeavesOnly-weaker}
 use Rattle.bill_journal.specs.Journal.{HasContents, WithOrWithout, room_for}
 use Rattle.journaled_diary.specs.Contents.{contents_in}
@@ -79,8 +79,8 @@ returns-in-Err-Full-clause-written g c =
           c.is_settling-settling.ensures (c.in-Err-Full.ensures.full.0 full)),
     )
 
-pub returns-in-Err-Disk-clause-written : goal.returns-in-Err-Disk-clause-written
-returns-in-Err-Disk-clause-written g c =
+pub returns-clause-written : goal.returns-clause-written
+returns-clause-written g c =
     let before = written_view c.args.self.now in
     record {
       diary = c.release-in-Err-Disk.ensures.diary ∙ c.make_ready.ensures.diary;
@@ -88,40 +88,40 @@ returns-in-Err-Disk-clause-written g c =
           (λ long. let clash = c.in-Err-Disk.ensures.full.1 (subst (λ (s : Bool). room_for s
           < c.args.self.now.journal.end + 6 + length c.in_ok-framed.framed) (sym c.is_settling-settling.ensures) long)
           in cc clash);
-      loose = refl;
+      loose = c.hold.ensures;
       unread = refl;
     }
 
-pub returns-in-Err-Disk-clause-on_disk : goal.returns-in-Err-Disk-clause-on_disk
-returns-in-Err-Disk-clause-on_disk g c = λ tells on.
+pub returns-clause-on_disk : goal.returns-clause-on_disk
+returns-clause-on_disk g c = λ tells on.
     let before = written_view c.args.self.now in
     let after : WrittenRecord g.row.D.Denot =
-    record { diary = c.release-in-Err-Disk.new.self.diary; loose = Some c.args.frame; unread = true; journal = c.append.new.self } in
+    record { diary = c.release-in-Err-Disk.new.self.diary; loose = c.hold.new.loose; unread = true; journal = c.append.new.self } in
     let left : IsLeftOpen before c.args.frame after = record {
       diary = c.release-in-Err-Disk.ensures.diary ∙ c.make_ready.ensures.diary;
       fits = room_behind before c.args.frame c.in_ok-framed.framed c.requires.read c.in_ok-framed.ensures.ok
           (λ long. let clash = c.in-Err-Disk.ensures.full.1 (subst (λ (s : Bool). room_for s
           < c.args.self.now.journal.end + 6 + length c.in_ok-framed.framed) (sym c.is_settling-settling.ensures) long)
           in cc clash);
-      loose = refl;
+      loose = c.hold.ensures;
       unread = refl;
     } in
     left_on_disk g.D.Disk.seen g.D.Disk.may_leave before after c.args.frame c.in_ok-framed.framed left
     c.in_ok-framed.ensures.ok
     (c.in-Err-Disk.ensures.may_have (contents_in before.diary) tells (on.settled c.requires.read.read))
 
-pub returns-in-Err-Disk-clause-any_moment : goal.returns-in-Err-Disk-clause-any_moment
-returns-in-Err-Disk-clause-any_moment g c = λ tells on.
+pub returns-clause-any_moment : goal.returns-clause-any_moment
+returns-clause-any_moment g c = λ tells on.
     let before = written_view c.args.self.now in
     let after : WrittenRecord g.row.D.Denot =
-    record { diary = c.release-in-Err-Disk.new.self.diary; loose = Some c.args.frame; unread = true; journal = c.append.new.self } in
+    record { diary = c.release-in-Err-Disk.new.self.diary; loose = c.hold.new.loose; unread = true; journal = c.append.new.self } in
     let left : IsLeftOpen before c.args.frame after = record {
       diary = c.release-in-Err-Disk.ensures.diary ∙ c.make_ready.ensures.diary;
       fits = room_behind before c.args.frame c.in_ok-framed.framed c.requires.read c.in_ok-framed.ensures.ok
           (λ long. let clash = c.in-Err-Disk.ensures.full.1 (subst (λ (s : Bool). room_for s
           < c.args.self.now.journal.end + 6 + length c.in_ok-framed.framed) (sym c.is_settling-settling.ensures) long)
           in cc clash);
-      loose = refl;
+      loose = c.hold.ensures;
       unread = refl;
     } in
     LeavesOnly-weaker g.D.Disk.moment g.D.Disk.left_since before.journal.disk after.journal.disk
