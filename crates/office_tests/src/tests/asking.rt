@@ -12,7 +12,7 @@ use disk_model::{Failures, MemoryDisk};
 use ebl_base::{Items, Kind, Moment, Party, PlatformCode};
 use holder_commands::Command;
 use journaled_shard::Rack;
-use platform_office::{Office, Pass};
+use platform_office::{Closed, Office, Pass};
 use platform_requests::{Reply, Request};
 use sample_bills::{acting, bill, roster, signing};
 use std::alloc::Global;
@@ -25,6 +25,9 @@ pub(crate) const SHARD: usize = 4;
 pub(crate) type TestOffice = Office<MemoryDisk, KeyedRing>;
 
 pub(crate) type TestPass = Pass<MemoryDisk, KeyedRing>;
+
+/// What is left of it once it is closed.
+pub(crate) type TestClosed = Closed<MemoryDisk, KeyedRing>;
 
 // A blank disk of which the listed calls fail, once their bytes are written, and the derived ring.
 fn rack(alloc: Global, fails: &[u64]) -> Option<Rack<MemoryDisk, KeyedRing>>
