@@ -157,11 +157,22 @@ pub(crate) fn answers(
 ) -> Result<(), Fail>
     requires { length events.now < 90 }
 {
-    let alloc = rt.alloc();
-    let mut world = world(alloc, failing)?;
-    take(rt, &mut world, &HANDED_OVER)?;
-    take(rt, &mut world, events)?;
-    let lines = world.bill_lines(alloc)?;
+    let mut world = world(rt.alloc(), failing)?;
+    tell(rt, &mut world, events, bills)
+}
+
+fn tell(
+    rt: &(impl Abort + Alloc<A = Global>),
+    world: &mut TestWorld,
+    events: &[(&str, &str)],
+    bills: &str,
+) -> Result<(), Fail>
+    requires fresh { world.old.fates ≡ [] }
+    requires few { length events.now < 90 }
+{
+    take(rt, world, &HANDED_OVER)?;
+    take(rt, world, events)?;
+    let lines = world.bill_lines(rt.alloc())?;
     assert_eq!(rt; lines.as_slice(), bills.as_bytes());
     Ok(())
 }
