@@ -5,6 +5,7 @@ mod pair;
 mod texts;
 
 use pair::Pair;
+use std::alloc::Global;
 use std::process::ExitCode;
 use std::{env, io};
 
@@ -23,21 +24,42 @@ fn main(rt: HostRuntime) -> ExitCode {
     }
 }
 
+// How many bills are signed first, how many rows follow, and how many requests of each.
+#[derive(Clone, Copy)]
+struct Counts {
+    bills: u32,
+    rows: u32,
+    requests: u32,
+}
+
 // Whether the words were right; none where a request wasn't done.
 fn run(rt: &HostRuntime) -> Option<bool> {
-    let words = words(rt).ok()?;
-    let [bills, rows, requests] = words.as_slice() else {
+    let Some(counts) = read_counts(&words(rt).ok()?) else {
         return Some(false);
     };
-    let bills = bills.as_str().parse::<u32>().ok()?;
-    let rows = rows.as_str().parse::<u32>().ok()?;
-    let requests = requests.as_str().parse::<u32>().ok()?;
     let mut pair = Pair::new(rt.alloc())?;
-    for number in 0..bills {
-        pair.fill(rt.alloc(), number)?;
+    carry_out(rt.alloc(), &mut pair, counts)
+}
+
+// The three counts, if the words are such.
+fn read_counts(words: &[String]) -> Option<Counts> {
+    let [bills, rows, requests] = words else {
+        return None;
+    };
+    Some(Counts {
+        bills: bills.as_str().parse().ok()?,
+        rows: rows.as_str().parse().ok()?,
+        requests: requests.as_str().parse().ok()?,
+    })
+}
+
+// True, once all is done. It borrows the pair, so that the pair is dropped at one place and not at each `?`.
+fn carry_out(alloc: Global, pair: &mut Pair, counts: Counts) -> Option<bool> {
+    for number in 0..counts.bills {
+        pair.fill(alloc, number)?;
     }
-    for number in 0..rows {
-        pair.row(rt.alloc(), bills.checked_add(number)?, requests)?;
+    for number in 0..counts.rows {
+        pair.row(alloc, counts.bills.checked_add(number)?, counts.requests)?;
     }
     Some(true)
 }
