@@ -4,6 +4,7 @@
 mod bills;
 
 use bills::Bills;
+use std::alloc::Global;
 use std::process::ExitCode;
 use std::{env, io};
 
@@ -23,27 +24,49 @@ fn main(rt: HostRuntime) -> ExitCode {
     }
 }
 
+// What the words say, in their order.
+#[derive(Clone, Copy)]
+struct Counts {
+    bills: u32,
+    rows: u32,
+    events: u32,
+    asked: u32,
+    entries: u8,
+}
+
 // Whether the words were right; none where memory ran out.
 fn run(rt: &HostRuntime) -> Option<bool> {
-    let words = words(rt).ok()?;
-    let [bills, rows, events, asked, entries] = words.as_slice() else {
+    let Some(counts) = read_counts(&words(rt).ok()?) else {
         return Some(false);
     };
-    let bills = bills.as_str().parse::<u32>().ok()?;
-    let rows = rows.as_str().parse::<u32>().ok()?;
-    let events = events.as_str().parse::<u32>().ok()?;
-    let asked = asked.as_str().parse::<u32>().ok()?;
-    let entries = entries.as_str().parse::<u8>().ok()?;
-    let mut made = Bills::new(rt.alloc(), entries)?;
-    for number in 0..bills {
-        made.fill(rt.alloc(), number)?;
+    let mut made = Bills::new(rt.alloc(), counts.entries)?;
+    carry_out(rt.alloc(), &mut made, counts)
+}
+
+fn read_counts(words: &[String]) -> Option<Counts> {
+    let [bills, rows, events, asked, entries] = words else {
+        return None;
+    };
+    Some(Counts {
+        bills: bills.as_str().parse().ok()?,
+        rows: rows.as_str().parse().ok()?,
+        events: events.as_str().parse().ok()?,
+        asked: asked.as_str().parse().ok()?,
+        entries: entries.as_str().parse().ok()?,
+    })
+}
+
+// True, once all is done. The bills are lent, so that they are dropped at one place and not at each `?`.
+fn carry_out(alloc: Global, made: &mut Bills, counts: Counts) -> Option<bool> {
+    for number in 0..counts.bills {
+        made.fill(alloc, number)?;
     }
-    for number in 0..rows {
-        made.row(rt.alloc(), number, events)?;
+    for number in 0..counts.rows {
+        made.row(alloc, number, counts.events)?;
     }
     let mut answers = 0u32;
-    for number in 0..rows {
-        answers = answers.wrapping_add(made.ask(number, asked));
+    for number in 0..counts.rows {
+        answers = answers.wrapping_add(made.ask(number, counts.asked));
     }
     // An answer that nothing reads could be left out.
     Some(answers != u32::MAX)
