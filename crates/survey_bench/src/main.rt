@@ -3,8 +3,9 @@
 
 mod making;
 
-use closed_family::{Verdict, survey};
+use closed_family::{Family, Verdict, survey};
 use making::family;
+use std::alloc::Global;
 use std::process::ExitCode;
 use std::{env, io};
 
@@ -36,8 +37,13 @@ fn run(rt: &HostRuntime) -> Option<bool> {
         return Some(false);
     };
     let family = family(rt.alloc(), bills)?;
+    survey_often(rt.alloc(), &family, surveys)
+}
+
+// True, once all is done. The family is lent, so that it is dropped at one place and not at each `?`.
+fn survey_often(alloc: Global, family: &Family, surveys: u32) -> Option<bool> {
     for _ in 0..surveys {
-        let Verdict::Consistent = survey(rt.alloc(), &family).ok()? else {
+        let Verdict::Consistent = survey(alloc, family).ok()? else {
             return None;
         };
     }

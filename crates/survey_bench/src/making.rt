@@ -10,16 +10,32 @@ use std::alloc::Global;
 
 /// The family, with so many bills, all of the first shard. Its texts are short and of no form.
 pub(crate) fn family(alloc: Global, bills: u16) -> Option<Family> {
-    let mut sent = Items::new(alloc);
-    let mut came = Items::new(alloc);
-    for number in 0..bills {
-        send(alloc, &mut sent, number)?;
-        take(alloc, &mut came, number)?;
-    }
     let mut family = Items::new(alloc);
-    family.push(member(alloc, b"ALPH", sent)?).ok()?;
-    family.push(member(alloc, b"BETA", came)?).ok()?;
+    family
+        .push(member(alloc, b"ALPH", sent(alloc, bills)?)?)
+        .ok()?;
+    family
+        .push(member(alloc, b"BETA", came(alloc, bills)?)?)
+        .ok()?;
     Some(family)
+}
+
+// The diary in which so many bills are sent.
+fn sent(alloc: Global, bills: u16) -> Option<Diary> {
+    let mut diary = Items::new(alloc);
+    for number in 0..bills {
+        send(alloc, &mut diary, number)?;
+    }
+    Some(diary)
+}
+
+// The one in which they are taken.
+fn came(alloc: Global, bills: u16) -> Option<Diary> {
+    let mut diary = Items::new(alloc);
+    for number in 0..bills {
+        take(alloc, &mut diary, number)?;
+    }
+    Some(diary)
 }
 
 // A platform with this diary in its first shard.
