@@ -44,10 +44,7 @@ fn run(rt: &HostRuntime) -> io::Result<bool> {
         return Ok(false);
     };
     match desk(rt.alloc(), outcomes) {
-        Ok(Some(mut desk)) => {
-            serve(rt, address.as_str(), links, &mut desk)?;
-            Ok(true)
-        }
+        Ok(Some(mut desk)) => serve(rt, address.as_str(), links, &mut desk),
         Ok(None) => Ok(false),
         Err(NoMemory) => Err(ErrorKind::OutOfMemory.into()),
     }
@@ -78,11 +75,12 @@ fn desk(alloc: Global, words: &[String]) -> Result<Option<MemoryDesk>, NoMemory>
     Ok(Some(MemoryDesk::new(alloc, outcomes, parties)))
 }
 
-fn serve(rt: &HostRuntime, address: &str, links: u32, desk: &mut MemoryDesk) -> io::Result<()> {
+// True, once so many links have ended.
+fn serve(rt: &HostRuntime, address: &str, links: u32, desk: &mut MemoryDesk) -> io::Result<bool> {
     let listener = TcpListener::bind(rt, address)?;
     println!(rt; "serving {}", listener.local_addr()?)?;
     let Some(first) = Moment::try_new(0) else {
-        return Ok(());
+        return Ok(true);
     };
     let mut clock = SystemClock::new(rt, first);
     for _ in 0..links {
@@ -91,5 +89,5 @@ fn serve(rt: &HostRuntime, address: &str, links: u32, desk: &mut MemoryDesk) -> 
         let end = serve_link(rt.alloc(), &mut link, desk, &mut clock);
         println!(rt; "{end:?}")?;
     }
-    Ok(())
+    Ok(true)
 }
