@@ -5,7 +5,9 @@ use crate::offices::{Offices, Passes};
 use closed_family::{DiaryList, Family, Member, Verdict, survey};
 use disk_model::Disk;
 use ebl_base::{Items, PlatformCode};
+use platform_office::{Office, Pass};
 use std::alloc::Global;
+use test_signer::KeyedRing;
 
 /// How many frames the diaries have, and what the survey finds of them.
 #[derive(Clone, Copy)]
@@ -31,25 +33,42 @@ pub(crate) fn close<D: Disk + Drop>(
     requires alph { IsPassOf offices.alph passes.alph }
     requires beta { IsPassOf offices.beta passes.beta }
 {
-    let Offices { alph, beta } = offices;
-    let Passes {
-        alph: alph_pass,
-        beta: beta_pass,
-    } = passes;
-    let mut family: Family = Items::new(alloc);
-    let mut frames = 0u64;
-    for (code, diaries) in [
-        (b"ALPH", alph.close(alph_pass).ok()?.diaries),
-        (b"BETA", beta.close(beta_pass).ok()?.diaries),
-    ] {
-        frames = frames.wrapping_add(frames_in(&diaries));
-        let platform = PlatformCode::try_new(code)?;
-        family.push(Member { platform, diaries }).ok()?;
+    let alph = diaries_of(offices.alph, passes.alph);
+    let beta = diaries_of(offices.beta, passes.beta);
+    surveyed(alloc, alph?, beta?)
+}
+
+// The diaries of an office that is closed; none where another pass is out or memory runs out.
+fn diaries_of<D: Disk + Drop>(
+    office: Office<D, KeyedRing>,
+    pass: Pass<D, KeyedRing>,
+) -> Option<DiaryList>
+    requires { IsPassOf office pass }
+{
+    match office.close(pass) {
+        Ok(closed) => Some(closed.diaries),
+        Err(_) => None,
     }
-    let verdict = match survey(alloc, &family).ok()? {
-        Verdict::Consistent => "consistent",
-        Verdict::SameName(_) => "one name of two texts",
-        Verdict::Lacks { .. } => "a record is lacking",
-    };
+}
+
+fn surveyed(alloc: Global, alph: DiaryList, beta: DiaryList) -> Option<Found> {
+    let frames = frames_in(&alph).wrapping_add(frames_in(&beta));
+    let mut family: Family = Items::new(alloc);
+    add(&mut family, b"ALPH", alph)?;
+    add(&mut family, b"BETA", beta)?;
+    let verdict = verdict(alloc, &family)?;
     Some(Found { frames, verdict })
+}
+
+fn add(family: &mut Family, code: &[u8], diaries: DiaryList) -> Option<()> {
+    let platform = PlatformCode::try_new(code)?;
+    family.push(Member { platform, diaries }).ok()
+}
+
+fn verdict(alloc: Global, family: &Family) -> Option<&'static str> {
+    match survey(alloc, family).ok()? {
+        Verdict::Consistent => Some("consistent"),
+        Verdict::SameName(_) => Some("one name of two texts"),
+        Verdict::Lacks { .. } => Some("a record is lacking"),
+    }
 }

@@ -43,7 +43,7 @@ fn spread<D: Disk + Drop + Send, R: Threads + Wait + Sync>(
     rt: &R,
     alloc: Global,
     offices: &Offices<D>,
-    mut passes: Passes<D>,
+    passes: Passes<D>,
     work: Work,
     levels: u32,
 ) -> Option<(Passes<D>, Replies)>
@@ -54,15 +54,11 @@ fn spread<D: Disk + Drop + Send, R: Threads + Wait + Sync>(
     ensures beta { IfSome result (λ r. IsPassOf offices.now.beta r.0.beta) }
 {
     if levels == 0 {
-        let replies = serve(rt, alloc, offices, &mut passes, work.bills, work.phase)?;
-        return Some((passes, replies));
+        return alone(rt, alloc, offices, passes, work);
     }
     let below = levels - 1;
     let (near, far) = halves(work, below);
-    let others = Passes {
-        alph: offices.alph.split(&mut passes.alph).ok()?,
-        beta: offices.beta.split(&mut passes.beta).ok()?,
-    };
+    let (passes, others) = split(offices, passes)?;
     let (mine, theirs) = join(
         rt,
         move || -> Option<(Passes<D>, Replies)>
@@ -78,11 +74,57 @@ fn spread<D: Disk + Drop + Send, R: Threads + Wait + Sync>(
                 × IsPassOf offices.entry.now.beta r.0.beta) }
         { spread(rt, alloc, offices, others, far, below) },
     );
-    let (mut passes, mine) = mine?;
-    let (others, theirs) = theirs?;
+    Some(joined(offices, mine?, theirs?))
+}
+
+// The work of one thread.
+fn alone<D: Disk + Drop, R: Wait>(
+    rt: &R,
+    alloc: Global,
+    offices: &Offices<D>,
+    mut passes: Passes<D>,
+    work: Work,
+) -> Option<(Passes<D>, Replies)>
+    requires alph { IsPassOf offices.now.alph passes.alph }
+    requires beta { IsPassOf offices.now.beta passes.beta }
+    ensures alph { IfSome result (λ r. IsPassOf offices.now.alph r.0.alph) }
+    ensures beta { IfSome result (λ r. IsPassOf offices.now.beta r.0.beta) }
+{
+    let replies = serve(rt, alloc, offices, &mut passes, work.bills, work.phase)?;
+    Some((passes, replies))
+}
+
+// Passes for another thread too.
+fn split<D: Disk + Drop>(
+    offices: &Offices<D>,
+    mut passes: Passes<D>,
+) -> Option<(Passes<D>, Passes<D>)>
+    requires alph { IsPassOf offices.now.alph passes.alph }
+    requires beta { IsPassOf offices.now.beta passes.beta }
+    ensures alph { IfSome result (λ r. IsPassOf offices.now.alph r.0.alph × IsPassOf offices.now.alph r.1.alph) }
+    ensures beta { IfSome result (λ r. IsPassOf offices.now.beta r.0.beta × IsPassOf offices.now.beta r.1.beta) }
+{
+    let alph = offices.alph.split(&mut passes.alph).ok()?;
+    let beta = offices.beta.split(&mut passes.beta).ok()?;
+    Some((passes, Passes { alph, beta }))
+}
+
+// The passes and the replies of two threads together.
+fn joined<D: Disk + Drop>(
+    offices: &Offices<D>,
+    mine: (Passes<D>, Replies),
+    theirs: (Passes<D>, Replies),
+) -> (Passes<D>, Replies)
+    requires alph { IsPassOf offices.now.alph mine.0.alph × IsPassOf offices.now.alph theirs.0.alph }
+    requires beta { IsPassOf offices.now.beta mine.0.beta × IsPassOf offices.now.beta theirs.0.beta }
+    ensures alph { IsPassOf offices.now.alph result.0.alph }
+    ensures beta { IsPassOf offices.now.beta result.0.beta }
+{
+    let (mut passes, mine) = mine;
+    let (others, theirs) = theirs;
     offices.alph.join(&mut passes.alph, others.alph);
     offices.beta.join(&mut passes.beta, others.beta);
-    Some((passes, mine.plus(theirs)))
+    (passes, mine.plus(theirs))
 }
 
 /// 2^`levels` threads hand over so many bills each, and then each settles those of another, if there is one.
