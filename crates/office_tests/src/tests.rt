@@ -29,7 +29,7 @@ fn ask_in_turn(
 }
 
 // How many frames the diary of the bill's shard has, how many racks there are, and how often that shard's disk failed,
-// once the office is closed; none where another pass was out.
+// once the office is closed; none where another pass is out or memory runs out.
 fn closed(office: TestOffice, pass: TestPass) -> Option<(usize, usize, u64)>
     requires { IsPassOf office pass }
 {
