@@ -1,14 +1,12 @@
 //! The program around the top call: its words, its exit, and its line on standard error.
 ghost use Rattle.std.specs.Prelude.{◌≡◌, true, IfOk};
-ghost use Rattle.ebl_cli.specs.Racks.{AllTell};
-ghost use Rattle.ebl_cli.specs.Status.{exit_of};
+ghost use Rattle.ebl_run.specs.Racks.{AllTell};
 
-use crate::run::run_ebl;
-use crate::status::Status;
 use canonical_json::ReadError;
 use disk_model::{Failures, MemoryDisk};
 use ebl_base::{ByteList, CallList, NoMemory};
 use ebl_edge::{Sink, standard_input, standard_output};
+use ebl_run::{Status, exit_of, run_ebl};
 use journaled_shard::Rack;
 use std::alloc::Global;
 use std::io::Input;
@@ -130,26 +128,6 @@ fn put_text<K: Sink>(sink: &mut K, text: &str) -> Status {
     match sink.put(text.as_bytes()) {
         Ok(()) => Status::Done,
         Err(_) => Status::WriteFault,
-    }
-}
-
-/// The program's exit for a status.
-#[tactic(auto, unfolding(crate::specs::Status::exit_of))]
-pub fn exit_of(status: Status) -> u8
-    ensures { result ≡ exit_of status }
-{
-    match status {
-        Status::Done => 0,
-        Status::Usage => 2,
-        Status::BadScript(_) => 3,
-        Status::TooLong => 4,
-        Status::BadJson(_) => 5,
-        Status::WrongRacks { .. } => 6,
-        Status::NotBlank(_) => 7,
-        Status::OpenFault(_) => 8,
-        Status::ReadFault => 10,
-        Status::WriteFault => 11,
-        Status::NoMemory => 12,
     }
 }
 

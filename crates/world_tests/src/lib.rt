@@ -1,4 +1,5 @@
-//! Tests of `platform_world`, `rehearsal` and `honest_texts`: worlds of several platforms, and what is sent in them.
+//! Tests of `platform_world`, `honest_texts` and `ebl_run`: worlds of several platforms, what is sent in them, and runs
+//! of the program.
 //! There is nothing here but tests.
 #![tactic(auto)]
 

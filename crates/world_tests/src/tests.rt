@@ -1,4 +1,5 @@
-//! Worlds on disks and with rings that fail, and what is honest.
+//! Runs of the program and worlds, on disks and with rings that fail, and what is honest.
 mod failures;
 mod honesty;
+mod runs;
 mod worlds;
