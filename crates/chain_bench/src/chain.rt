@@ -73,9 +73,21 @@ impl Side {
 }
 
 pub(crate) fn sample_bill(alloc: Global) -> Option<Bill> {
-    let roster = Roster::read(alloc, &read(alloc, ROSTER).ok()?).ok()?;
-    let document = Document::of_json(alloc, &read(alloc, DOCUMENT).ok()?).ok()?;
-    Some(Bill { roster, document })
+    let document = document(alloc)?;
+    Some(Bill {
+        roster: roster(alloc)?,
+        document,
+    })
+}
+
+fn roster(alloc: Global) -> Option<Roster> {
+    let json = read(alloc, ROSTER).ok()?;
+    Roster::read(alloc, &json).ok()
+}
+
+fn document(alloc: Global) -> Option<Document> {
+    let json = read(alloc, DOCUMENT).ok()?;
+    Document::of_json(alloc, &json).ok()
 }
 
 /// The texts of a good chain.
@@ -104,25 +116,37 @@ fn entry_text(
     at: u32,
     transactions: usize,
 ) -> Option<SignedText> {
-    let here = Side::at(at);
-    let platform = here.platform()?;
-    let mut list = TransactionList::new(alloc);
-    if at == 0 {
-        begin(&mut list)?;
-    }
-    hand_on(&mut list, here, transactions)?;
+    let platform = Side::at(at).platform()?;
+    let transactions = transactions_at(alloc, at, transactions)?;
     let entry = Entry {
         platform,
         bill: bill.document.bill(),
         previous,
         attempt: 1,
-        transactions: list,
+        transactions,
     };
-    let payload = encode(alloc, &entry).ok()?;
+    signed(alloc, ring, &entry)
+}
+
+fn transactions_at(alloc: Global, at: u32, count: usize) -> Option<TransactionList> {
+    let mut list = TransactionList::new(alloc);
+    fill(&mut list, at, count)?;
+    Some(list)
+}
+
+fn fill(list: &mut TransactionList, at: u32, count: usize) -> Option<()> {
+    if at == 0 {
+        begin(list)?;
+    }
+    hand_on(list, Side::at(at), count)
+}
+
+fn signed(alloc: Global, ring: &mut KeyedRing, entry: &Entry) -> Option<SignedText> {
+    let payload = encode(alloc, entry).ok()?;
     if !is_lawful(&payload) {
         return None;
     }
-    compose(alloc, ring, platform, &payload, 16_384).ok()
+    compose(alloc, ring, entry.platform, &payload, 16_384).ok()
 }
 
 // The carrier signs, and issues the bill to the first possessor.
