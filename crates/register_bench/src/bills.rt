@@ -2,7 +2,7 @@
 use bill_diary::{Frame, Record};
 use ebl_base::{
     Chain, ChainLink, Checksum, Entry, Items, Kind, Moment, NoMemory, Party, SharedBytes,
-    SignedText, Transaction,
+    SignedText, Transaction, TransactionList,
 };
 use envelope_manifest::Manifest;
 use std::alloc::Global;
@@ -42,20 +42,31 @@ fn manifest(alloc: Global, bill: Checksum, last: Checksum) -> Manifest {
 impl Bills {
     /// No bill.
     pub(crate) fn new(alloc: Global, entries: u8) -> Option<Bills> {
+        let carrier = Party::from_text(b"ALPH/CARRIER")?;
+        let exporter = Party::from_text(b"ALPH/EXPORT")?;
+        let importer = Party::from_text(b"BETA/IMPORT")?;
+        let time = Moment::try_new(0)?;
         Some(Bills {
             register: Register::new(alloc),
-            carrier: Party::from_text(b"ALPH/CARRIER")?,
-            exporter: Party::from_text(b"ALPH/EXPORT")?,
-            importer: Party::from_text(b"BETA/IMPORT")?,
-            time: Moment::try_new(0)?,
+            carrier,
+            exporter,
+            importer,
+            time,
             entries,
         })
     }
 
     fn write(&mut self, alloc: Global, frame: Frame) -> Result<(), NoMemory> {
-        self.register.reserve(alloc, &frame)?;
-        self.register.add(frame);
-        Ok(())
+        match self.register.reserve(alloc, &frame) {
+            Ok(()) => {
+                self.register.add(frame);
+                Ok(())
+            }
+            Err(fault) => {
+                drop(frame);
+                Err(fault)
+            }
+        }
     }
 
     fn transaction(&self, kind: Kind, actor: Party, recipient: Option<Party>) -> Transaction {
@@ -69,29 +80,34 @@ impl Bills {
 
     // An entry by its number, of a bill that goes to and fro; the first one has what was done before.
     fn link(&self, alloc: Global, bill: u32, number: u8) -> Result<ChainLink, NoMemory> {
-        let sign = self.transaction(Kind::Sign, self.carrier, None);
-        let issue = self.transaction(Kind::Issue, self.carrier, Some(self.exporter));
-        let there = self.transaction(Kind::Transfer, self.exporter, Some(self.importer));
-        let back = self.transaction(Kind::Transfer, self.importer, Some(self.exporter));
-        let (platform, transactions) = if number == 1 {
-            let all = Items::from_slice(alloc, &[sign, issue, there])?;
-            (self.exporter.platform, all)
-        } else if number % 2 == 1 {
-            (self.exporter.platform, Items::from_slice(alloc, &[there])?)
+        let transactions = self.transactions(alloc, number)?;
+        let from = if number % 2 == 1 {
+            self.exporter
         } else {
-            (self.importer.platform, Items::from_slice(alloc, &[back])?)
+            self.importer
         };
         Ok(ChainLink {
             text: SignedText(SharedBytes::new()),
             name: name(bill, number),
             entry: Entry {
-                platform,
+                platform: from.platform,
                 bill: name(bill, 0),
                 previous: None,
                 attempt: 1,
                 transactions,
             },
         })
+    }
+
+    fn transactions(&self, alloc: Global, number: u8) -> Result<TransactionList, NoMemory> {
+        let sign = self.transaction(Kind::Sign, self.carrier, None);
+        let issue = self.transaction(Kind::Issue, self.carrier, Some(self.exporter));
+        let there = self.transaction(Kind::Transfer, self.exporter, Some(self.importer));
+        let back = self.transaction(Kind::Transfer, self.importer, Some(self.exporter));
+        if number == 1 {
+            return Items::from_slice(alloc, &[sign, issue, there]);
+        }
+        Items::from_slice(alloc, &[if number % 2 == 1 { there } else { back }])
     }
 
     /// A bill more, signed and issued.
@@ -118,34 +134,49 @@ impl Bills {
         if events == 1 {
             return Some(());
         }
-        let bill = name(number, 0);
-        let entry = name(number, 1);
-        let parted = Record::Parted {
-            bill,
-            link: self.link(alloc, number, 1).ok()?,
-            manifest: manifest(alloc, bill, entry),
-            manifest_text: SignedText(SharedBytes::new()),
-        };
-        self.write(alloc, Frame::One(parted)).ok()?;
+        self.part(alloc, number).ok()?;
         if events == 2 {
             return Some(());
         }
-        self.write(alloc, Frame::One(Record::Settled { bill, entry }))
-            .ok()?;
+        self.settle(alloc, number).ok()?;
         if events == 3 {
             return Some(());
         }
-        let begun = Record::Begun {
-            bill,
-            chain: self.chain(alloc, number).ok()?,
-            manifest: manifest(alloc, bill, name(number, self.entries)),
-            body: Items::new(alloc),
-        };
-        self.write(alloc, Frame::BegunTaken(begun)).ok()?;
+        self.come_back(alloc, number).ok()?;
         if events == 4 {
             return Some(());
         }
         self.endorse(alloc, number).ok()
+    }
+
+    // The bill parts by its first entry.
+    fn part(&mut self, alloc: Global, number: u32) -> Result<(), NoMemory> {
+        let link = self.link(alloc, number, 1)?;
+        let bill = name(number, 0);
+        let parted = Record::Parted {
+            bill,
+            link,
+            manifest: manifest(alloc, bill, name(number, 1)),
+            manifest_text: SignedText(SharedBytes::new()),
+        };
+        self.write(alloc, Frame::One(parted))
+    }
+
+    fn settle(&mut self, alloc: Global, number: u32) -> Result<(), NoMemory> {
+        let (bill, entry) = (name(number, 0), name(number, 1));
+        self.write(alloc, Frame::One(Record::Settled { bill, entry }))
+    }
+
+    fn come_back(&mut self, alloc: Global, number: u32) -> Result<(), NoMemory> {
+        let chain = self.chain(alloc, number)?;
+        let bill = name(number, 0);
+        let begun = Record::Begun {
+            bill,
+            chain,
+            manifest: manifest(alloc, bill, name(number, self.entries)),
+            body: Items::new(alloc),
+        };
+        self.write(alloc, Frame::BegunTaken(begun))
     }
 
     // The exporter endorses the bill to itself.
