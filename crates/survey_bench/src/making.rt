@@ -1,6 +1,6 @@
 //! A family of two platforms, in which every bill went from the one to the other.
 use bill_diary::{Diary, Frame, Record};
-use closed_family::{Family, Member};
+use closed_family::{DiaryList, Family, Member};
 use ebl_base::{
     ByteList, Chain, ChainLink, Checksum, Copied, Entry, Items, Kind, Moment, Party, PlatformCode,
     SignedText, Transaction, TransactionList,
@@ -40,83 +40,99 @@ fn came(alloc: Global, bills: u16) -> Option<Diary> {
 
 // A platform with this diary in its first shard.
 fn member(alloc: Global, platform: &[u8], diary: Diary) -> Option<Member> {
-    let mut diaries = Items::new(alloc);
-    diaries.push(diary).ok()?;
-    for _ in 1..16 {
-        diaries.push(Items::new(alloc)).ok()?;
-    }
+    let diaries = diaries(alloc, diary)?;
     Some(Member {
         platform: PlatformCode::try_new(platform)?,
         diaries,
     })
 }
 
+fn diaries(alloc: Global, first: Diary) -> Option<DiaryList> {
+    let mut diaries = Items::new(alloc);
+    diaries.push(first).ok()?;
+    for _ in 1..16 {
+        diaries.push(Items::new(alloc)).ok()?;
+    }
+    Some(diaries)
+}
+
+fn write(diary: &mut Diary, frame: Frame) -> Option<()> {
+    diary.push(frame).ok()
+}
+
 // The bill of this number is signed, parted and settled.
 fn send(alloc: Global, diary: &mut Diary, number: u16) -> Option<()> {
-    let bill = name(0, number);
-    let link = link(alloc, number)?;
-    let entry = link.name;
-    diary
-        .push(Frame::One(Record::Signed {
-            bill,
-            document: text(alloc, b'd', number)?,
-            transaction: transaction(Kind::Sign, b"ALPH/CARRIER", None)?,
-        }))
-        .ok()?;
-    diary
-        .push(Frame::One(Record::Parted {
-            bill,
-            link,
-            manifest: manifest(alloc, bill, entry),
-            manifest_text: SignedText::from_bytes(alloc, text(alloc, b'm', number)?).ok()?,
-        }))
-        .ok()?;
-    diary
-        .push(Frame::One(Record::Settled { bill, entry }))
-        .ok()?;
-    Some(())
+    write(diary, Frame::One(signed(alloc, number)?))?;
+    write(diary, Frame::One(parted(alloc, number)?))?;
+    let (bill, entry) = (name(0, number), name(1, number));
+    write(diary, Frame::One(Record::Settled { bill, entry }))
+}
+
+fn signed(alloc: Global, number: u16) -> Option<Record> {
+    let transaction = transaction(Kind::Sign, b"ALPH/CARRIER", None)?;
+    Some(Record::Signed {
+        bill: name(0, number),
+        document: text(alloc, b'd', number)?,
+        transaction,
+    })
+}
+
+fn parted(alloc: Global, number: u16) -> Option<Record> {
+    let manifest_text = signed_text(alloc, b'm', number)?;
+    Some(Record::Parted {
+        bill: name(0, number),
+        link: link(alloc, number)?,
+        manifest: manifest(alloc, number),
+        manifest_text,
+    })
 }
 
 // It is taken.
 fn take(alloc: Global, diary: &mut Diary, number: u16) -> Option<()> {
-    let bill = name(0, number);
+    write(diary, Frame::BegunTaken(begun(alloc, number)?))
+}
+
+fn begun(alloc: Global, number: u16) -> Option<Record> {
+    let body = text(alloc, b'b', number)?;
+    Some(Record::Begun {
+        bill: name(0, number),
+        chain: chain(alloc, number)?,
+        manifest: manifest(alloc, number),
+        body,
+    })
+}
+
+fn chain(alloc: Global, number: u16) -> Option<Chain> {
     let link = link(alloc, number)?;
-    let manifest = manifest(alloc, bill, link.name);
-    let chain = Chain::new().followed_by(alloc, link).ok()?;
-    diary
-        .push(Frame::BegunTaken(Record::Begun {
-            bill,
-            chain,
-            manifest,
-            body: text(alloc, b'b', number)?,
-        }))
-        .ok()?;
-    Some(())
+    Chain::new().followed_by(alloc, link).ok()
 }
 
 // The entry that moves the bill of this number to the other platform.
 fn link(alloc: Global, number: u16) -> Option<ChainLink> {
-    let mut transactions = TransactionList::new(alloc);
-    transactions
-        .push(transaction(Kind::Sign, b"ALPH/CARRIER", None)?)
-        .ok()?;
-    transactions
-        .push(transaction(Kind::Issue, b"ALPH/CARRIER", Some(b"ALPH/EXPORT"))?)
-        .ok()?;
-    transactions
-        .push(transaction(Kind::Transfer, b"ALPH/EXPORT", Some(b"BETA/IMPORT"))?)
-        .ok()?;
+    let text = signed_text(alloc, b'e', number)?;
     Some(ChainLink {
-        text: SignedText::from_bytes(alloc, text(alloc, b'e', number)?).ok()?,
+        text,
         name: name(1, number),
-        entry: Entry {
-            platform: PlatformCode::try_new(b"ALPH")?,
-            bill: name(0, number),
-            previous: None,
-            attempt: 1,
-            transactions,
-        },
+        entry: entry(alloc, number)?,
     })
+}
+
+fn entry(alloc: Global, number: u16) -> Option<Entry> {
+    let platform = PlatformCode::try_new(b"ALPH")?;
+    Some(Entry {
+        platform,
+        bill: name(0, number),
+        previous: None,
+        attempt: 1,
+        transactions: transactions(alloc)?,
+    })
+}
+
+fn transactions(alloc: Global) -> Option<TransactionList> {
+    let sign = transaction(Kind::Sign, b"ALPH/CARRIER", None)?;
+    let issue = transaction(Kind::Issue, b"ALPH/CARRIER", Some(b"ALPH/EXPORT"))?;
+    let transfer = transaction(Kind::Transfer, b"ALPH/EXPORT", Some(b"BETA/IMPORT"))?;
+    TransactionList::from_slice(alloc, &[sign, issue, transfer]).ok()
 }
 
 fn transaction(kind: Kind, actor: &[u8], recipient: Option<&[u8]>) -> Option<Transaction> {
@@ -132,10 +148,11 @@ fn transaction(kind: Kind, actor: &[u8], recipient: Option<&[u8]>) -> Option<Tra
     })
 }
 
-fn manifest(alloc: Global, bill: Checksum, last: Checksum) -> Manifest {
+// The manifest of that entry.
+fn manifest(alloc: Global, number: u16) -> Manifest {
     Manifest {
-        bill,
-        last,
+        bill: name(0, number),
+        last: name(1, number),
         documents: Items::new(alloc),
     }
 }
@@ -154,4 +171,9 @@ fn name(kind: u8, number: u16) -> Checksum {
 fn text(alloc: Global, kind: u8, number: u16) -> Option<ByteList> {
     let [high, low] = number.to_be_bytes();
     ByteList::from_slice(alloc, &[kind, high, low]).ok()
+}
+
+fn signed_text(alloc: Global, kind: u8, number: u16) -> Option<SignedText> {
+    let bytes = text(alloc, kind, number)?;
+    SignedText::from_bytes(alloc, bytes).ok()
 }
