@@ -36,6 +36,14 @@ fn run(rt: &HostRuntime) -> Option<bool> {
     called(rt.alloc(), call.as_str(), &bytes, rounds)
 }
 
+// Whether a call was done. What it gave is dropped.
+fn done<T: Drop, E: Drop>(answer: Result<T, E>) -> Option<()> {
+    match answer {
+        Ok(_) => Some(()),
+        Err(_) => None,
+    }
+}
+
 // The words behind the program's name.
 fn words(rt: &HostRuntime) -> io::Result<Vec<String>> {
     let mut words = Vec::new(rt.alloc());

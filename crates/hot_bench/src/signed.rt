@@ -1,6 +1,7 @@
 //! Signed texts and answers of the platform ALPH.
 ghost use Rattle.std.specs.Prelude.{◌≡◌, [], None};
 
+use crate::done;
 use document_checksum::checksum;
 use ebl_base::{Checksum, ChecksumList, Code, Evidence, MAX_SEALED_RESPONSE, PlatformCode};
 use pint_responses::{Response, seal, unseal};
@@ -12,7 +13,7 @@ pub(crate) fn verify_often(alloc: Global, bytes: &[u8], rounds: u32) -> Option<(
     let who = PlatformCode::try_new(b"ALPH")?;
     let ring = KeyedRing::derived();
     for _ in 0..rounds {
-        verify_text(alloc, &ring, bytes, who, MAX_SEALED_RESPONSE).ok()?;
+        done(verify_text(alloc, &ring, bytes, who, MAX_SEALED_RESPONSE))?;
     }
     Some(())
 }
@@ -20,9 +21,28 @@ pub(crate) fn verify_often(alloc: Global, bytes: &[u8], rounds: u32) -> Option<(
 pub(crate) fn seal_often(alloc: Global, bytes: &[u8], rounds: u32) -> Option<()> {
     let who = PlatformCode::try_new(b"ALPH")?;
     let mut ring = KeyedRing::derived();
-    let response = received(alloc, checksum(bytes));
+    seal_response_often(
+        alloc,
+        &mut ring,
+        who,
+        &received(alloc, checksum(bytes)),
+        rounds,
+    )
+}
+
+fn seal_response_often(
+    alloc: Global,
+    ring: &mut KeyedRing,
+    who: PlatformCode,
+    response: &Response,
+    rounds: u32,
+) -> Option<()>
+    requires missing { response.now.missing ≡ [] }
+    requires own { response.now.evidence.own ≡ None }
+    requires theirs { response.now.evidence.theirs ≡ None }
+{
     for _ in 0..rounds {
-        seal(alloc, &mut ring, who, &response).ok()?;
+        done(seal(alloc, ring, who, response))?;
     }
     Some(())
 }
@@ -51,7 +71,7 @@ pub(crate) fn unseal_often(alloc: Global, bytes: &[u8], rounds: u32) -> Option<(
     let who = PlatformCode::try_new(b"ALPH")?;
     let ring = KeyedRing::derived();
     for _ in 0..rounds {
-        unseal(alloc, &ring, bytes, who).ok()?;
+        done(unseal(alloc, &ring, bytes, who))?;
     }
     Some(())
 }

@@ -1,5 +1,6 @@
 //! JSON texts and their names.
-use canonical_json::{read, write};
+use crate::done;
+use canonical_json::{Json, read, write};
 use document_checksum::checksum;
 use ebl_base::Checksum;
 use std::alloc::Global;
@@ -16,15 +17,19 @@ pub(crate) fn checksum_often(bytes: &[u8], rounds: u32) -> Option<()> {
 
 pub(crate) fn read_often(alloc: Global, bytes: &[u8], rounds: u32) -> Option<()> {
     for _ in 0..rounds {
-        read(alloc, bytes).ok()?;
+        done(read(alloc, bytes))?;
     }
     Some(())
 }
 
 pub(crate) fn write_often(alloc: Global, bytes: &[u8], rounds: u32) -> Option<()> {
     let json = read(alloc, bytes).ok()?;
+    write_json_often(alloc, &json, rounds)
+}
+
+fn write_json_often(alloc: Global, json: &Json, rounds: u32) -> Option<()> {
     for _ in 0..rounds {
-        write(alloc, &json).ok()?;
+        done(write(alloc, json))?;
     }
     Some(())
 }
