@@ -5,9 +5,9 @@ mod chain;
 
 use chain::{Bill, chain_texts, sample_bill};
 use ebl_base::TextList;
+use ebl_edge::words;
 use std::alloc::Global;
 use std::process::ExitCode;
-use std::{env, io};
 use test_signer::KeyedRing;
 use transfer_chain::check;
 
@@ -64,15 +64,6 @@ fn carry_out(alloc: Global, bill: &Bill, counts: Counts) -> Option<bool> {
     let mut ring = KeyedRing::derived();
     let texts = chain_texts(alloc, &mut ring, bill, entries, transactions)?;
     check_often(alloc, &ring, bill, &texts, rounds)
-}
-
-// The words behind the program's name.
-fn words(rt: &HostRuntime) -> io::Result<Vec<String>> {
-    let mut words = Vec::new(rt.alloc());
-    for word in env::args(rt)?.skip(1) {
-        words.push(word)?;
-    }
-    Ok(words)
 }
 
 fn check_often(

@@ -5,14 +5,14 @@ ghost use Rattle.ebl_run.specs.Racks.{AllTell};
 use canonical_json::ReadError;
 use disk_model::{Failures, MemoryDisk};
 use ebl_base::{ByteList, CallList, NoMemory};
-use ebl_edge::{Sink, standard_input, standard_output};
+use ebl_edge::{Sink, standard_input, standard_output, words};
 use ebl_run::{Status, exit_of, run_ebl};
 use journaled_shard::Rack;
 use std::alloc::Global;
+use std::io;
 use std::io::Input;
 use std::process::ExitCode;
 use std::rt::Env;
-use std::{env, io};
 use test_signer::KeyedRing;
 
 const HELP: &str = "ebl: electronic bills of lading on title platforms
@@ -66,15 +66,6 @@ pub fn run_program<R: Alloc<A = Global> + Env + Eprint + Input + Print>(rt: &R) 
     // Where standard error fails, nothing is left to tell it but the exit.
     let _ = report(rt, status);
     ExitCode::from(exit_of(status))
-}
-
-// The words behind the program's name.
-fn words<R: Alloc<A = Global> + Env>(rt: &R) -> io::Result<Vec<String>> {
-    let mut words = Vec::new(rt.alloc());
-    for word in env::args(rt)?.skip(1) {
-        words.push(word)?;
-    }
-    Ok(words)
 }
 
 // A word that is no text is a faulty command line.

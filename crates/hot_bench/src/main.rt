@@ -6,9 +6,10 @@ mod frames;
 mod signed;
 mod texts;
 
+use ebl_edge::words;
 use std::alloc::Global;
+use std::fs;
 use std::process::ExitCode;
-use std::{env, fs, io};
 
 const USAGE: &str = "usage: hot_bench CALL FILE ROUNDS
   makes the call ROUNDS times over what FILE holds; CALL is one of checksum, read, write (JSON), entry_decode,
@@ -42,15 +43,6 @@ fn done<T: Drop, E: Drop>(answer: Result<T, E>) -> Option<()> {
         Ok(_) => Some(()),
         Err(_) => None,
     }
-}
-
-// The words behind the program's name.
-fn words(rt: &HostRuntime) -> io::Result<Vec<String>> {
-    let mut words = Vec::new(rt.alloc());
-    for word in env::args(rt)?.skip(1) {
-        words.push(word)?;
-    }
-    Ok(words)
 }
 
 // Whether there is such a call; none where it refused the bytes.

@@ -4,15 +4,15 @@
 mod outcomes;
 
 use ebl_base::{Moment, NoMemory, Party};
-use ebl_edge::{StreamLink, SystemClock};
+use ebl_edge::{StreamLink, SystemClock, words};
 use outcomes::outcome_of;
 use pint_http::serve_link;
 use platform_requests::MemoryDesk;
 use std::alloc::Global;
+use std::io;
 use std::io::ErrorKind;
 use std::net::TcpListener;
 use std::process::ExitCode;
-use std::{env, io};
 
 const USAGE: &str = "usage:
   http_trial ADDRESS LINKS [OUTCOME..]    serves so many links, one after another, and writes how each ended
@@ -48,15 +48,6 @@ fn run(rt: &HostRuntime) -> io::Result<bool> {
         Ok(None) => Ok(false),
         Err(NoMemory) => Err(ErrorKind::OutOfMemory.into()),
     }
-}
-
-// The words behind the program's name.
-fn words(rt: &HostRuntime) -> io::Result<Vec<String>> {
-    let mut words = Vec::new(rt.alloc());
-    for word in env::args(rt)?.skip(1) {
-        words.push(word)?;
-    }
-    Ok(words)
 }
 
 // A desk with these outcomes, which knows `BETA/IMPORT`.

@@ -6,9 +6,9 @@ ghost use Rattle.std.specs.Prelude.{◌≡◌, length, IfOk};
 use bill_journal::{Framed, Journal};
 use disk_model::FileDisk;
 use ebl_base::{ByteList, NoMemory};
+use ebl_edge::words;
 use std::alloc::Global;
 use std::process::ExitCode;
-use std::{env, io};
 
 /// The most bytes of a content.
 const MOST: usize = 16_777_216;
@@ -44,15 +44,6 @@ fn run(rt: &HostRuntime) -> Option<bool> {
         }
         _ => Some(false),
     }
-}
-
-// The words behind the program's name.
-fn words(rt: &HostRuntime) -> io::Result<Vec<String>> {
-    let mut words = Vec::new(rt.alloc());
-    for word in env::args(rt)?.skip(1) {
-        words.push(word)?;
-    }
-    Ok(words)
 }
 
 fn append(rt: &HostRuntime, folder: &str, file: &str, size: usize, count: u32) -> Option<()> {

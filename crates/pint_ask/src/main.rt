@@ -2,13 +2,13 @@
 #![tactic(auto)]
 
 use ebl_base::{ByteList, Checksum, PlatformCode, Reference};
-use ebl_edge::StreamLink;
+use ebl_edge::{StreamLink, words};
 use pint_client::{ClientFault, exchange};
 use platform_requests::Message;
 use std::alloc::{AllocError, Global};
+use std::io;
 use std::net::TcpStream;
 use std::process::ExitCode;
-use std::{env, io};
 
 const USAGE: &str = "usage: pint_ask ADDRESS start|put|finish SIZE";
 
@@ -42,15 +42,6 @@ fn run(rt: &HostRuntime) -> io::Result<bool> {
         }
         None => Ok(false),
     }
-}
-
-// The words behind the program's name.
-fn words(rt: &HostRuntime) -> io::Result<Vec<String>> {
-    let mut words = Vec::new(rt.alloc());
-    for word in env::args(rt)?.skip(1) {
-        words.push(word)?;
-    }
-    Ok(words)
 }
 
 // A message of this kind with so many bytes, each an x.

@@ -4,9 +4,9 @@
 mod bills;
 
 use bills::Bills;
+use ebl_edge::words;
 use std::alloc::Global;
 use std::process::ExitCode;
-use std::{env, io};
 
 const USAGE: &str = "usage: register_bench BILLS ROWS EVENTS ASKED ENTRIES
   BILLS bills are signed and issued; then, of each of ROWS bills among them, the first EVENTS of five frames are added:
@@ -70,13 +70,4 @@ fn carry_out(alloc: Global, made: &mut Bills, counts: Counts) -> Option<bool> {
     }
     // An answer that nothing reads could be left out.
     Some(answers != u32::MAX)
-}
-
-// The words behind the program's name.
-fn words(rt: &HostRuntime) -> io::Result<Vec<String>> {
-    let mut words = Vec::new(rt.alloc());
-    for word in env::args(rt)?.skip(1) {
-        words.push(word)?;
-    }
-    Ok(words)
 }

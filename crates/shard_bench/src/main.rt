@@ -4,10 +4,10 @@
 mod pair;
 mod texts;
 
+use ebl_edge::words;
 use pair::Pair;
 use std::alloc::Global;
 use std::process::ExitCode;
-use std::{env, io};
 
 const USAGE: &str = "usage: shard_bench BILLS ROWS REQUESTS
   BILLS bills are signed at each of two platforms; then each of ROWS bills more is signed, issued, endorsed and
@@ -62,13 +62,4 @@ fn carry_out(alloc: Global, pair: &mut Pair, counts: Counts) -> Option<bool> {
         pair.row(alloc, counts.bills.checked_add(number)?, counts.requests)?;
     }
     Some(true)
-}
-
-// The words behind the program's name.
-fn words(rt: &HostRuntime) -> io::Result<Vec<String>> {
-    let mut words = Vec::new(rt.alloc());
-    for word in env::args(rt)?.skip(1) {
-        words.push(word)?;
-    }
-    Ok(words)
 }

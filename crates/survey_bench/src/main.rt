@@ -4,10 +4,10 @@
 mod making;
 
 use closed_family::{Family, Verdict, survey};
+use ebl_edge::words;
 use making::family;
 use std::alloc::Global;
 use std::process::ExitCode;
-use std::{env, io};
 
 const USAGE: &str = "usage: survey_bench BILLS SURVEYS
   BILLS bills, at most 65535, are signed, parted and settled at one platform and taken at another, all in diaries of one
@@ -48,13 +48,4 @@ fn survey_often(alloc: Global, family: &Family, surveys: u32) -> Option<bool> {
         };
     }
     Some(true)
-}
-
-// The words behind the program's name.
-fn words(rt: &HostRuntime) -> io::Result<Vec<String>> {
-    let mut words = Vec::new(rt.alloc());
-    for word in env::args(rt)?.skip(1) {
-        words.push(word)?;
-    }
-    Ok(words)
 }

@@ -7,10 +7,10 @@ ghost use Rattle.std.specs.Thread.{IsSync};
 mod tally;
 
 use bill_locks::{Grows, Pass, Turns};
+use ebl_edge::words;
 use std::alloc::Global;
 use std::process::ExitCode;
 use std::thread::{Threads, join, yield_now};
-use std::{env, io};
 use tally::{Add, Tally};
 
 const USAGE: &str = "usage:
@@ -45,15 +45,6 @@ fn numbers(rt: &HostRuntime) -> Option<(u32, u32, u32)>
         return None;
     }
     Some((levels, values, turns))
-}
-
-// The words behind the program's name.
-fn words(rt: &HostRuntime) -> io::Result<Vec<String>> {
-    let mut words = Vec::new(rt.alloc());
-    for word in env::args(rt)?.skip(1) {
-        words.push(word)?;
-    }
-    Ok(words)
 }
 
 // Takes the turns, and counts those that were taken.
