@@ -6,10 +6,10 @@ mod failing;
 mod serving;
 
 use disk_model::{Disk, FileDisk};
+use ebl_edge::words;
 use failing::{scene, starts};
 use serving::{fill, serve, start};
 use std::process::ExitCode;
-use std::{env, io};
 
 const USAGE: &str = "usage:
   shard_trial serve FOLDER FILE COUNT    takes COUNT requests, and writes after each how many frames there are, and the
@@ -57,15 +57,6 @@ fn run(rt: &HostRuntime) -> Option<bool> {
         }
         _ => Some(false),
     }
-}
-
-// The words behind the program's name.
-fn words(rt: &HostRuntime) -> io::Result<Vec<String>> {
-    let mut words = Vec::new(rt.alloc());
-    for word in env::args(rt)?.skip(1) {
-        words.push(word)?;
-    }
-    Ok(words)
 }
 
 // A file as a disk on which nothing is pending.
