@@ -25,7 +25,7 @@ install: program
 	@install -m 755 crates/ebl_cli/out/ebl_cli "$(DESTDIR)$(PREFIX)/bin/ebl"
 	@echo "installed: $(DESTDIR)$(PREFIX)/bin/ebl"
 
-# What the prover doesn't see, the gate, and then the program's examples, exits and random scripts.
+# What the prover doesn't see, the gate, and then the program's examples, exits and random scripts, and threads.
 test:
 	@PYTHONPATH=tools python3 -c 'import program; program.need_toolchain()'
 	@tools/lint.py
@@ -33,6 +33,7 @@ test:
 	@test -x crates/ebl_cli/out/ebl_cli || (cd crates/ebl_cli && rt run -- --version > /dev/null)
 	python3 tools/check_program.py
 	python3 tools/random_scripts.py
+	python3 tools/check_offices.py
 
 lint:
 	@tools/lint.py

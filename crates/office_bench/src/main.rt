@@ -1,106 +1,88 @@
 //! Two platforms' offices that threads share: bills are signed, issued and handed over, each thread settles another's,
-//! and the diaries are surveyed at the end. bench/offices.py measures it.
+//! and the diaries are surveyed at the end. bench/offices.py measures it, and tools/check_offices.py runs it over disks
+//! that fail and that wait for one another.
 #![tactic(auto)]
-
-ghost use Rattle.std.specs.Prelude.{◌≡◌, All, vec_len};
-ghost use Rattle.platform_office.specs.Opening.{NothingIsPending};
 
 mod closing;
 mod disks;
-#[cfg(test)]
 mod gated;
 mod offices;
+mod runs;
 mod serving;
-#[cfg(test)]
-mod tests;
 mod threads;
 
-use closing::{Found, close};
-use disk_model::Disk;
-use disks::{Racks, file_racks, memory_racks};
-use offices::open;
+use closing::Found;
+use disks::file_racks;
+use ebl_edge::words;
+use runs::{Size, in_memory, measure, on_failing_disks, on_gated_disks};
 use serving::Replies;
-use std::alloc::Global;
-use std::marker::Send;
 use std::process::ExitCode;
-use std::sync::Wait;
-use std::thread::Threads;
-use std::{env, io};
-use threads::run;
 
 const USAGE: &str = "usage: office_bench LEVELS BILLS [FOLDER]
+       office_bench failing LEVELS BILLS
+       office_bench gated
   2^LEVELS threads, at most 16, share the offices of two platforms, on files in the folder or in memory. Each signs and
   issues BILLS bills, at most 65536, and hands them over to the other platform, and then settles those of another. What
-  is written: how many requests were done, how many were not, how many frames there are, and what the survey finds";
+  is written: how many requests were done, were refused, and met a fault of a disk, how many frames there are, and what
+  the survey finds.
+  failing: of one disk in memory twenty calls fail. gated: two threads with a bill each, of two shards; a write of the
+  one waits until the other was served";
 
 fn main(rt: HostRuntime) -> ExitCode {
     let Ok(words) = words(&rt) else {
         return ExitCode::FAILURE;
     };
-    let Some((levels, bills)) = numbers(words.as_slice()) else {
-        let _ = eprintln!(rt; "{USAGE}");
-        return ExitCode::from(2);
-    };
-    let told = match words.get(2) {
-        Some(folder) => match file_racks(&rt, folder.as_str()) {
-            Some((alph, beta)) => measure(&rt, rt.alloc(), levels, bills, alph, beta),
+    let told = match read_words(words.as_slice()) {
+        Some(Asked::InMemory(size)) => in_memory(&rt, rt.alloc(), size),
+        Some(Asked::OnFiles(size, folder)) => match file_racks(&rt, folder) {
+            Some((alph, beta)) => measure(&rt, rt.alloc(), size, alph, beta),
             None => None,
         },
-        None => match memory_racks(rt.alloc(), &[]) {
-            Some((alph, beta)) => measure(&rt, rt.alloc(), levels, bills, alph, beta),
-            None => None,
-        },
+        Some(Asked::Failing(size)) => on_failing_disks(&rt, rt.alloc(), size),
+        Some(Asked::Gated) => on_gated_disks(&rt, rt.alloc()),
+        None => {
+            let _ = eprintln!(rt; "{USAGE}");
+            return ExitCode::from(2);
+        }
     };
     let Some((replies, found)) = told else {
         return ExitCode::FAILURE;
     };
     let Replies { done, disk, others } = replies;
     let Found { frames, verdict } = found;
-    match println!(rt;
-        "{done} done, {} not; {frames} frames; {verdict}",
-        disk.wrapping_add(others)
-    ) {
+    match println!(rt; "{done} done, {others} refused, {disk} failed; {frames} frames; {verdict}") {
         Ok(()) => ExitCode::SUCCESS,
         Err(_) => ExitCode::FAILURE,
     }
 }
 
-// The numbers that the words are, if they are as the usage says.
-fn numbers(words: &[String]) -> Option<(u32, u32)> {
-    let ([levels, bills] | [levels, bills, _]) = words else {
-        return None;
-    };
+// What the words ask for.
+#[derive(Clone, Copy)]
+enum Asked<'a> {
+    InMemory(Size),
+    OnFiles(Size, &'a str),
+    Failing(Size),
+    Gated,
+}
+
+fn read_words(words: &[String]) -> Option<Asked<'_>> {
+    match words {
+        [word] if word.as_str() == "gated" => Some(Asked::Gated),
+        [levels, bills] => Some(Asked::InMemory(size(levels, bills)?)),
+        [word, levels, bills] if word.as_str() == "failing" => {
+            Some(Asked::Failing(size(levels, bills)?))
+        }
+        [levels, bills, folder] => Some(Asked::OnFiles(size(levels, bills)?, folder.as_str())),
+        _ => None,
+    }
+}
+
+// The numbers that two words are, if they are as the usage says.
+fn size(levels: &String, bills: &String) -> Option<Size> {
     let levels = levels.as_str().parse::<u32>().ok()?;
     let bills = bills.as_str().parse::<u32>().ok()?;
     if levels > 4 || bills > 65_536 {
         return None;
     }
-    Some((levels, bills))
-}
-
-// The words behind the program's name.
-fn words(rt: &HostRuntime) -> io::Result<Vec<String>> {
-    let mut words = Vec::new(rt.alloc());
-    for word in env::args(rt)?.skip(1) {
-        words.push(word)?;
-    }
-    Ok(words)
-}
-
-// What becomes of the requests and of the diaries, on these racks of the two platforms.
-pub(crate) fn measure<D: Disk + Drop + Send, R: Threads + Wait + Sync>(
-    rt: &R,
-    alloc: Global,
-    levels: u32,
-    bills: u32,
-    alph: Racks<D>,
-    beta: Racks<D>,
-) -> Option<(Replies, Found)>
-    requires counts { (vec_len alph ≡ 16) × (vec_len beta ≡ 16) }
-    requires nothing_pending { All (NothingIsPending D.tells D.seen D.may_leave) alph.items
-        × All (NothingIsPending D.tells D.seen D.may_leave) beta.items }
-{
-    let (offices, passes) = open(alloc, alph, beta)?;
-    let (passes, replies) = run(rt, alloc, &offices, passes, levels, bills)?;
-    Some((replies, close(alloc, offices, passes)?))
+    Some(Size { levels, bills })
 }

@@ -82,7 +82,10 @@ fn ask<D: Disk + Drop, R: Wait>(
     requires may { (now : Moment) → IsMoment now → MayBeServed now (request_view request) }
     ensures { IsPassOf office.now pass.new }
 {
-    let now = Moment::try_new(1000)?;
+    let Some(now) = Moment::try_new(1000) else {
+        drop(request);
+        return None;
+    };
     let served = office.take(rt, alloc, pass, now, request).ok()?;
     replies.count(&served.outcome.reply);
     Some(served.outcome)
@@ -105,9 +108,12 @@ fn command<D: Disk + Drop, R: Wait>(
     ensures alph { IsPassOf offices.now.alph passes.new.alph }
     ensures beta { IsPassOf offices.now.beta passes.new.beta }
 {
-    let party = Party::from_text(by.as_bytes())?;
+    let Some(party) = Party::from_text(by.as_bytes()) else {
+        drop(command);
+        return None;
+    };
     let request = Request::Command { party, command };
-    ask(rt, alloc, &offices.alph, &mut passes.alph, request, replies)?;
+    drop(ask(rt, alloc, &offices.alph, &mut passes.alph, request, replies)?);
     Some(())
 }
 
@@ -145,11 +151,13 @@ fn body_in(outcome: Outcome) -> Option<ByteList> {
 }
 
 // The signed answer in an outcome.
-fn answer_in(alloc: Global, outcome: &Outcome) -> Option<ByteList> {
-    match &outcome.reply {
+fn answer_in(alloc: Global, outcome: Outcome) -> Option<ByteList> {
+    let bytes = match &outcome.reply {
         Reply::Answer { text, .. } => ByteList::from_slice(alloc, text.0.as_slice()).ok(),
         _ => None,
-    }
+    };
+    drop(outcome);
+    bytes
 }
 
 // ALPH sends the bill's start again, BETA takes it, and ALPH its answer. Where there is none, no more is asked.
@@ -166,30 +174,18 @@ fn settle<D: Disk + Drop, R: Wait>(
     ensures alph { IsPassOf offices.now.alph passes.new.alph }
     ensures beta { IsPassOf offices.now.beta passes.new.beta }
 {
-    let sent = ask(
-        rt,
-        alloc,
-        &offices.alph,
-        &mut passes.alph,
-        Request::Resend { bill },
-        replies,
-    )?;
+    let resend = Request::Resend { bill };
+    let sent = ask(rt, alloc, &offices.alph, &mut passes.alph, resend, replies)?;
     let Some(body) = body_in(sent) else {
         return Some(());
     };
-    let taken = ask(
-        rt,
-        alloc,
-        &offices.beta,
-        &mut passes.beta,
-        Request::Start { body },
-        replies,
-    )?;
-    let Some(bytes) = answer_in(alloc, &taken) else {
+    let start = Request::Start { body };
+    let taken = ask(rt, alloc, &offices.beta, &mut passes.beta, start, replies)?;
+    let Some(bytes) = answer_in(alloc, taken) else {
         return Some(());
     };
-    let request = Request::StartReply { bill, bytes };
-    ask(rt, alloc, &offices.alph, &mut passes.alph, request, replies)?;
+    let answer = Request::StartReply { bill, bytes };
+    drop(ask(rt, alloc, &offices.alph, &mut passes.alph, answer, replies)?);
     Some(())
 }
 
