@@ -1,6 +1,7 @@
 //! What no contract says: listed failures with their bytes and without, and a real file.
+use crate::tests::{disk_of, failures, make_folder, same};
 use disk_model::{BoundedDisk, Disk, Failures, FileDisk, MemoryDisk};
-use ebl_base::{ByteList, CallList, Copied};
+use ebl_base::{Copied, NoMemory};
 use std::alloc::Global;
 use std::fs;
 use std::fs::File;
@@ -53,6 +54,16 @@ fn answers(disk: &mut MemoryDisk) -> [u8; 5] {
     ]
 }
 
+// A copy of a disk of four bytes, of which the calls of a copied list fail.
+fn copied(alloc: Global, failures: &Failures) -> Result<MemoryDisk, NoMemory> {
+    disk_of(alloc, b"abcd", failures.copy(alloc)?)?.copy(alloc)
+}
+
+fn tell_answers<R: Abort>(rt: &R, disk: &mut MemoryDisk, told: &[u8; 5], bytes: &[u8]) {
+    same(rt, answers(disk), *told);
+    same(rt, disk.bytes(), bytes);
+}
+
 fn memory_row(
     rt: &impl Abort,
     alloc: Global,
@@ -61,15 +72,8 @@ fn memory_row(
     told: &[u8; 5],
     bytes: &[u8],
 ) -> Result<(), Fail> {
-    let failures = Failures {
-        calls: CallList::from_slice(alloc, fails)?,
-        written: CallList::from_slice(alloc, done)?,
-    };
-    let start = ByteList::from_slice(alloc, b"abcd")?;
-    let disk = MemoryDisk::new(alloc, start, failures.copy(alloc)?)?;
-    let mut disk = disk.copy(alloc)?;
-    assert_eq!(rt; answers(&mut disk), *told);
-    assert_eq!(rt; disk.bytes(), bytes);
+    let failures = failures(alloc, fails, done)?;
+    tell_answers(rt, &mut copied(alloc, &failures)?, told, bytes);
     Ok(())
 }
 
@@ -84,18 +88,17 @@ fn a_memory_disk_fails_at_the_listed_calls(rt: HostRuntime) -> Result<(), Fail> 
 
 #[test]
 fn a_count_of_failed_calls(rt: HostRuntime) -> Result<(), Fail> {
-    let alloc = rt.alloc();
-    let failures = Failures {
-        calls: CallList::from_slice(alloc, &[0, 2])?,
-        written: CallList::new(alloc),
-    };
-    let bytes = ByteList::from_slice(alloc, b"abcd")?;
-    let mut disk = MemoryDisk::new(alloc, bytes, failures)?;
-    assert_eq!(rt; len_mark(&mut disk), b'!');
-    assert_eq!(rt; disk.len(), Ok(4));
-    assert_eq!(rt; sync_mark(&mut disk), b'!');
-    assert_eq!(rt; disk.faults(), 2);
+    let failures = failures(rt.alloc(), &[0, 2], &[])?;
+    tell_count(&rt, &mut disk_of(rt.alloc(), b"abcd", failures)?);
     Ok(())
+}
+
+// Of three calls the first and the last fail.
+fn tell_count<R: Abort>(rt: &R, disk: &mut MemoryDisk) {
+    same(rt, len_mark(disk), b'!');
+    same(rt, disk.len(), Ok(4));
+    same(rt, sync_mark(disk), b'!');
+    same(rt, disk.faults(), 2);
 }
 
 // What a disk that is bounded in its bytes and its calls answers to three writes and two syncs.
@@ -111,16 +114,22 @@ fn bounded_marks(disk: &mut BoundedDisk) -> [u8; 5] {
     marks
 }
 
+// A copy of a disk with room for five bytes and three calls.
+fn bounded(alloc: Global) -> Result<BoundedDisk, NoMemory> {
+    BoundedDisk::new(alloc, 5, 3)?.copy(alloc)
+}
+
 #[test]
 fn a_bounded_disk_fails_past_its_room_alone(rt: HostRuntime) -> Result<(), Fail> {
-    let alloc = rt.alloc();
-    let disk = BoundedDisk::new(alloc, 5, 3)?;
-    let mut disk = disk.copy(alloc)?;
-    assert_eq!(rt; bounded_marks(&mut disk), *b"..!.!");
-    assert_eq!(rt; disk.len(), Ok(3));
-    assert_eq!(rt; disk.bytes(), b"XYc".as_slice());
-    assert_eq!(rt; disk.faults(), 2);
+    tell_bounded(&rt, &mut bounded(rt.alloc())?);
     Ok(())
+}
+
+fn tell_bounded<R: Abort>(rt: &R, disk: &mut BoundedDisk) {
+    same(rt, bounded_marks(disk), *b"..!.!");
+    same(rt, disk.len(), Ok(3));
+    same(rt, disk.bytes(), b"XYc");
+    same(rt, disk.faults(), 2);
 }
 
 // A blank file gets six bytes by two writes that overlap.
@@ -137,24 +146,36 @@ fn four_from(disk: &mut FileDisk, place: u64) -> Option<[u8; 4]> {
 
 #[test]
 fn a_file_is_a_disk(rt: HostRuntime) -> Result<(), Fail> {
-    let _ = fs::remove_dir_all(&rt, FOLDER);
-    fs::create_dir(&rt, FOLDER)?;
-    let mut disk = FileDisk::open(&rt, FOLDER, PATH)?;
-    assert_eq!(rt; disk.len(), Ok(0));
-    assert!(rt; is_written(&mut disk));
-    assert_eq!(rt; four_from(&mut disk, 2), Some(*b"cXYZ"));
-    assert_eq!(rt; disk.faults(), 0);
-    assert_eq!(rt; four_from(&mut disk, 3), None);
-    assert_eq!(rt; disk.faults(), 1);
-    drop(disk);
+    make_folder(&rt, FOLDER)?;
+    tell_blank(&rt, &mut FileDisk::open(&rt, FOLDER, PATH)?);
     tell_only_read(&rt, &mut FileDisk::new(File::open(&rt, PATH)?));
     fs::remove_dir_all(&rt, FOLDER)?;
     Ok(())
 }
 
+// A blank file is written, and read up to its end and past it.
+fn tell_blank<R: Abort>(rt: &R, disk: &mut FileDisk) {
+    same(rt, disk.len(), Ok(0));
+    assert!(rt; is_written(disk));
+    tell_four(rt, disk, 2, Some(*b"cXYZ"), 0);
+    tell_four(rt, disk, 3, None, 1);
+}
+
+// Which four bytes stand from a place on, and how many calls failed then.
+fn tell_four<R: Abort>(
+    rt: &R,
+    disk: &mut FileDisk,
+    place: u64,
+    four: Option<[u8; 4]>,
+    faults: u64,
+) {
+    same(rt, four_from(disk, place), four);
+    same(rt, disk.faults(), faults);
+}
+
 // What is opened to be read refuses a write.
 fn tell_only_read<R: Abort>(rt: &R, disk: &mut FileDisk) {
-    assert_eq!(rt; disk.len(), Ok(6));
-    assert_eq!(rt; mark(disk.write_at(0, b"Q")), b'!');
-    assert_eq!(rt; disk.faults(), 1);
+    same(rt, disk.len(), Ok(6));
+    same(rt, mark(disk.write_at(0, b"Q")), b'!');
+    same(rt, disk.faults(), 1);
 }

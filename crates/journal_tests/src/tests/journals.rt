@@ -1,9 +1,10 @@
 //! What no contract says: each failing device call, and tables of journals made by hand.
-ghost use Rattle.std.specs.Prelude.{◌≤◌, length};
+ghost use Rattle.std.specs.Prelude.{◌<◌, ◌≤◌, length};
 
-use bill_journal::{AppendFault, Framed, Journal, OpenFault};
-use disk_model::{Disk, Failures, FileDisk, MemoryDisk};
-use ebl_base::{ByteList, CallList, Copied, NoMemory};
+use crate::tests::{disk_of, failures, make_folder, same};
+use bill_journal::{AppendFault, FrameBytes, Framed, Journal, OpenFault};
+use disk_model::{Disk, FileDisk, MemoryDisk};
+use ebl_base::{Copied, NoMemory};
 use std::alloc::Global;
 use std::fs;
 use std::fs::File;
@@ -23,25 +24,33 @@ enum Found {
     Fault(OpenFault),
 }
 
-fn disk_of(
-    alloc: Global,
-    bytes: &[u8],
-    fails: &[u64],
-    done: &[u64],
-) -> Result<MemoryDisk, NoMemory> {
-    let bytes = ByteList::from_slice(alloc, bytes)?;
-    let failures = Failures {
-        calls: CallList::from_slice(alloc, fails)?,
-        written: CallList::from_slice(alloc, done)?,
-    };
-    MemoryDisk::new(alloc, bytes, failures)
+// A disk of which no call fails.
+fn sound_disk(alloc: Global, bytes: &[u8]) -> Result<MemoryDisk, NoMemory> {
+    let failures = failures(alloc, &[], &[])?;
+    disk_of(alloc, bytes, failures)
+}
+
+// What a disk of which no call fails is opened as.
+type Opening = Result<(Journal<MemoryDisk>, FrameBytes), (MemoryDisk, OpenFault)>;
+
+fn open(alloc: Global, bytes: &[u8]) -> Result<Opening, NoMemory> {
+    Ok(Journal::open(alloc, sound_disk(alloc, bytes)?))
+}
+
+fn found_in(opening: &Opening) -> Found {
+    match opening {
+        Ok((_, frames)) => Found::Frames(frames.len()),
+        Err((_, fault)) => Found::Fault(*fault),
+    }
 }
 
 fn answer(alloc: Global, bytes: &[u8]) -> Result<Found, NoMemory> {
-    match Journal::open(alloc, disk_of(alloc, bytes, &[], &[])?) {
-        Ok((_, frames)) => Ok(Found::Frames(frames.len())),
-        Err((_, fault)) => Ok(Found::Fault(fault)),
-    }
+    Ok(found_in(&open(alloc, bytes)?))
+}
+
+fn tell_answer<R: Abort>(rt: &R, alloc: Global, bytes: &[u8], expected: Found) -> Result<(), Fail> {
+    same(rt, answer(alloc, bytes)?, expected);
+    Ok(())
 }
 
 // Disks, and what they are opened as.
@@ -59,14 +68,15 @@ const OPENED: [(&[u8], Found); 5] = [
 #[test]
 fn disks_that_are_opened(rt: HostRuntime) -> Result<(), Fail> {
     for &(bytes, found) in &OPENED {
-        assert_eq!(rt; answer(rt.alloc(), bytes)?, found);
+        tell_answer(&rt, rt.alloc(), bytes, found)?;
     }
     Ok(())
 }
 
 // The journal on a disk of which calls fail.
 fn opened(alloc: Global, fails: &[u64], done: &[u64]) -> Result<Journal<MemoryDisk>, Fail> {
-    match Journal::open(alloc, disk_of(alloc, b"\x01\0", fails, done)?) {
+    let failures = failures(alloc, fails, done)?;
+    match Journal::open(alloc, disk_of(alloc, b"\x01\0", failures)?) {
         Ok((journal, _)) => Ok(journal),
         Err(_) => Err(Fail::new("the journal was refused")),
     }
@@ -100,26 +110,40 @@ fn read_again(alloc: Global, journal: &mut Journal<MemoryDisk>) -> Result<Found,
 
 #[test]
 fn a_blank_disk_becomes_a_journal(rt: HostRuntime) -> Result<(), Fail> {
-    let alloc = rt.alloc();
-    match Journal::open(alloc, disk_of(alloc, b"", &[], &[])?) {
-        Ok((journal, frames)) => {
-            assert_eq!(rt; frames.len(), 0);
-            assert_eq!(rt; journal.is_loose(), false);
-            assert_eq!(rt; journal.close().bytes(), b"\x01\0".as_slice());
-        }
+    match open(rt.alloc(), b"")? {
+        Ok((journal, frames)) => tell_fresh(&rt, journal, &frames),
         Err(_) => return Err(Fail::new("a blank disk was refused")),
     }
     Ok(())
 }
 
-// The disk of a fresh journal after an append.
+fn tell_fresh<R: Abort>(rt: &R, journal: Journal<MemoryDisk>, frames: &FrameBytes) {
+    same(rt, frames.len(), 0);
+    same(rt, journal.is_loose(), false);
+    tell_bytes(rt, journal, b"\x01\0");
+}
+
+// The bytes of a journal's disk.
+fn tell_bytes<R: Abort>(rt: &R, journal: Journal<MemoryDisk>, bytes: &[u8]) {
+    same(rt, journal.close().bytes(), bytes);
+}
+
+// The disk of a fresh journal after an append, and whether that was done.
 fn appended(alloc: Global, content: &[u8], settling: bool) -> Result<(MemoryDisk, bool), NoMemory>
     requires { length content.now ≤ 16777216 }
 {
     let frame = Framed::new(alloc, content)?.copy(alloc)?;
-    match Journal::open(alloc, disk_of(alloc, b"", &[], &[])?) {
+    with_frame(alloc, &frame, settling)
+}
+
+fn with_frame(
+    alloc: Global,
+    frame: &Framed,
+    settling: bool,
+) -> Result<(MemoryDisk, bool), NoMemory> {
+    match Journal::open(alloc, sound_disk(alloc, b"")?) {
         Ok((mut journal, _)) => {
-            let done = journal.append(&frame, settling).is_ok();
+            let done = journal.append(frame, settling).is_ok();
             Ok((journal.close(), done))
         }
         Err((disk, _)) => Ok((disk, false)),
@@ -128,13 +152,16 @@ fn appended(alloc: Global, content: &[u8], settling: bool) -> Result<(MemoryDisk
 
 #[test]
 fn a_frame_of_65_bytes(rt: HostRuntime) -> Result<(), Fail> {
-    let alloc = rt.alloc();
-    let (disk, done) = appended(alloc, &[7; 65], false)?;
-    assert_eq!(rt; done, true);
-    assert_eq!(rt; disk.bytes().len(), 72);
-    assert_eq!(rt; disk.bytes().starts_with(b"\x01\x01\0\0\0\x41\x07"), true);
-    assert_eq!(rt; disk.bytes().ends_with(b"\x07\0"), true);
+    let (disk, done) = appended(rt.alloc(), &[7; 65], false)?;
+    same(&rt, done, true);
+    tell_frame(&rt, disk.bytes());
     Ok(())
+}
+
+fn tell_frame<R: Abort>(rt: &R, bytes: &[u8]) {
+    same(rt, bytes.len(), 72);
+    same(rt, bytes.starts_with(b"\x01\x01\0\0\0\x41\x07"), true);
+    same(rt, bytes.ends_with(b"\x07\0"), true);
 }
 
 // Whether a frame of so many bytes goes into a fresh journal, which is as long then as it must be.
@@ -148,10 +175,18 @@ fn room_row(
     requires { len ≤ 16777216 }
 {
     let content = vec![in alloc; 7; len]?;
-    let (disk, done) = appended(alloc, &content, settling)?;
-    assert_eq!(rt; done, fits);
-    assert_eq!(rt; disk.bytes().len(), if fits { len + 7 } else { 2 });
+    let (done, bytes) = told_room(alloc, &content, settling)?;
+    same(rt, done, fits);
+    same(rt, bytes, if fits { len + 7 } else { 2 });
     Ok(())
+}
+
+// Whether an append to a fresh journal was done, and how long that is then.
+fn told_room(alloc: Global, content: &[u8], settling: bool) -> Result<(bool, usize), NoMemory>
+    requires { length content.now ≤ 16777216 }
+{
+    let (disk, done) = appended(alloc, content, settling)?;
+    Ok((done, disk.bytes().len()))
 }
 
 #[test]
@@ -178,10 +213,16 @@ fn prefix_answer(len: usize) -> Found {
 
 #[test]
 fn every_prefix_of_three_frames(rt: HostRuntime) -> Result<(), Fail> {
-    let alloc = rt.alloc();
     for len in 0..21 {
-        assert_eq!(rt; answer(alloc, &THREE[..len])?, prefix_answer(len), "{len}");
+        tell_prefix(&rt, rt.alloc(), len)?;
     }
+    Ok(())
+}
+
+fn tell_prefix<R: Abort>(rt: &R, alloc: Global, len: usize) -> Result<(), Fail>
+    requires { len ≤ 20 }
+{
+    assert_eq!(rt; answer(alloc, &THREE[..len])?, prefix_answer(len), "{len}");
     Ok(())
 }
 
@@ -215,83 +256,105 @@ fn changed_answer(place: usize, byte: u8) -> Found {
 
 #[test]
 fn every_change_of_a_byte_of_three_frames(rt: HostRuntime) -> Result<(), Fail> {
-    let alloc = rt.alloc();
     for place in 0..20 {
         for byte in 0..=255 {
-            let mut bytes = THREE;
-            if bytes[place] != byte {
-                bytes[place] = byte;
-                assert_eq!(rt;
-                    answer(alloc, &bytes)?,
-                    changed_answer(place, byte),
-                    "{place} {byte}"
-                );
-            }
+            tell_change(&rt, rt.alloc(), place, byte)?;
         }
     }
     Ok(())
 }
 
-// Whether an append fails, whether the journal is to be read again then, what it is read as, and whether it is to be
-// read again after that. The first two calls are those of `open`.
-fn append_and_reread(
-    alloc: Global,
-    fails: &[u64],
-    done: &[u64],
-) -> Result<(bool, bool, Found, bool), Fail> {
-    let mut journal = opened(alloc, fails, done)?;
-    let is_failed = append(alloc, &mut journal, b"content")?.is_some();
-    let is_loose = journal.is_loose();
-    let found = read_again(alloc, &mut journal)?;
-    Ok((is_failed, is_loose, found, journal.is_loose()))
-}
-
-// Where these calls fail, the append does, and the next reread finds this.
-fn failing_row(
-    rt: &impl Abort,
-    alloc: Global,
-    fails: &[u64],
-    done: &[u64],
-    after: Found,
-) -> Result<(), Fail> {
-    let is_failed = !fails.is_empty();
-    let is_unread = after == Found::Fault(OpenFault::Disk);
-    assert_eq!(rt;
-        append_and_reread(alloc, fails, done)?,
-        (is_failed, is_failed, after, is_unread)
-    );
+// Another byte at a place, unless it stands there.
+fn tell_change<R: Abort>(rt: &R, alloc: Global, place: usize, byte: u8) -> Result<(), Fail>
+    requires { place < 20 }
+{
+    let mut bytes = THREE;
+    if bytes[place] != byte {
+        bytes[place] = byte;
+        assert_eq!(rt;
+            answer(alloc, &bytes)?,
+            changed_answer(place, byte),
+            "{place} {byte}"
+        );
+    }
     Ok(())
 }
 
+// Whether an append fails, whether the journal is to be read again then, what it is read as, and whether it is to be
+// read again after that.
+type Told = (bool, bool, Found, bool);
+
+fn append_and_reread(alloc: Global, journal: &mut Journal<MemoryDisk>) -> Result<Told, Fail> {
+    let is_failed = append(alloc, journal, b"content")?.is_some();
+    let is_loose = journal.is_loose();
+    let found = read_again(alloc, journal)?;
+    Ok((is_failed, is_loose, found, journal.is_loose()))
+}
+
+// Calls that fail, of which the first two are those of `open`, those of them that are done all the same, and what the
+// next reread finds.
+type Row = (&'static [u64], &'static [u64], Found);
+
+// Where these calls fail, the append does, and the next reread finds this.
+fn failing_row(rt: &impl Abort, alloc: Global, row: Row) -> Result<(), Fail> {
+    let (fails, done, after) = row;
+    let is_failed = !fails.is_empty();
+    let is_unread = after == Found::Fault(OpenFault::Disk);
+    let mut journal = opened(alloc, fails, done)?;
+    let told = append_and_reread(alloc, &mut journal)?;
+    same(rt, told, (is_failed, is_failed, after, is_unread));
+    Ok(())
+}
+
+const FAILING_APPENDS: [Row; 7] = [
+    (&[], &[], Found::Frames(1)),
+    (&[2], &[], Found::Frames(0)),
+    (&[2], &[2], Found::Frames(0)),
+    (&[3], &[], Found::Frames(0)),
+    (&[4], &[], Found::Frames(0)),
+    (&[4], &[4], Found::Frames(1)),
+    (&[5], &[], Found::Frames(1)),
+];
+
 #[test]
 fn each_device_call_of_an_append_fails(rt: HostRuntime) -> Result<(), Fail> {
-    let alloc = rt.alloc();
-    failing_row(&rt, alloc, &[], &[], Found::Frames(1))?;
-    failing_row(&rt, alloc, &[2], &[], Found::Frames(0))?;
-    failing_row(&rt, alloc, &[2], &[2], Found::Frames(0))?;
-    failing_row(&rt, alloc, &[3], &[], Found::Frames(0))?;
-    failing_row(&rt, alloc, &[4], &[], Found::Frames(0))?;
-    failing_row(&rt, alloc, &[4], &[4], Found::Frames(1))?;
-    failing_row(&rt, alloc, &[5], &[], Found::Frames(1))
+    for row in &FAILING_APPENDS {
+        failing_row(&rt, rt.alloc(), *row)?;
+    }
+    Ok(())
 }
+
+const FAILING_REREADS: [Row; 3] = [
+    (&[5, 6], &[], Found::Fault(OpenFault::Disk)),
+    (&[5, 7], &[], Found::Fault(OpenFault::Disk)),
+    (&[5, 8], &[], Found::Fault(OpenFault::Disk)),
+];
 
 #[test]
 fn each_device_call_of_a_reread_fails(rt: HostRuntime) -> Result<(), Fail> {
-    let alloc = rt.alloc();
-    failing_row(&rt, alloc, &[5, 6], &[], Found::Fault(OpenFault::Disk))?;
-    failing_row(&rt, alloc, &[5, 7], &[], Found::Fault(OpenFault::Disk))?;
-    failing_row(&rt, alloc, &[5, 8], &[], Found::Fault(OpenFault::Disk))
+    for row in &FAILING_REREADS {
+        failing_row(&rt, rt.alloc(), *row)?;
+    }
+    Ok(())
 }
 
 // A journal that was read again goes on with the frame that it found.
 #[test]
 fn an_append_after_a_reread(rt: HostRuntime) -> Result<(), Fail> {
-    let alloc = rt.alloc();
-    let mut journal = opened(alloc, &[4], &[4])?;
-    assert_eq!(rt; append(alloc, &mut journal, b"a")?, Some(AppendFault::Disk));
-    assert_eq!(rt; read_again(alloc, &mut journal)?, Found::Frames(1));
-    assert_eq!(rt; append(alloc, &mut journal, b"bc")?, None);
-    assert_eq!(rt; journal.close().bytes(), TWO.as_slice());
+    let mut journal = opened(rt.alloc(), &[4], &[4])?;
+    tell_going_on(&rt, rt.alloc(), &mut journal)?;
+    tell_bytes(&rt, journal, &TWO);
+    Ok(())
+}
+
+fn tell_going_on<R: Abort>(
+    rt: &R,
+    alloc: Global,
+    journal: &mut Journal<MemoryDisk>,
+) -> Result<(), Fail> {
+    same(rt, append(alloc, journal, b"a")?, Some(AppendFault::Disk));
+    same(rt, read_again(alloc, journal)?, Found::Frames(1));
+    same(rt, append(alloc, journal, b"bc")?, None);
     Ok(())
 }
 
@@ -315,12 +378,10 @@ fn append_to_file(rt: &HostRuntime, folder: &str, path: &str, content: &[u8]) ->
 #[test]
 fn a_journal_on_a_file(rt: HostRuntime) -> Result<(), Fail> {
     let (folder, path) = ("bill_journal_file", "bill_journal_file/journal");
-    let _ = fs::remove_dir_all(&rt, folder);
-    fs::create_dir(&rt, folder)?;
-    assert_eq!(rt; append_to_file(&rt, folder, path, b"a")?, true);
-    assert_eq!(rt; append_to_file(&rt, folder, path, b"bc")?, true);
-    let bytes = fs::read(&rt, path)?;
-    assert_eq!(rt; bytes.as_slice(), TWO.as_slice());
+    make_folder(&rt, folder)?;
+    same(&rt, append_to_file(&rt, folder, path, b"a")?, true);
+    same(&rt, append_to_file(&rt, folder, path, b"bc")?, true);
+    same(&rt, fs::read(&rt, path)?.as_slice(), TWO.as_slice());
     fs::remove_dir_all(&rt, folder)?;
     Ok(())
 }
@@ -328,22 +389,26 @@ fn a_journal_on_a_file(rt: HostRuntime) -> Result<(), Fail> {
 #[test]
 fn a_file_that_was_cut_short(rt: HostRuntime) -> Result<(), Fail> {
     let (folder, path) = ("bill_journal_short", "bill_journal_short/journal");
-    let _ = fs::remove_dir_all(&rt, folder);
-    fs::create_dir(&rt, folder)?;
+    make_folder(&rt, folder)?;
     fs::write(&rt, path, &THREE[..13])?;
-    match Journal::open(rt.alloc(), FileDisk::open(&rt, folder, path)?) {
-        Err((disk, OpenFault::Damaged(7))) => assert_eq!(rt; disk.faults(), 0),
+    tell_cut_short(&rt, rt.alloc(), FileDisk::open(&rt, folder, path)?)?;
+    fs::remove_dir_all(&rt, folder)?;
+    Ok(())
+}
+
+// The second frame of a disk runs past its end.
+fn tell_cut_short<R: Abort>(rt: &R, alloc: Global, disk: FileDisk) -> Result<(), Fail> {
+    match Journal::open(alloc, disk) {
+        Err((disk, OpenFault::Damaged(7))) => same(rt, disk.faults(), 0),
         _ => return Err(Fail::new("the short file was not refused")),
     }
-    fs::remove_dir_all(&rt, folder)?;
     Ok(())
 }
 
 #[test]
 fn a_file_that_may_only_be_read(rt: HostRuntime) -> Result<(), Fail> {
     let (folder, path) = ("bill_journal_read", "bill_journal_read/journal");
-    let _ = fs::remove_dir_all(&rt, folder);
-    fs::create_dir(&rt, folder)?;
+    make_folder(&rt, folder)?;
     fs::write(&rt, path, &THREE)?;
     tell_only_read(&rt, rt.alloc(), FileDisk::new(File::open(&rt, path)?))?;
     fs::remove_dir_all(&rt, folder)?;
@@ -354,12 +419,21 @@ fn a_file_that_may_only_be_read(rt: HostRuntime) -> Result<(), Fail> {
 fn tell_only_read<R: Abort>(rt: &R, alloc: Global, disk: FileDisk) -> Result<(), Fail> {
     match Journal::open(alloc, disk) {
         Ok((mut journal, frames)) => {
-            assert_eq!(rt; frames.len(), 3);
-            assert_eq!(rt; append(alloc, &mut journal, b"d")?, Some(AppendFault::Disk));
-            assert_eq!(rt; journal.is_loose(), true);
-            assert_eq!(rt; journal.close().faults(), 1);
+            same(rt, frames.len(), 3);
+            tell_refused(rt, alloc, &mut journal)?;
+            same(rt, journal.close().faults(), 1);
         }
         Err(_) => return Err(Fail::new("the file was refused")),
     }
+    Ok(())
+}
+
+fn tell_refused<R: Abort>(
+    rt: &R,
+    alloc: Global,
+    journal: &mut Journal<FileDisk>,
+) -> Result<(), Fail> {
+    same(rt, append(alloc, journal, b"d")?, Some(AppendFault::Disk));
+    same(rt, journal.is_loose(), true);
     Ok(())
 }
