@@ -30,10 +30,31 @@ impl Pair {
     }
 
     pub(crate) fn write(&mut self, alloc: Global, frame: Frame) -> Result<(), NoMemory> {
-        self.register.reserve(alloc, &frame)?;
-        self.diary.push(frame.copy(alloc)?)?;
-        self.register.add(frame);
-        Ok(())
+        match note(alloc, &mut self.diary, &frame) {
+            Ok(()) => register_frame(alloc, &mut self.register, frame),
+            Err(no_memory) => {
+                drop(frame);
+                Err(no_memory)
+            }
+        }
+    }
+}
+
+// Puts a copy of a frame at the end of a diary.
+fn note(alloc: Global, diary: &mut Diary, frame: &Frame) -> Result<(), NoMemory> {
+    diary.push(frame.copy(alloc)?)
+}
+
+fn register_frame(alloc: Global, register: &mut Register, frame: Frame) -> Result<(), NoMemory> {
+    match register.reserve(alloc, &frame) {
+        Ok(()) => {
+            register.add(frame);
+            Ok(())
+        }
+        Err(no_memory) => {
+            drop(frame);
+            Err(no_memory)
+        }
     }
 }
 
@@ -59,20 +80,36 @@ pub(crate) fn assert_same<R: Abort>(
     pair: &Pair,
     bill: Checksum,
 ) -> Result<(), Fail> {
-    let Pair { diary, register } = pair;
-    let stands = place(alloc, diary, bill)?;
-    let counts = are_counts_same(alloc, pair, bill)?;
-    let frames = diary.len();
-    for (is_same, what) in [
-        (is_place_same(register, bill, &stands), "the place"),
-        (are_parts_same(register, bill, &stands), "what is known"),
-        (counts, "the counts"),
-        (are_records_same(pair, bill), "the records"),
-        (register.record_at(frames).is_none(), "the end"),
-    ] {
-        assert!(rt; is_same, "{what} after {frames} frames");
-    }
+    assert_standing(rt, pair, bill, &place(alloc, &pair.diary, bill)?);
+    assert_part(rt, pair, are_counts_same(alloc, pair, bill)?, "the counts");
+    assert_part(rt, pair, are_records_same(pair, bill), "the records");
+    assert_part(rt, pair, is_end_open(pair), "the end");
     Ok(())
+}
+
+fn assert_part<R: Abort>(rt: &R, pair: &Pair, is_same: bool, what: &str) {
+    let frames = pair.diary.len();
+    assert!(rt; is_same, "{what} after {frames} frames");
+}
+
+fn assert_standing<R: Abort>(rt: &R, pair: &Pair, bill: Checksum, stands: &BillPlace) {
+    assert_part(
+        rt,
+        pair,
+        is_place_same(&pair.register, bill, stands),
+        "the place",
+    );
+    assert_part(
+        rt,
+        pair,
+        are_parts_same(&pair.register, bill, stands),
+        "what is known",
+    );
+}
+
+// No record has a number past the last frame's.
+fn is_end_open(pair: &Pair) -> bool {
+    pair.register.record_at(pair.diary.len()).is_none()
 }
 
 // The place, and the title there.
@@ -161,13 +198,13 @@ fn are_named_alike(a: &[Piece], b: &[Piece]) -> bool {
 
 // What they say of an entry, and of a document of its name, is the same.
 pub(crate) fn assert_same_entry<R: Abort>(rt: &R, pair: &Pair, bill: Checksum, n: u8) {
-    let frames = pair.diary.len();
-    for (is_same, what) in [
-        (is_end_same(pair, n), "the end of an entry"),
-        (are_texts_same(pair, bill, n), "the texts of an entry"),
-    ] {
-        assert!(rt; is_same, "{what} after {frames} frames");
-    }
+    assert_part(rt, pair, is_end_same(pair, n), "the end of an entry");
+    assert_part(
+        rt,
+        pair,
+        are_texts_same(pair, bill, n),
+        "the texts of an entry",
+    );
 }
 
 // Whether it is taken, and whether it is declined.

@@ -2,8 +2,10 @@
 ghost use Rattle.std.specs.Prelude.{◌<◌};
 
 use crate::tests::beside::{Pair, assert_same, assert_same_entry};
-use crate::tests::making::{Step, name, players};
+use crate::tests::making::{Cast, Step, name, players};
 use ebl_base::Checksum;
+use std::alloc::Global;
+use std::process::Abort;
 use std::test::Fail;
 
 const DIARIES: usize = 50;
@@ -60,23 +62,39 @@ impl Numbers {
 // Whatever frames come, in any order, the register and the diary say the same of each bill after each.
 #[test]
 fn generated_frames(rt: HostRuntime) -> Result<(), Fail> {
-    let alloc = rt.alloc();
     let mut cast = players()?;
     let mut numbers = Numbers { state: 1 };
     for _ in 0..DIARIES {
-        let mut pair = Pair::new(alloc);
-        for _ in 0..FRAMES {
-            let bill = numbers.bill();
-            let step = numbers.step();
-            cast.mark = numbers.below(255);
-            pair.write(alloc, cast.frame(alloc, bill, step)?)?;
-            for n in 7..11 {
-                assert_same(&rt, alloc, &pair, name(n))?;
-            }
-            for n in 0..8 {
-                assert_same_entry(&rt, &pair, bill, n);
-            }
-        }
+        let pair = &mut Pair::new(rt.alloc());
+        assert_diary(&rt, rt.alloc(), &mut cast, &mut numbers, pair)?;
+    }
+    Ok(())
+}
+
+fn assert_diary<R: Abort>(
+    rt: &R,
+    alloc: Global,
+    cast: &mut Cast,
+    numbers: &mut Numbers,
+    pair: &mut Pair,
+) -> Result<(), Fail> {
+    for _ in 0..FRAMES {
+        let bill = numbers.bill();
+        let step = numbers.step();
+        cast.mark = numbers.below(255);
+        pair.write(alloc, cast.frame(alloc, bill, step)?)?;
+        assert_alike(rt, alloc, pair, bill)?;
+    }
+    Ok(())
+}
+
+// They say the same of each bill, and of each entry of this one.
+fn assert_alike<R: Abort>(rt: &R, alloc: Global, pair: &Pair, bill: Checksum) -> Result<(), Fail> {
+    for n in 7..11 {
+        assert_same(rt, alloc, pair, name(n))?;
+    }
+    for n in 0..8 {
+        assert_same_entry(rt, pair, bill, n);
     }
     Ok(())
 }

@@ -69,6 +69,19 @@ fn piece(alloc: Global, n: u8) -> Piece {
     }
 }
 
+fn declined(bill: Checksum, n: u8) -> Record {
+    Record::Declined {
+        bill,
+        entry: name(n),
+        code: Code::DisputedEnvelope,
+        reason: Reason::Parts,
+        evidence: Evidence {
+            own: None,
+            theirs: None,
+        },
+    }
+}
+
 impl Cast {
     fn act(self, kind: Kind, actor: Party, recipient: Option<Party>) -> Transaction {
         Transaction {
@@ -100,27 +113,72 @@ impl Cast {
         }
     }
 
-    fn begun(self, alloc: Global, bill: Checksum, first: u8, last: u8) -> Result<Record, NoMemory> {
+    fn chain(self, alloc: Global, bill: Checksum, first: u8, last: u8) -> Result<Chain, NoMemory> {
         let mut links = Vec::new(alloc);
         for n in first..=last {
             links.push(self.link(alloc, bill, n))?;
         }
-        let chain = Chain::from_vec(alloc, links)?;
+        Chain::from_vec(alloc, links)
+    }
+
+    // The byte by which a frame is told from others, as a text.
+    fn text(self, alloc: Global) -> Result<ByteList, NoMemory> {
+        ByteList::from_slice(alloc, &[self.mark])
+    }
+
+    fn begun(self, alloc: Global, bill: Checksum, first: u8, last: u8) -> Result<Record, NoMemory> {
+        let body = self.text(alloc)?;
+        let manifest = manifest(alloc, bill, last)?;
+        let chain = self.chain(alloc, bill, first, last)?;
         Ok(Record::Begun {
             bill,
             chain,
-            manifest: manifest(alloc, bill, last)?,
-            body: ByteList::from_slice(alloc, &[self.mark])?,
+            manifest,
+            body,
+        })
+    }
+
+    fn signed(self, alloc: Global, bill: Checksum) -> Result<Record, NoMemory> {
+        let document = self.text(alloc)?;
+        Ok(Record::Signed {
+            bill,
+            document,
+            transaction: self.act(Kind::Sign, self.carrier, None),
+        })
+    }
+
+    fn attached(self, alloc: Global, bill: Checksum, n: u8) -> Result<Record, NoMemory> {
+        let bytes = self.text(alloc)?;
+        Ok(Record::Attached {
+            bill,
+            piece: piece(alloc, n),
+            bytes,
+        })
+    }
+
+    fn parted(self, alloc: Global, bill: Checksum, n: u8) -> Result<Record, NoMemory> {
+        let manifest = manifest(alloc, bill, n)?;
+        Ok(Record::Parted {
+            bill,
+            link: self.link(alloc, bill, n),
+            manifest,
+            manifest_text: SignedText(SharedBytes::new()),
+        })
+    }
+
+    fn stored(self, alloc: Global, bill: Checksum, n: u8) -> Result<Record, NoMemory> {
+        let bytes = self.text(alloc)?;
+        Ok(Record::Stored {
+            bill,
+            entry: name(n),
+            checksum: name(n),
+            bytes,
         })
     }
 
     fn record(self, alloc: Global, bill: Checksum, step: Step) -> Result<Record, NoMemory> {
         match step {
-            Step::Signed => Ok(Record::Signed {
-                bill,
-                document: ByteList::from_slice(alloc, &[self.mark])?,
-                transaction: self.act(Kind::Sign, self.carrier, None),
-            }),
+            Step::Signed => self.signed(alloc, bill),
             Step::Issued => Ok(self.acted(bill, Kind::Issue, self.carrier, Some(self.exporter))),
             Step::SurrenderAsked => Ok(self.acted(
                 bill,
@@ -134,17 +192,8 @@ impl Cast {
                 self.carrier,
                 None,
             )),
-            Step::Attached(n) => Ok(Record::Attached {
-                bill,
-                piece: piece(alloc, n),
-                bytes: ByteList::from_slice(alloc, &[self.mark])?,
-            }),
-            Step::Parted(n) => Ok(Record::Parted {
-                bill,
-                link: self.link(alloc, bill, n),
-                manifest: manifest(alloc, bill, n)?,
-                manifest_text: SignedText(SharedBytes::new()),
-            }),
+            Step::Attached(n) => self.attached(alloc, bill, n),
+            Step::Parted(n) => self.parted(alloc, bill, n),
             Step::Settled(n) => Ok(Record::Settled {
                 bill,
                 entry: name(n),
@@ -156,26 +205,12 @@ impl Cast {
             Step::Begun(first, last) | Step::BegunTaken(first, last) => {
                 self.begun(alloc, bill, first, last)
             }
-            Step::Stored(n) => Ok(Record::Stored {
-                bill,
-                entry: name(n),
-                checksum: name(n),
-                bytes: ByteList::from_slice(alloc, &[self.mark])?,
-            }),
+            Step::Stored(n) => self.stored(alloc, bill, n),
             Step::Taken(n) => Ok(Record::Taken {
                 bill,
                 entry: name(n),
             }),
-            Step::Declined(n) => Ok(Record::Declined {
-                bill,
-                entry: name(n),
-                code: Code::DisputedEnvelope,
-                reason: Reason::Parts,
-                evidence: Evidence {
-                    own: None,
-                    theirs: None,
-                },
-            }),
+            Step::Declined(n) => Ok(declined(bill, n)),
         }
     }
 

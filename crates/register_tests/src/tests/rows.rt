@@ -3,6 +3,7 @@ use crate::tests::beside::{Pair, assert_same, entries, number_of};
 use crate::tests::making::{Step, name, players};
 use ebl_base::{Checksum, PlaceTag};
 use std::alloc::Global;
+use std::fmt::Debug;
 use std::process::Abort;
 use std::test::Fail;
 use title_register::Register;
@@ -15,18 +16,30 @@ const BILL: Checksum = Checksum([9; 32]);
 type Row = (Step, PlaceTag, usize, u8, usize, bool);
 
 fn assert_rows<R: Abort>(rt: &R, alloc: Global, rows: &[Row]) -> Result<(), Fail> {
-    let cast = players()?;
-    let mut pair = Pair::new(alloc);
+    go_through(rt, alloc, &mut Pair::new(alloc), rows)
+}
+
+fn go_through<R: Abort>(rt: &R, alloc: Global, pair: &mut Pair, rows: &[Row]) -> Result<(), Fail> {
     assert_eq!(rt; pair.register.tag(BILL), PlaceTag::Absent);
-    assert_same(rt, alloc, &pair, BILL)?;
-    for (step, tag, known, parting, since, acts) in rows {
-        pair.write(alloc, cast.frame(alloc, BILL, *step)?)?;
-        let frames = pair.diary.len();
-        let is_right = look_ups(&pair.register) == (*tag, *known, *parting, *since, *acts);
-        assert!(rt; is_right, "after {frames} frames");
-        assert_same(rt, alloc, &pair, BILL)?;
+    assert_same(rt, alloc, pair, BILL)?;
+    for row in rows {
+        write(alloc, pair, row.0)?;
+        assert_row(rt, pair, row);
+        assert_same(rt, alloc, pair, BILL)?;
     }
     Ok(())
+}
+
+fn write(alloc: Global, pair: &mut Pair, step: Step) -> Result<(), Fail> {
+    pair.write(alloc, players()?.frame(alloc, BILL, step)?)?;
+    Ok(())
+}
+
+fn assert_row<R: Abort>(rt: &R, pair: &Pair, row: &Row) {
+    let (_, tag, known, parting, since, acts) = *row;
+    let frames = pair.diary.len();
+    let is_right = look_ups(&pair.register) == (tag, known, parting, since, acts);
+    assert!(rt; is_right, "after {frames} frames");
 }
 
 // What a register says of the bill, as a row has it.
@@ -102,17 +115,10 @@ const FRAMES: [Step; 7] = [
     Step::BegunTaken(1, 3),
 ];
 
-fn written(alloc: Global) -> Result<Pair, Fail> {
-    let cast = players()?;
-    let mut pair = Pair::new(alloc);
-    for step in &FRAMES {
-        pair.write(alloc, cast.frame(alloc, BILL, *step)?)?;
-    }
-    Ok(pair)
-}
+/// An entry, the numbers of the frames that began and declined it and kept its document, and whether it was taken.
+type EntryRow = (u8, Option<usize>, Option<usize>, Option<usize>, bool);
 
-// An entry, the numbers of the frames that began and declined it and kept its document, and whether it was taken.
-const ENTRIES: [(u8, Option<usize>, Option<usize>, Option<usize>, bool); 3] = [
+const ENTRIES: [EntryRow; 3] = [
     (1, None, None, None, false),
     (2, Some(3), Some(5), Some(1), false),
     (3, Some(6), None, None, true),
@@ -121,14 +127,28 @@ const ENTRIES: [(u8, Option<usize>, Option<usize>, Option<usize>, bool); 3] = [
 // A frame is found by its number: of a reference and an entry the last, of a document the first.
 #[test]
 fn numbers_of_frames(rt: HostRuntime) -> Result<(), Fail> {
-    let pair = written(rt.alloc())?;
-    let register = &pair.register;
-    for &(n, begun, declined, kept, taken) in &ENTRIES {
-        assert_eq!(rt; register.begun(reference_of(BILL, name(n))), begun, "{n}");
-        assert_eq!(rt; register.declined(name(n)), declined, "{n}");
-        assert_eq!(rt; register.kept(BILL, name(n)), kept, "{n}");
-        assert_eq!(rt; register.taken(name(n)), taken, "{n}");
+    assert_numbers(&rt, rt.alloc(), &mut Pair::new(rt.alloc()))
+}
+
+fn assert_numbers<R: Abort>(rt: &R, alloc: Global, pair: &mut Pair) -> Result<(), Fail> {
+    for step in &FRAMES {
+        write(alloc, pair, *step)?;
     }
-    assert_eq!(rt; register.kept(name(8), name(2)), None);
+    for row in &ENTRIES {
+        assert_entry(rt, &pair.register, row);
+    }
+    assert_eq!(rt; pair.register.kept(name(8), name(2)), None);
     Ok(())
+}
+
+fn assert_entry<R: Abort>(rt: &R, register: &Register, row: &EntryRow) {
+    let (n, begun, declined, kept, taken) = *row;
+    same(rt, n, register.begun(reference_of(BILL, name(n))), begun);
+    same(rt, n, register.declined(name(n)), declined);
+    same(rt, n, register.kept(BILL, name(n)), kept);
+    same(rt, n, register.taken(name(n)), taken);
+}
+
+fn same<R: Abort, T: Copy + Debug + PartialEq>(rt: &R, n: u8, seen: T, expected: T) {
+    assert_eq!(rt; seen, expected, "{n}");
 }
