@@ -1,12 +1,13 @@
 //! What no clause can say: that the definitions are those of RFC 8785, and that the calls succeed.
 ghost use Rattle.std.specs.Prelude.{◌<◌, IfOk, length};
 
+use crate::tests::comparing::{is_refused, is_rewritten, is_written, same, same_bytes};
 use canonical_json::{
     Json, JsonList, Member, MemberList, ReadError, append, canonical_reads, decimal_of,
     equal_texts_have_equal_values, flag_of, formerly_read_is_read_alike, int_of, is_lawful,
     list_of, member_of, nests_within, read, read_if_any, take_member, text_of, write, write_text,
 };
-use ebl_base::{CharList, NoMemory};
+use ebl_base::{ByteList, CharList, NoMemory};
 use serde_json::Value;
 use std::alloc::{AllocError, Global};
 use std::process::Abort;
@@ -47,12 +48,17 @@ const TEXTS: [(&[u8], &[u8]); 12] = [
     ),
 ];
 
+fn text_row(rt: &impl Abort, alloc: Global, text: &[u8], want: &[u8]) -> Result<(), Fail> {
+    let json = read(alloc, text)?;
+    assert!(rt; is_lawful(&json));
+    is_written(rt, alloc, &json, want)?;
+    Ok(())
+}
+
 #[test]
 fn the_text_is_that_of_rfc_8785(rt: HostRuntime) -> Result<(), Fail> {
     for &(text, want) in &TEXTS {
-        let json = read(rt.alloc(), text)?;
-        assert!(rt; is_lawful(&json));
-        assert_eq!(rt; write(rt.alloc(), &json)?.as_slice(), want);
+        text_row(&rt, rt.alloc(), text, want)?;
     }
     Ok(())
 }
@@ -140,15 +146,20 @@ const OTHERS: [(&[u8], ReadError); 21] = [
     (b"{\"a\":[9007199254740992]}", ReadError::Range),
 ];
 
+fn is_no_value(rt: &impl Abort, alloc: Global, text: &[u8]) -> Result<(), NoMemory> {
+    let value = read_if_any(alloc, text)?;
+    assert!(rt; value.is_none());
+    Ok(())
+}
+
 #[test]
 fn each_refusal_has_its_cause(rt: HostRuntime) -> Result<(), Fail> {
     for &text in &NONE {
-        let refusal = read(rt.alloc(), text).err();
-        assert_eq!(rt; refusal, Some(ReadError::NotJson), "{text:?}");
+        is_refused(&rt, rt.alloc(), text, ReadError::NotJson);
     }
     for &(text, want) in &OTHERS {
-        assert_eq!(rt; read(rt.alloc(), text).err(), Some(want), "{text:?}");
-        assert!(rt; read_if_any(rt.alloc(), text)?.is_none());
+        is_refused(&rt, rt.alloc(), text, want);
+        is_no_value(&rt, rt.alloc(), text)?;
     }
     Ok(())
 }
@@ -182,17 +193,49 @@ const NUMBERS: [(&[u8], &[u8]); 25] = [
     (b"0.123456789012345000", b"0.123456789012345"),
 ];
 
+fn number_row(rt: &impl Abort, alloc: Global, text: &[u8], want: &[u8]) -> Result<(), Fail> {
+    if want == b"-".as_slice() {
+        is_refused(rt, alloc, text, ReadError::Fraction);
+        Ok(())
+    } else {
+        is_rewritten(rt, alloc, text, want)
+    }
+}
+
 #[test]
 fn a_number_is_read_exactly(rt: HostRuntime) -> Result<(), Fail> {
     for &(text, want) in &NUMBERS {
-        let read = read(rt.alloc(), text);
-        if want == b"-".as_slice() {
-            assert_eq!(rt; read.err(), Some(ReadError::Fraction), "{text:?}");
-        } else {
-            assert_eq!(rt; write(rt.alloc(), &read?)?.as_slice(), want);
-        }
+        number_row(&rt, rt.alloc(), text, want)?;
     }
     Ok(())
+}
+
+// The text of a decimal, which is lawful or not.
+fn decimal_text(
+    rt: &impl Abort,
+    alloc: Global,
+    digits: i64,
+    scale: u32,
+    lawful: bool,
+) -> Result<ByteList, NoMemory> {
+    let json = Json::Decimal { digits, scale };
+    assert_eq!(rt; is_lawful(&json), lawful);
+    write(alloc, &json)
+}
+
+// A text that is lawful reads back, and another has a fraction that is too long.
+fn reads_back_if_lawful(
+    rt: &impl Abort,
+    alloc: Global,
+    text: &[u8],
+    lawful: bool,
+) -> Result<(), Fail> {
+    if lawful {
+        is_rewritten(rt, alloc, text, text)
+    } else {
+        is_refused(rt, alloc, text, ReadError::Fraction);
+        Ok(())
+    }
 }
 
 // A decimal is lawful and reads back up to a scale, and isn't read beyond it.
@@ -203,20 +246,8 @@ fn scale_row(
     scale: u32,
     most: u32,
 ) -> Result<(), Fail> {
-    let json = Json::Decimal { digits, scale };
-    assert_eq!(rt; is_lawful(&json), scale <= most);
-    let text = write(alloc, &json)?;
-    match read(alloc, text.as_slice()) {
-        Ok(back) => {
-            assert!(rt; scale <= most);
-            assert_eq!(rt; write(alloc, &back)?.as_slice(), text.as_slice());
-        }
-        Err(e) => {
-            assert!(rt; most < scale);
-            assert_eq!(rt; e, ReadError::Fraction);
-        }
-    }
-    Ok(())
+    let text = decimal_text(rt, alloc, digits, scale, scale <= most)?;
+    reads_back_if_lawful(rt, alloc, text.as_slice(), scale <= most)
 }
 
 // One digit at each scale: 10^-6 is the least, and 15 digits below it are the most.
@@ -248,7 +279,7 @@ fn nested(
     Ok(text)
 }
 
-fn nesting_row(
+fn nests(
     rt: &impl Abort,
     alloc: Global,
     open: &[u8],
@@ -256,25 +287,40 @@ fn nesting_row(
     close: u8,
 ) -> Result<(), Fail> {
     let deepest = nested(alloc, open, middle, close, 127)?;
-    let json = read(alloc, &deepest)?;
-    assert_eq!(rt; write(alloc, &json)?.as_slice(), deepest.as_slice());
+    is_rewritten(rt, alloc, &deepest, &deepest)
+}
+
+fn nests_no_deeper(
+    rt: &impl Abort,
+    alloc: Global,
+    open: &[u8],
+    middle: &[u8],
+    close: u8,
+) -> Result<(), AllocError> {
     let deeper = nested(alloc, open, middle, close, 128)?;
-    assert_eq!(rt; read(alloc, &deeper).err(), Some(ReadError::NotJson));
+    is_refused(rt, alloc, &deeper, ReadError::NotJson);
     Ok(())
 }
 
 #[test]
 fn a_value_nests_127_deep(rt: HostRuntime) -> Result<(), Fail> {
-    nesting_row(&rt, rt.alloc(), b"[", b"", b']')?;
-    nesting_row(&rt, rt.alloc(), b"{\"a\":", b"1", b'}')
+    nests(&rt, rt.alloc(), b"[", b"", b']')?;
+    nests_no_deeper(&rt, rt.alloc(), b"[", b"", b']')?;
+    nests(&rt, rt.alloc(), b"{\"a\":", b"1", b'}')?;
+    nests_no_deeper(&rt, rt.alloc(), b"{\"a\":", b"1", b'}')?;
+    Ok(())
+}
+
+fn assert_text_found(rt: &impl Abort, json: &Json) {
+    assert_eq!(rt; text_of(json, "t").map(|t| t.as_str()), Some("at sea"));
 }
 
 fn assert_found(rt: &impl Abort, json: &Json) {
-    assert_eq!(rt; text_of(json, "t").map(|t| t.as_str()), Some("at sea"));
-    assert_eq!(rt; int_of(json, "n"), Some(-7));
-    assert_eq!(rt; decimal_of(json, "d"), Some((-25, 2)));
-    assert_eq!(rt; flag_of(json, "f"), Some(false));
-    assert_eq!(rt; list_of(json, "l").map(|l| l.len()), Some(2));
+    assert_text_found(rt, json);
+    same(rt, "n", int_of(json, "n"), Some(-7));
+    same(rt, "d", decimal_of(json, "d"), Some((-25, 2)));
+    same(rt, "f", flag_of(json, "f"), Some(false));
+    same(rt, "l", list_of(json, "l").map(|l| l.len()), Some(2));
     assert!(rt; matches!(member_of(json, "o"), Some(Json::Object(_))));
 }
 
@@ -307,12 +353,19 @@ fn values_nest_within_their_depth(rt: HostRuntime) -> Result<(), Fail> {
     Ok(())
 }
 
+// A name under which there is no text, no number and no list.
+fn absent_row(rt: &impl Abort, json: &Json, name: &str) {
+    assert!(rt; text_of(json, name).is_none());
+    assert!(rt; int_of(json, name).is_none());
+    assert!(rt; decimal_of(json, name).is_none());
+    assert!(rt; list_of(json, name).is_none());
+}
+
+const ABSENT: [&str; 4] = ["f", "x", "", "tt"];
+
 fn assert_not_found(rt: &impl Abort, json: &Json) {
-    for name in ["f", "x", "", "tt"] {
-        assert!(rt; text_of(json, name).is_none());
-        assert!(rt; int_of(json, name).is_none());
-        assert!(rt; decimal_of(json, name).is_none());
-        assert!(rt; list_of(json, name).is_none());
+    for &name in &ABSENT {
+        absent_row(rt, json, name);
     }
     assert!(rt; flag_of(json, "t").is_none());
     assert!(rt; member_of(&Json::Null, "t").is_none());
@@ -346,31 +399,52 @@ fn taken(members: &mut Vec<Member>, name: &str) -> &'static str {
     }
 }
 
+// Names in turn, and what is taken out under each.
+const TAKEN: [(&str, &str); 4] = [("d", "none"), ("a", "a list"), ("a", "none"), ("c", "null")];
+
+fn assert_taken(rt: &impl Abort, members: &mut Vec<Member>) {
+    for &(name, want) in &TAKEN {
+        assert_eq!(rt; taken(members, name), want, "{name}");
+    }
+}
+
+// An object whose other members were taken out.
+fn object_left(rt: &impl Abort, alloc: Global) -> Result<Json, Fail> {
+    let mut members = members_in(alloc, b"{\"a\":[1],\"b\":\"x\\n\",\"c\":null}")?;
+    assert_taken(rt, &mut members);
+    Ok(Json::Object(MemberList::from_vec(members)))
+}
+
+fn is_appended(rt: &impl Abort, alloc: Global, json: &Json, want: &[u8]) -> Result<(), NoMemory> {
+    let mut out = Vec::from_slice(alloc, b"= ")?;
+    append(&mut out, json)?;
+    same_bytes(rt, out.as_slice(), want);
+    Ok(())
+}
+
 #[test]
 fn a_member_is_taken_out(rt: HostRuntime) -> Result<(), Fail> {
-    let alloc = rt.alloc();
-    let mut members = members_in(alloc, b"{\"a\":[1],\"b\":\"x\\n\",\"c\":null}")?;
-    for (name, want) in [("d", "none"), ("a", "a list"), ("a", "none"), ("c", "null")] {
-        assert_eq!(rt; taken(&mut members, name), want, "{name}");
-    }
-    let left = Json::Object(MemberList::from_vec(members));
-    assert_eq!(rt;
-        write(alloc, &left)?.as_slice(),
-        b"{\"b\":\"x\\n\"}".as_slice()
-    );
-    let mut out = Vec::from_slice(alloc, b"= ")?;
-    append(&mut out, &left)?;
-    assert_eq!(rt; out.as_slice(), b"= {\"b\":\"x\\n\"}".as_slice());
+    let left = object_left(&rt, rt.alloc())?;
+    is_written(&rt, rt.alloc(), &left, b"{\"b\":\"x\\n\"}")?;
+    is_appended(&rt, rt.alloc(), &left, b"= {\"b\":\"x\\n\"}")?;
+    Ok(())
+}
+
+fn is_written_alone(
+    rt: &impl Abort,
+    alloc: Global,
+    text: &[u8],
+    want: &[u8],
+) -> Result<(), NoMemory> {
+    let written = write_text(alloc, text)?;
+    same_bytes(rt, written.as_slice(), want);
     Ok(())
 }
 
 #[test]
 fn a_text_is_written_alone(rt: HostRuntime) -> Result<(), Fail> {
-    let alloc = rt.alloc();
-    let text = write_text(alloc, b"x\n")?;
-    assert_eq!(rt; text.as_slice(), b"\"x\\n\"".as_slice());
-    let text = write_text(alloc, b"\xff\n")?;
-    assert_eq!(rt; text.as_slice(), b"\"\xff\\n\"".as_slice());
+    is_written_alone(&rt, rt.alloc(), b"x\n", b"\"x\\n\"")?;
+    is_written_alone(&rt, rt.alloc(), b"\xff\n", b"\"\xff\\n\"")?;
     Ok(())
 }
 
@@ -404,15 +478,38 @@ const BUILT: [(&str, &str, i64, bool); 7] = [
     ("a", "b", -9_007_199_254_740_992, false),
 ];
 
+fn assert_same_text(
+    rt: &impl Abort,
+    alloc: Global,
+    copy: &Json,
+    json: &Json,
+) -> Result<(), NoMemory> {
+    let text = write(alloc, json)?;
+    is_written(rt, alloc, copy, text.as_slice())
+}
+
+fn is_copied(rt: &impl Abort, alloc: Global, json: &Json) -> Result<(), NoMemory> {
+    let copy = json.copy(alloc)?;
+    assert_same_text(rt, alloc, &copy, json)
+}
+
+fn built_row(
+    rt: &impl Abort,
+    alloc: Global,
+    first: &str,
+    second: &str,
+    number: i64,
+    lawful: bool,
+) -> Result<(), NoMemory> {
+    let json = built(alloc, first, second, number)?;
+    assert_eq!(rt; is_lawful(&json), lawful);
+    is_copied(rt, alloc, &json)
+}
+
 #[test]
 fn values_are_built_and_copied(rt: HostRuntime) -> Result<(), Fail> {
-    let alloc = rt.alloc();
     for &(first, second, number, lawful) in &BUILT {
-        let json = built(alloc, first, second, number)?;
-        assert_eq!(rt; is_lawful(&json), lawful);
-        let copy = json.copy(alloc)?;
-        let text = write(alloc, &json)?;
-        assert_eq!(rt; write(alloc, &copy)?.as_slice(), text.as_slice());
+        built_row(&rt, rt.alloc(), first, second, number, lawful)?;
     }
     canonical_reads();
     equal_texts_have_equal_values();
@@ -420,17 +517,32 @@ fn values_are_built_and_copied(rt: HostRuntime) -> Result<(), Fail> {
     Ok(())
 }
 
-#[test]
-fn lists_of_values_are_copied(rt: HostRuntime) -> Result<(), Fail> {
-    let list = JsonList::new(rt.alloc()).copy(rt.alloc())?;
-    assert_eq!(rt; (list.len(), list.as_slice().len()), (0, 0));
-    assert_eq!(rt; list.into_vec().len(), 0);
-    let members = MemberList::new(rt.alloc()).copy(rt.alloc())?;
-    assert_eq!(rt; (members.len(), members.as_slice().len()), (0, 0));
-    assert_eq!(rt; members.into_vec().len(), 0);
-    let member = named(rt.alloc(), "a", Json::Int(7))?.copy(rt.alloc())?;
+fn assert_no_values(rt: &impl Abort, list: JsonList) {
+    let lengths = (list.len(), list.as_slice().len());
+    same(rt, "lengths of a list", lengths, (0, 0));
+    same(rt, "values of a list", list.into_vec().len(), 0);
+}
+
+fn assert_no_members(rt: &impl Abort, members: MemberList) {
+    let lengths = (members.len(), members.as_slice().len());
+    same(rt, "lengths of members", lengths, (0, 0));
+    same(rt, "members of a list", members.into_vec().len(), 0);
+}
+
+fn assert_member(rt: &impl Abort, member: &Member) {
     assert_eq!(rt; member.name.as_str(), "a");
     assert!(rt; matches!(member.value, Json::Int(7)));
+}
+
+fn copied_member(alloc: Global) -> Result<Member, NoMemory> {
+    named(alloc, "a", Json::Int(7))?.copy(alloc)
+}
+
+#[test]
+fn lists_of_values_are_copied(rt: HostRuntime) -> Result<(), Fail> {
+    assert_no_values(&rt, JsonList::new(rt.alloc()).copy(rt.alloc())?);
+    assert_no_members(&rt, MemberList::new(rt.alloc()).copy(rt.alloc())?);
+    assert_member(&rt, &copied_member(rt.alloc())?);
     Ok(())
 }
 
@@ -504,18 +616,22 @@ const VALUES: [&[u8]; 8] = [
     b"01",
 ];
 
+// A member by the next two numbers, the last of which it gives.
+fn add_member(text: &mut Vec<u8>, before: &[u8], state: u64) -> Result<u64, AllocError> {
+    text.extend_from_slice(before)?;
+    let state = next(state);
+    text.extend_from_slice(pick(&NAMES, state))?;
+    text.extend_from_slice(b":")?;
+    let state = next(state);
+    text.extend_from_slice(pick(&VALUES, state))?;
+    Ok(state)
+}
+
 // An object of two members, whose names are often one.
 fn some_object(alloc: Global, seed: u64) -> Result<Vec<u8>, AllocError> {
-    let mut state = seed;
     let mut text = Vec::new(alloc);
-    for before in [b"{".as_slice(), b","] {
-        text.extend_from_slice(before)?;
-        state = next(state);
-        text.extend_from_slice(pick(&NAMES, state))?;
-        text.extend_from_slice(b":")?;
-        state = next(state);
-        text.extend_from_slice(pick(&VALUES, state))?;
-    }
+    let state = add_member(&mut text, b"{", seed)?;
+    add_member(&mut text, b",", state)?;
     text.extend_from_slice(b"}")?;
     Ok(text)
 }
@@ -531,9 +647,7 @@ fn some_text(alloc: Global, seed: u64) -> Result<Vec<u8>, AllocError> {
 // What is read is written so that it reads back.
 fn assert_reads_back(rt: &impl Abort, alloc: Global, json: &Json) -> Result<(), Fail> {
     let canon = write(alloc, json)?;
-    let back = read(alloc, canon.as_slice())?;
-    assert_eq!(rt; write(alloc, &back)?.as_slice(), canon.as_slice());
-    Ok(())
+    is_rewritten(rt, alloc, canon.as_slice(), canon.as_slice())
 }
 
 // 0 of a value, else a number of the cause.
@@ -553,19 +667,35 @@ fn answer(rt: &impl Abort, alloc: Global, text: &[u8]) -> Result<usize, Fail>
 }
 
 // What is no JSON here is none to `serde_json`, and the other way round.
-#[test]
-fn the_grammar_is_that_of_serde_json(rt: HostRuntime) -> Result<(), Fail> {
-    let alloc = rt.alloc();
-    let mut counts = [0u64; 5];
-    for seed in 0..10_000u64 {
-        let text = some_text(alloc, seed)?;
-        let there = Value::from_slice(alloc, text.as_slice()).is_ok();
-        let answer = answer(&rt, alloc, text.as_slice())?;
-        assert_eq!(rt; there, answer != 1, "{text:?}");
-        counts[answer] = counts[answer].saturating_add(1);
-    }
-    for count in counts {
+fn assert_same_grammar(rt: &impl Abort, alloc: Global, text: &[u8], answer: usize) {
+    let there = Value::from_slice(alloc, text).is_ok();
+    assert_eq!(rt; there, answer != 1, "{text:?}");
+}
+
+// The answer to a made text.
+fn seed_row(rt: &impl Abort, alloc: Global, seed: u64) -> Result<usize, Fail>
+    ensures { IfOk result (λ number. number < 5) }
+{
+    let text = some_text(alloc, seed)?;
+    let answer = answer(rt, alloc, text.as_slice())?;
+    assert_same_grammar(rt, alloc, text.as_slice(), answer);
+    Ok(answer)
+}
+
+// Each answer came often.
+fn assert_counts(rt: &impl Abort, counts: &[u64]) {
+    for &count in counts {
         assert!(rt; count > 200, "{counts:?}");
     }
+}
+
+#[test]
+fn the_grammar_is_that_of_serde_json(rt: HostRuntime) -> Result<(), Fail> {
+    let mut counts = [0u64; 5];
+    for seed in 0..10_000u64 {
+        let answer = seed_row(&rt, rt.alloc(), seed)?;
+        counts[answer] = counts[answer].saturating_add(1);
+    }
+    assert_counts(&rt, &counts);
     Ok(())
 }

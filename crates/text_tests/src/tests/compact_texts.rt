@@ -1,4 +1,5 @@
 //! Which texts have parts. `signed_texts` shows the rest.
+use crate::tests::comparing::{same, same_bytes};
 use ebl_base::{Copied, Signature};
 use signed_envelope::{BadSigned, Parts, SplitFault, is_compact, split};
 use std::alloc::{AllocError, Global};
@@ -9,9 +10,9 @@ use std::test::Fail;
 const GOOD: &str = "e30.e30.AA";
 
 fn assert_good(rt: &impl Abort, parts: &Parts) {
-    assert_eq!(rt; parts.header.as_slice(), b"{}".as_slice());
-    assert_eq!(rt; parts.payload.as_slice(), b"{}".as_slice());
-    assert_eq!(rt; parts.signature.as_bytes(), [0].as_slice());
+    same_bytes(rt, parts.header.as_slice(), b"{}");
+    same_bytes(rt, parts.payload.as_slice(), b"{}");
+    same_bytes(rt, parts.signature.as_bytes(), &[0]);
     assert_eq!(rt; parts.input_len, 7);
 }
 
@@ -39,14 +40,32 @@ fn with_signature(alloc: Global, count: usize) -> Result<Vec<u8>, AllocError> {
     Ok(text)
 }
 
+fn has_longest_signature(rt: &impl Abort, alloc: Global, text: &[u8]) -> Result<(), Fail> {
+    let parts = split(alloc, text, 1000)?;
+    assert_eq!(rt; parts.signature.as_bytes().len(), 64);
+    Ok(())
+}
+
+fn fault_of(alloc: Global, text: &[u8], most: usize) -> Option<SplitFault> {
+    split(alloc, text, most).err()
+}
+
+fn assert_longest(rt: &impl Abort, alloc: Global) -> Result<(), Fail> {
+    let longest = with_signature(alloc, 86)?;
+    has_longest_signature(rt, alloc, &longest)
+}
+
+fn assert_too_long(rt: &impl Abort, alloc: Global) -> Result<(), AllocError> {
+    let longer = with_signature(alloc, 87)?;
+    let fault = fault_of(alloc, &longer, 1000);
+    assert_eq!(rt; fault, Some(SplitFault::NotCompact));
+    Ok(())
+}
+
 #[test]
 fn longest_signature(rt: HostRuntime) -> Result<(), Fail> {
-    let longest = with_signature(rt.alloc(), 86)?;
-    let parts = split(rt.alloc(), &longest, 1000)?;
-    assert_eq!(rt; parts.signature.as_bytes().len(), 64);
-    let longer = with_signature(rt.alloc(), 87)?;
-    let fault = split(rt.alloc(), &longer, 1000).err();
-    assert_eq!(rt; fault, Some(SplitFault::NotCompact));
+    assert_longest(&rt, rt.alloc())?;
+    assert_too_long(&rt, rt.alloc())?;
     Ok(())
 }
 
@@ -88,10 +107,10 @@ const NOT_COMPACT: [&str; 22] = [
 #[test]
 fn other_forms(rt: HostRuntime) {
     for &text in &NOT_COMPACT {
-        let fault = split(rt.alloc(), text.as_bytes(), 100).err();
-        assert_eq!(rt; fault, Some(SplitFault::NotCompact), "{text}");
+        let fault = fault_of(rt.alloc(), text.as_bytes(), 100);
+        same(&rt, text, fault, Some(SplitFault::NotCompact));
     }
-    assert!(rt; split(rt.alloc(), GOOD.as_bytes(), 9).is_err());
+    assert!(rt; fault_of(rt.alloc(), GOOD.as_bytes(), 9).is_some());
 }
 
 #[test]
@@ -101,11 +120,19 @@ fn copied_parts(rt: HostRuntime) -> Result<(), Fail> {
     Ok(())
 }
 
+// A text, its room, and whether it is compact.
+const COMPACT: [(&str, usize, bool); 3] = [
+    (GOOD, 10, true),
+    (GOOD, 9, false),
+    ("e30.e31.AA", 10, false),
+];
+
 #[test]
 fn compact_texts(rt: HostRuntime) -> Result<(), Fail> {
-    assert_eq!(rt; is_compact(rt.alloc(), GOOD.as_bytes(), 10)?, true);
-    assert_eq!(rt; is_compact(rt.alloc(), GOOD.as_bytes(), 9)?, false);
-    assert_eq!(rt; is_compact(rt.alloc(), b"e30.e31.AA", 10)?, false);
+    for &(text, most, want) in &COMPACT {
+        let compact = is_compact(rt.alloc(), text.as_bytes(), most)?;
+        same(&rt, text, compact, want);
+    }
     assert_eq!(rt; BadSigned::WrongKey.as_str(), "WRONG_KEY");
     Ok(())
 }

@@ -1,4 +1,5 @@
 //! Values in and out of each form. In these texts `'` stands for `"`.
+use crate::tests::comparing::{is_written, same};
 use crate::tests::making::json;
 use canonical_json::{Json, Member, read, write};
 use ebl_base::{ByteList, Checksum, ChecksumList, NoMemory, Party, PlatformCode};
@@ -46,13 +47,16 @@ const NUMBERS: [(&str, u64, u64, Option<u64>); 6] = [
     ("other", 0, 9, None),
 ];
 
+fn assert_numbers(rt: &impl Abort, object: &Json) {
+    for &(name, least, most, want) in &NUMBERS {
+        same(rt, name, required_number(object, name, least, most), want);
+    }
+}
+
 #[test]
 fn whole_numbers_in_their_range(rt: HostRuntime) -> Result<(), Fail> {
     let object = json(rt.alloc(), "{'n':3,'below':-1,'text':'3'}")?;
-    for &(name, least, most, want) in &NUMBERS {
-        let found = required_number(&object, name, least, most);
-        assert_eq!(rt; found, want, "{name}");
-    }
+    assert_numbers(&rt, &object);
     Ok(())
 }
 
@@ -64,13 +68,17 @@ const LENGTHS: [(&str, usize, usize, bool); 4] = [
     ("o", 0, 1, false),
 ];
 
+fn assert_lengths(rt: &impl Abort, object: &Json) {
+    for &(name, least, most, want) in &LENGTHS {
+        let found = required_items(object, name, least, most);
+        same(rt, name, found.is_some(), want);
+    }
+}
+
 #[test]
 fn lists_of_a_stated_length(rt: HostRuntime) -> Result<(), Fail> {
     let object = json(rt.alloc(), "{'l':[1,2],'o':{}}")?;
-    for &(name, least, most, want) in &LENGTHS {
-        let found = required_items(&object, name, least, most);
-        assert_eq!(rt; found.is_some(), want, "{name}");
-    }
+    assert_lengths(&rt, &object);
     Ok(())
 }
 
@@ -87,15 +95,24 @@ fn found(alloc: Global, list: &Json) -> Result<Option<ChecksumList>, Fail> {
     }
 }
 
+const TWO: [Checksum; 2] = [Checksum([0; 32]), Checksum([255; 32])];
+
+fn has_both(rt: &impl Abort, alloc: Global, list: &Json) -> Result<(), Fail> {
+    let found = found(alloc, list)?.ok_or("checksums")?;
+    assert!(rt; found.as_slice() == TWO.as_slice());
+    Ok(())
+}
+
+fn reads_as_both(rt: &impl Abort, alloc: Global, text: &[u8]) -> Result<(), Fail> {
+    let list = read(alloc, text)?;
+    has_both(rt, alloc, &list)
+}
+
 #[test]
 fn checksums_there_and_back(rt: HostRuntime) -> Result<(), Fail> {
-    let two = [Checksum([0; 32]), Checksum([255; 32])];
-    let text = written(rt.alloc(), &two)?;
+    let text = written(rt.alloc(), &TWO)?;
     assert_eq!(rt; text.len(), 2 * 66 + 3);
-    let list = read(rt.alloc(), text.as_slice())?;
-    let found = found(rt.alloc(), &list)?.ok_or("checksums")?;
-    assert!(rt; found.as_slice() == two.as_slice());
-    Ok(())
+    reads_as_both(&rt, rt.alloc(), text.as_slice())
 }
 
 #[test]
@@ -112,14 +129,16 @@ fn two_members(alloc: Global, party: Party) -> Result<Vec<Member>, NoMemory> {
     Ok(members)
 }
 
+fn sample_object(alloc: Global) -> Result<Json, Fail> {
+    let party = Party::from_text(b"ALPH/EXPORT").ok_or("a party")?;
+    Ok(object_json(two_members(alloc, party)?))
+}
+
 #[test]
 fn members_written(rt: HostRuntime) -> Result<(), Fail> {
-    let party = Party::from_text(b"ALPH/EXPORT").ok_or("a party")?;
-    let object = object_json(two_members(rt.alloc(), party)?);
-    let text = write(rt.alloc(), &object)?;
-    assert!(rt;
-        text.as_slice() == b"{\"actor\":\"ALPH/EXPORT\",\"time\":9007199254740991}".as_slice()
-    );
+    let object = sample_object(rt.alloc())?;
+    let want = b"{\"actor\":\"ALPH/EXPORT\",\"time\":9007199254740991}";
+    is_written(&rt, rt.alloc(), &object, want)?;
     Ok(())
 }
 
@@ -134,8 +153,8 @@ const WRITTEN: [(u64, &str); 4] = [
 #[test]
 fn numbers_past_the_greatest_are_the_greatest(rt: HostRuntime) -> Result<(), Fail> {
     for &(number, canonical) in &WRITTEN {
-        let text = write(rt.alloc(), &number_json(number))?;
-        assert!(rt; text.as_slice() == canonical.as_bytes());
+        let json = number_json(number);
+        is_written(&rt, rt.alloc(), &json, canonical.as_bytes())?;
     }
     Ok(())
 }

@@ -1,6 +1,7 @@
 //! Tags against RFC 4231, section 4: keys shorter and longer than a block.
 use document_checksum::to_text;
 use ebl_base::Checksum;
+use std::process::Abort;
 use test_signer::hmac_sha256;
 
 const COUNTED: [u8; 25] = [
@@ -54,13 +55,17 @@ const CASES: [(u8, &[u8], &[u8], &str); 7] = [
     ),
 ];
 
+fn case_row(rt: &impl Abort, number: u8, key: &[u8], message: &[u8], want: &str) {
+    let tag = to_text(Checksum(hmac_sha256(key, message)));
+    assert!(rt;
+        tag.as_slice().starts_with(want.as_bytes()),
+        "case {number}"
+    );
+}
+
 #[test]
 fn rfc4231_cases(rt: HostRuntime) {
     for &(number, key, message, want) in &CASES {
-        let tag = to_text(Checksum(hmac_sha256(key, message)));
-        assert!(rt;
-            tag.as_slice().starts_with(want.as_bytes()),
-            "case {number}"
-        );
+        case_row(&rt, number, key, message, want);
     }
 }
