@@ -1,4 +1,5 @@
 //! What no contract says: each function once, on chains of two entries, with rules of titles that let them through.
+use crate::tests::comparing::same;
 use crate::tests::making::party;
 use bill_chain::{
     common_front, destination, ends_in, fold_after_chain, goes_beyond, has_entry, last_link,
@@ -13,14 +14,19 @@ use std::process::Abort;
 use std::test::Fail;
 use title_fold::FoldRefusal;
 
+fn party_if_any(text: Option<&[u8]>) -> Result<Option<Party>, Fail> {
+    match text {
+        Some(text) => Ok(Some(party(text)?)),
+        None => Ok(None),
+    }
+}
+
 fn act(kind: Kind, actor: &[u8], recipient: Option<&[u8]>) -> Result<Transaction, Fail> {
-    let recipient = match recipient {
-        Some(text) => Some(party(text)?),
-        None => None,
-    };
+    let actor = party(actor)?;
+    let recipient = party_if_any(recipient)?;
     Ok(Transaction {
         kind,
-        actor: party(actor)?,
+        actor,
         recipient,
         time: Moment::try_new(0).ok_or("a moment")?,
     })
@@ -41,41 +47,66 @@ fn link(alloc: Global, name: u8, transactions: &[Transaction]) -> Result<ChainLi
     })
 }
 
-// An entry that issues to BETA, and one of this name that transfers from there to GAMM.
-fn two_links(alloc: Global, second: u8) -> Result<Chain, Fail> {
-    let mut links = Vec::new(alloc);
+// An entry that issues to BETA.
+fn issuing(alloc: Global) -> Result<ChainLink, Fail> {
     let sign = act(Kind::Sign, b"ALPH/CARRIER", None)?;
     let issue = act(Kind::Issue, b"ALPH/CARRIER", Some(b"BETA/EXPORT"))?;
+    link(alloc, 1, &[sign, issue])
+}
+
+// An entry of this name that transfers from there to GAMM.
+fn transferring(alloc: Global, name: u8) -> Result<ChainLink, Fail> {
     let transfer = act(Kind::Transfer, b"BETA/EXPORT", Some(b"GAMM/BANK"))?;
-    links.push(link(alloc, 1, &[sign, issue])?)?;
-    links.push(link(alloc, second, &[transfer])?)?;
+    link(alloc, name, &[transfer])
+}
+
+fn add_links(alloc: Global, links: &mut Vec<ChainLink>, second: u8) -> Result<(), Fail> {
+    links.push(issuing(alloc)?)?;
+    links.push(transferring(alloc, second)?)?;
+    Ok(())
+}
+
+// Both, the second under this name.
+fn two_links(alloc: Global, second: u8) -> Result<Chain, Fail> {
+    let mut links = Vec::new(alloc);
+    add_links(alloc, &mut links, second)?;
     Ok(Chain::from_vec(alloc, links)?)
 }
 
-fn assert_names(rt: &impl Abort, links: &[ChainLink], others: &[ChainLink]) {
+fn assert_names(rt: &impl Abort, links: &[ChainLink]) {
     let last = last_link(links).map(|link| link.name);
-    assert_eq!(rt; last, Some(Checksum([2; 32])));
+    same(rt, &"last", last, Some(Checksum([2; 32])));
     assert!(rt; ends_in(links, Checksum([2; 32])));
     assert!(rt; has_entry(links, Checksum([1; 32])));
     assert!(rt; !has_entry(links, Checksum([3; 32])));
-    assert_eq!(rt; common_front(links, others), 1);
+}
+
+// Two chains part after their first entries.
+fn assert_parting(rt: &impl Abort, links: &[ChainLink], others: &[ChainLink]) -> Result<(), Fail> {
+    same(rt, &"front", common_front(links, others), 1);
     assert!(rt; !goes_beyond(links, others));
+    let front = links.get(..1).ok_or("a front")?;
+    assert!(rt; goes_beyond(front, others));
+    Ok(())
 }
 
 #[test]
 fn names_of_a_chain(rt: HostRuntime) -> Result<(), Fail> {
     let chain = two_links(rt.alloc(), 2)?;
     let other = two_links(rt.alloc(), 3)?;
-    assert_names(&rt, chain.as_slice(), other.as_slice());
-    let front = chain.as_slice().get(..1).ok_or("a front")?;
-    assert!(rt; goes_beyond(front, other.as_slice()));
-    Ok(())
+    assert_names(&rt, chain.as_slice());
+    assert_parting(&rt, chain.as_slice(), other.as_slice())
 }
 
 fn assert_title(rt: &impl Abort, links: &[ChainLink], bank: Party, again: Transaction) {
-    assert_eq!(rt; possessor_after(links), Some(bank));
-    assert_eq!(rt; destination(links), Some(bank.platform));
+    same(rt, &"possessor", possessor_after(links), Some(bank));
+    same(rt, &"destination", destination(links), Some(bank.platform));
     assert_eq!(rt; fold_after_chain(links, &[again]), Err(FoldRefusal::F7));
+}
+
+fn assert_no_title(rt: &impl Abort) {
+    assert_eq!(rt; destination(&[]), None);
+    assert_eq!(rt; fold_after_chain(&[], &[]), Ok(None));
 }
 
 #[test]
@@ -84,7 +115,6 @@ fn the_title_after_a_chain(rt: HostRuntime) -> Result<(), Fail> {
     let again = act(Kind::Transfer, b"BETA/EXPORT", Some(b"GAMM/BANK"))?;
     let chain = two_links(rt.alloc(), 2)?;
     assert_title(&rt, chain.as_slice(), bank, again);
-    assert_eq!(rt; destination(&[]), None);
-    assert_eq!(rt; fold_after_chain(&[], &[]), Ok(None));
+    assert_no_title(&rt);
     Ok(())
 }

@@ -1,4 +1,5 @@
 //! Documents, and values that are none. In these texts `'` stands for `"`.
+use crate::tests::comparing::{same, same_bytes};
 use crate::tests::making::{json, quoted};
 use document_checksum::from_text;
 use ebl_base::{CarrierCode, Copied, Provider};
@@ -107,10 +108,12 @@ fn sample_document(alloc: Global) -> Result<Document, Fail> {
 }
 
 fn assert_sample(rt: &impl Abort, document: &Document, canonical: &[u8]) {
-    assert_eq!(rt; document.text().as_slice(), canonical);
-    assert_eq!(rt; Some(document.bill()), from_text(BILL.as_bytes()));
-    assert_eq!(rt; document.provider(), Provider::Nmfta);
-    assert_eq!(rt; Some(document.code()), CarrierCode::try_new(b"OCNL"));
+    same_bytes(rt, document.text().as_slice(), canonical);
+    let bill = from_text(BILL.as_bytes());
+    same(rt, &"provider", document.provider(), Provider::Nmfta);
+    let code = CarrierCode::try_new(b"OCNL");
+    same(rt, &"bill", Some(document.bill()), bill);
+    same(rt, &"code", Some(document.code()), code);
 }
 
 #[test]
@@ -125,9 +128,29 @@ fn keeps_the_canonical_text(rt: HostRuntime) -> Result<(), Fail> {
 
 #[test]
 fn names_the_first_fault(rt: HostRuntime) {
-    for (text, want) in &FAULTS {
-        assert_eq!(rt; answer(rt.alloc(), text), Some(Err(*want)), "{text}");
+    for &(text, want) in &FAULTS {
+        same(&rt, &text, answer(rt.alloc(), text), Some(Err(want)));
     }
+}
+
+fn add_times(text: &mut String, piece: &str, count: usize) -> Result<(), AllocError> {
+    for _ in 0..count {
+        text.push_str(piece)?;
+    }
+    Ok(())
+}
+
+// Blanks, and a member of so many bytes.
+fn add_further(text: &mut String, further: usize, blanks: usize) -> Result<(), AllocError> {
+    add_times(text, " ", blanks)?;
+    text.push_str("'more':'")?;
+    add_times(text, "x", further)
+}
+
+fn add_reference(text: &mut String, reference: &str) -> Result<(), AllocError> {
+    text.push_str("','transportDocumentReference':'")?;
+    text.push_str(reference)?;
+    text.push_str("'}")
 }
 
 // A document with this reference, and with so many bytes in a further member behind so many blanks.
@@ -141,46 +164,66 @@ fn text_of(
         alloc,
         "{'carrierCode':'OCNL','carrierCodeListProvider':'NMFTA','isToOrder':true,'transportDocumentTypeCode':'BOL',",
     )?;
-    for _ in 0..blanks {
-        text.push_str(" ")?;
-    }
-    text.push_str("'more':'")?;
-    for _ in 0..further {
-        text.push_str("x")?;
-    }
-    text.push_str("','transportDocumentReference':'")?;
-    text.push_str(reference)?;
-    text.push_str("'}")?;
+    add_further(&mut text, further, blanks)?;
+    add_reference(&mut text, reference)?;
     Ok(text)
 }
 
-// Characters are Unicode scalar values and not bytes. The limit of bytes is that of the canonical text,
-// and not of the text as it came.
+// Whether a document is read, or why it isn't.
+type Answer = Option<Result<(), DocumentFault>>;
+
+const READ: Answer = Some(Ok(()));
+
+// Characters are Unicode scalar values and not bytes.
+const REFERENCES: [(&str, Answer); 3] = [
+    ("ABCDEFGHIJKLMNOPQRST", READ),
+    (
+        "ABCDEFGHIJKLMNOPQRSTU",
+        Some(Err(DocumentFault::DocumentForm(DocumentField::TransportDocumentReference))),
+    ),
+    (
+        "\u{20ac}\u{20ac}\u{20ac}\u{20ac}\u{20ac}\u{20ac}\u{20ac}\u{20ac}\u{20ac}\u{20ac}\u{1f600}\u{1f600}\u{1f600}\u{1f600}\u{1f600}\u{1f600}\u{1f600}\u{1f600}\u{1f600}\u{1f600}",
+        READ,
+    ),
+];
+
+fn reference_row(
+    rt: &impl Abort,
+    alloc: Global,
+    reference: &str,
+    want: Answer,
+) -> Result<(), AllocError> {
+    let text = text_of(alloc, reference, 0, 0)?;
+    same(rt, &reference, answer(alloc, &text), want);
+    Ok(())
+}
+
+// Bytes in a further member, and blanks. The limit of bytes is that of the canonical text, and not of the text as it
+// came.
+const SIZES: [(usize, usize, Answer); 2] = [
+    (261984, 300_000, READ),
+    (261985, 0, Some(Err(DocumentFault::TooLarge))),
+];
+
+fn size_row(
+    rt: &impl Abort,
+    alloc: Global,
+    further: usize,
+    blanks: usize,
+    want: Answer,
+) -> Result<(), AllocError> {
+    let text = text_of(alloc, "OCNL0000001", further, blanks)?;
+    same(rt, &further, answer(alloc, &text), want);
+    Ok(())
+}
+
 #[test]
 fn texts_at_their_limits(rt: HostRuntime) -> Result<(), Fail> {
-    let alloc = rt.alloc();
-    let reference = Some(Err(DocumentFault::DocumentForm(
-        DocumentField::TransportDocumentReference,
-    )));
-    for (text, want) in [
-        ("ABCDEFGHIJKLMNOPQRST", Some(Ok(()))),
-        ("ABCDEFGHIJKLMNOPQRSTU", reference),
-        (
-            "\u{20ac}\u{20ac}\u{20ac}\u{20ac}\u{20ac}\u{20ac}\u{20ac}\u{20ac}\u{20ac}\u{20ac}\u{1f600}\u{1f600}\u{1f600}\u{1f600}\u{1f600}\u{1f600}\u{1f600}\u{1f600}\u{1f600}\u{1f600}",
-            Some(Ok(())),
-        ),
-    ] {
-        assert_eq!(rt; answer(alloc, &text_of(alloc, text, 0, 0)?), want, "{text}");
+    for &(reference, want) in &REFERENCES {
+        reference_row(&rt, rt.alloc(), reference, want)?;
     }
-    for (further, blanks, want) in [
-        (261984, 300_000, Some(Ok(()))),
-        (261985, 0, Some(Err(DocumentFault::TooLarge))),
-    ] {
-        assert_eq!(rt;
-            answer(alloc, &text_of(alloc, "OCNL0000001", further, blanks)?),
-            want,
-            "{further}"
-        );
+    for &(further, blanks, want) in &SIZES {
+        size_row(&rt, rt.alloc(), further, blanks, want)?;
     }
     Ok(())
 }

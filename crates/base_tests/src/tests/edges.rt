@@ -1,4 +1,5 @@
 //! What no contract says: listed failures, and what passes through std.
+use crate::tests::comparing::{same, same_bytes};
 use ebl_base::{ByteList, CallList, Copied, Moment, NoMemory, count_fault};
 use ebl_edge::{
     BoundedLink, BoundedSink, Clock, InfallibleSource, Link, MemoryClock, MemoryLink, MemorySink,
@@ -11,18 +12,35 @@ use std::io::{ErrorKind, Read, Write};
 use std::process::Abort;
 use std::test::Fail;
 
-// What six reads of three bytes answer: the bytes or a mark for a failure, and then a bar.
+// What a read of three bytes answers: the bytes or a mark for a failure, and then a bar.
+fn tell_read<S: Source>(source: &mut S, told: &mut Vec<u8>) -> Result<(), AllocError> {
+    let mut into = [0u8; 3];
+    match source.read(&mut into) {
+        Ok(count) => told.extend_from_slice(&into[..count])?,
+        Err(_) => told.push(b'!')?,
+    }
+    told.push(b'|')?;
+    Ok(())
+}
+
+// What six reads answer.
 fn reads<S: Source>(alloc: Global, source: &mut S) -> Result<Vec<u8>, AllocError> {
     let mut told = Vec::new(alloc);
     for _ in 0..6 {
-        let mut into = [0u8; 3];
-        match source.read(&mut into) {
-            Ok(count) => told.extend_from_slice(&into[..count])?,
-            Err(_) => told.push(b'!')?,
-        }
-        told.push(b'|')?;
+        tell_read(source, &mut told)?;
     }
     Ok(told)
+}
+
+fn assert_reads<S: Source>(
+    rt: &impl Abort,
+    alloc: Global,
+    source: &mut S,
+    told: &[u8],
+) -> Result<(), AllocError> {
+    let answers = reads(alloc, source)?;
+    same_bytes(rt, answers.as_slice(), told);
+    Ok(())
 }
 
 // What a sink answers to a piece.
@@ -36,6 +54,11 @@ fn put<K: Sink>(sink: &mut K, piece: &[u8]) -> u8 {
 // What a sink answers to three pieces.
 fn puts<K: Sink>(sink: &mut K) -> [u8; 3] {
     [put(sink, b"ab"), put(sink, b"cdef"), put(sink, b"ghi")]
+}
+
+fn assert_puts<K: Sink>(rt: &impl Abort, sink: &mut K, told: &[u8]) {
+    let answers = puts(sink);
+    same_bytes(rt, answers.as_slice(), told);
 }
 
 // A source of seven bytes, which fails at these reads.
@@ -53,9 +76,9 @@ fn source_row(
     faults: u64,
 ) -> Result<(), Fail> {
     let mut source = source_of(alloc, fails)?;
-    let answers = reads(alloc, &mut source)?;
-    assert_eq!(rt; answers.as_slice(), told);
-    assert_eq!(rt; (source.faults(), source.left().len()), (faults, 0));
+    assert_reads(rt, alloc, &mut source, told)?;
+    let seen = (source.faults(), source.left().len());
+    same(rt, &"faults and bytes left", seen, (faults, 0));
     Ok(())
 }
 
@@ -75,51 +98,56 @@ fn a_memory_source_fails_at_the_listed_reads(rt: HostRuntime) -> Result<(), Fail
     Ok(())
 }
 
+fn assert_steady(rt: &impl Abort, alloc: Global) -> Result<(), NoMemory> {
+    let mut steady = InfallibleSource::new(ByteList::from_slice(alloc, b"abcdefg")?);
+    assert_reads(rt, alloc, &mut steady, b"abc|def|g||||")?;
+    Ok(())
+}
+
 #[test]
 fn sources_that_never_fail(rt: HostRuntime) -> Result<(), Fail> {
-    let alloc = rt.alloc();
-    let mut steady = InfallibleSource::new(ByteList::from_slice(alloc, b"abcdefg")?);
-    assert_eq!(rt;
-        reads(alloc, &mut steady)?.as_slice(),
-        b"abc|def|g||||".as_slice()
-    );
+    assert_steady(&rt, rt.alloc())?;
     let mut repeated = RepeatedSource::new(b'x', 4);
-    assert_eq!(rt;
-        reads(alloc, &mut repeated)?.as_slice(),
-        b"xxx|x|||||".as_slice()
-    );
+    assert_reads(&rt, rt.alloc(), &mut repeated, b"xxx|x|||||")?;
     Ok(())
 }
 
 fn sink_row(rt: &impl Abort, mut sink: MemorySink, told: &[u8], written: &[u8], faults: u64) {
-    assert_eq!(rt; puts(&mut sink).as_slice(), told);
-    assert_eq!(rt; sink.written(), written);
-    assert_eq!(rt; sink.faults(), faults);
-    assert_eq!(rt; sink.into_bytes().as_slice(), written);
+    assert_puts(rt, &mut sink, told);
+    same_bytes(rt, sink.written(), written);
+    same(rt, &"faults", sink.faults(), faults);
+    same_bytes(rt, sink.into_bytes().as_slice(), written);
+}
+
+fn listed_calls(alloc: Global) -> Result<CallList, NoMemory> {
+    CallList::from_slice(alloc, &[2, 0])
+}
+
+// A copy of a sink that fails at copied calls.
+fn copied_sink(alloc: Global) -> Result<MemorySink, NoMemory> {
+    let fails = listed_calls(alloc)?.copy(alloc)?;
+    MemorySink::new(alloc, fails).copy(alloc)
 }
 
 #[test]
 fn a_memory_sink_fails_at_the_listed_calls(rt: HostRuntime) -> Result<(), Fail> {
-    let alloc = rt.alloc();
-    let fails = CallList::from_slice(alloc, &[2, 0])?;
-    let sink = MemorySink::new(alloc, fails.copy(alloc)?);
-    sink_row(&rt, sink.copy(alloc)?, b"!.!", b"cdef", 2);
-    sink_row(&rt, MemorySink::tearing(alloc, fails), b"!.!", b"acdefg", 2);
-    sink_row(
-        &rt,
-        MemorySink::new(alloc, CallList::new(alloc)),
-        b"...",
-        b"abcdefghi",
-        0,
-    );
+    sink_row(&rt, copied_sink(rt.alloc())?, b"!.!", b"cdef", 2);
+    let tearing = MemorySink::tearing(rt.alloc(), listed_calls(rt.alloc())?);
+    sink_row(&rt, tearing, b"!.!", b"acdefg", 2);
+    let never = MemorySink::new(rt.alloc(), CallList::new(rt.alloc()));
+    sink_row(&rt, never, b"...", b"abcdefghi", 0);
     Ok(())
 }
 
 fn room_row(rt: &impl Abort, mut sink: BoundedSink, told: &[u8], written: &[u8], faults: u64) {
-    assert_eq!(rt; puts(&mut sink).as_slice(), told);
-    assert_eq!(rt; sink.written(), written);
-    assert_eq!(rt; sink.faults(), faults);
-    assert_eq!(rt; sink.into_bytes().as_slice(), written);
+    assert_puts(rt, &mut sink, told);
+    same_bytes(rt, sink.written(), written);
+    same(rt, &"faults", sink.faults(), faults);
+    same_bytes(rt, sink.into_bytes().as_slice(), written);
+}
+
+fn copied_room(alloc: Global) -> Result<BoundedSink, NoMemory> {
+    BoundedSink::new(alloc, 5)?.copy(alloc)
 }
 
 #[test]
@@ -127,8 +155,7 @@ fn a_bounded_sink_fails_past_its_room_alone(rt: HostRuntime) -> Result<(), Fail>
     let alloc = rt.alloc();
     room_row(&rt, BoundedSink::new(alloc, 9)?, b"...", b"abcdefghi", 0);
     room_row(&rt, BoundedSink::new(alloc, 8)?, b"..!", b"abcdef", 1);
-    let sink = BoundedSink::new(alloc, 5)?;
-    room_row(&rt, sink.copy(alloc)?, b".!.", b"abghi", 1);
+    room_row(&rt, copied_room(alloc)?, b".!.", b"abghi", 1);
     Ok(())
 }
 
@@ -202,48 +229,65 @@ impl Write for Stutter {
     }
 }
 
+fn assert_puts_again(rt: &impl Abort) {
+    let mut sink = WriterSink::new(Stutter::new());
+    assert_puts(rt, &mut sink, b".!!");
+    same(rt, &"faults of puts", sink.faults(), 8);
+}
+
 #[test]
 fn interrupted_calls_are_made_again(rt: HostRuntime) -> Result<(), Fail> {
-    let alloc = rt.alloc();
     let mut source = ReaderSource::new(Stutter::new());
-    assert_eq!(rt;
-        reads(alloc, &mut source)?.as_slice(),
-        b"x|x|x|x|!|!|".as_slice()
-    );
-    assert_eq!(rt; source.faults(), 8);
-    let mut sink = WriterSink::new(Stutter::new());
-    assert_eq!(rt; puts(&mut sink).as_slice(), b".!!".as_slice());
-    assert_eq!(rt; sink.faults(), 8);
+    assert_reads(&rt, rt.alloc(), &mut source, b"x|x|x|x|!|!|")?;
+    same(&rt, &"faults of reads", source.faults(), 8);
+    assert_puts_again(&rt);
     Ok(())
+}
+
+fn assert_put_into(rt: &impl Abort, written: &mut Vec<u8>) {
+    let mut sink = WriterSink::new(written);
+    assert_puts(rt, &mut sink, b"...");
 }
 
 #[test]
 fn bytes_pass_through_std(rt: HostRuntime) -> Result<(), Fail> {
-    let alloc = rt.alloc();
     let mut source = ReaderSource::new(b"abcdefg".as_slice());
-    assert_eq!(rt;
-        reads(alloc, &mut source)?.as_slice(),
-        b"abc|def|g||||".as_slice()
-    );
-    let mut written = Vec::new(alloc);
-    let mut sink = WriterSink::new(&mut written);
-    assert_eq!(rt; puts(&mut sink).as_slice(), b"...".as_slice());
-    assert_eq!(rt; written.as_slice(), b"abcdefghi".as_slice());
+    assert_reads(&rt, rt.alloc(), &mut source, b"abc|def|g||||")?;
+    let mut written = Vec::new(rt.alloc());
+    assert_put_into(&rt, &mut written);
+    same_bytes(&rt, written.as_slice(), b"abcdefghi");
     Ok(())
 }
 
-// What six reads of three bytes answer: the bytes or a mark for a failure, and then a bar.
+// What a read of three bytes answers: the bytes or a mark for a failure, and then a bar.
+fn tell_link_read<L: Link>(link: &mut L, told: &mut Vec<u8>) -> Result<(), AllocError> {
+    let mut into = [0u8; 3];
+    match link.read(&mut into) {
+        Ok(count) => told.extend_from_slice(&into[..count])?,
+        Err(_) => told.push(b'!')?,
+    }
+    told.push(b'|')?;
+    Ok(())
+}
+
+// What six reads answer.
 fn link_reads<L: Link>(alloc: Global, link: &mut L) -> Result<Vec<u8>, AllocError> {
     let mut told = Vec::new(alloc);
     for _ in 0..6 {
-        let mut into = [0u8; 3];
-        match link.read(&mut into) {
-            Ok(count) => told.extend_from_slice(&into[..count])?,
-            Err(_) => told.push(b'!')?,
-        }
-        told.push(b'|')?;
+        tell_link_read(link, &mut told)?;
     }
     Ok(told)
+}
+
+fn assert_link_reads<L: Link>(
+    rt: &impl Abort,
+    alloc: Global,
+    link: &mut L,
+    told: &[u8],
+) -> Result<(), AllocError> {
+    let answers = link_reads(alloc, link)?;
+    same_bytes(rt, answers.as_slice(), told);
+    Ok(())
 }
 
 fn link_put<L: Link>(link: &mut L, piece: &[u8]) -> u8 {
@@ -260,6 +304,11 @@ fn link_puts<L: Link>(link: &mut L) -> [u8; 3] {
         link_put(link, b"cdef"),
         link_put(link, b"ghi"),
     ]
+}
+
+fn assert_link_puts<L: Link>(rt: &impl Abort, link: &mut L, told: &[u8]) {
+    let answers = link_puts(link);
+    same_bytes(rt, answers.as_slice(), told);
 }
 
 fn link_with(
@@ -279,6 +328,10 @@ fn link_of(alloc: Global, sizes: &[usize], fails: &[u64]) -> Result<MemoryLink, 
     link_with(alloc, bytes, sizes, fails)
 }
 
+fn copied_link(alloc: Global, sizes: &[usize], fails: &[u64]) -> Result<MemoryLink, NoMemory> {
+    link_of(alloc, sizes, fails)?.copy(alloc)
+}
+
 fn link_row(
     rt: &impl Abort,
     alloc: Global,
@@ -286,10 +339,9 @@ fn link_row(
     fails: &[u64],
     told: &[u8],
 ) -> Result<(), Fail> {
-    let mut link = link_of(alloc, sizes, fails)?.copy(alloc)?;
-    let answers = link_reads(alloc, &mut link)?;
-    assert_eq!(rt; answers.as_slice(), told);
-    assert_eq!(rt; link.left().len(), 0);
+    let mut link = copied_link(alloc, sizes, fails)?;
+    assert_link_reads(rt, alloc, &mut link, told)?;
+    same(rt, &"bytes left", link.left().len(), 0);
     Ok(())
 }
 
@@ -311,17 +363,16 @@ fn a_memory_link_hands_out_its_pieces(rt: HostRuntime) -> Result<(), Fail> {
 
 // What is left to be read of a link, what was written, and how many faults were counted.
 fn assert_link(rt: &impl Abort, link: &MemoryLink, written: &[u8], faults: u64) {
-    assert_eq!(rt; link.written(), written);
-    assert_eq!(rt; link.left(), b"b".as_slice());
-    assert_eq!(rt; link.faults(), faults);
+    same_bytes(rt, link.written(), written);
+    same_bytes(rt, link.left(), b"b");
+    same(rt, &"faults", link.faults(), faults);
 }
 
 fn put_row(rt: &impl Abort, mut link: MemoryLink, told: &[u8], written: &[u8], faults: u64) {
     let mut into = [0u8; 1];
     let is_read = link.read(&mut into).is_ok();
     assert!(rt; is_read);
-    let answers = link_puts(&mut link);
-    assert_eq!(rt; answers.as_slice(), told);
+    assert_link_puts(rt, &mut link, told);
     assert_link(rt, &link, written, faults);
 }
 
@@ -329,15 +380,25 @@ fn two_bytes(alloc: Global) -> Result<ByteList, NoMemory> {
     ByteList::from_slice(alloc, b"ab")
 }
 
+fn calls_of_a_link(alloc: Global) -> Result<CallList, NoMemory> {
+    CallList::from_slice(alloc, &[3, 1])?.copy(alloc)
+}
+
+fn failing_link(alloc: Global) -> Result<MemoryLink, NoMemory> {
+    let fails = calls_of_a_link(alloc)?;
+    Ok(MemoryLink::new(alloc, two_bytes(alloc)?, fails))
+}
+
+fn tearing_link(alloc: Global) -> Result<MemoryLink, NoMemory> {
+    let fails = calls_of_a_link(alloc)?;
+    let bytes = two_bytes(alloc)?;
+    Ok(MemoryLink::tearing(alloc, bytes, PieceList::new(alloc), fails))
+}
+
 #[test]
 fn reads_and_puts_of_a_link_are_counted_together(rt: HostRuntime) -> Result<(), Fail> {
-    let alloc = rt.alloc();
-    let fails = CallList::from_slice(alloc, &[3, 1])?;
-    let link = MemoryLink::new(alloc, two_bytes(alloc)?, fails.copy(alloc)?);
-    put_row(&rt, link, b"!.!", b"cdef", 2);
-    let none = PieceList::new(alloc);
-    let link = MemoryLink::tearing(alloc, two_bytes(alloc)?, none, fails);
-    put_row(&rt, link, b"!.!", b"acdefg", 2);
+    put_row(&rt, failing_link(rt.alloc())?, b"!.!", b"cdef", 2);
+    put_row(&rt, tearing_link(rt.alloc())?, b"!.!", b"acdefg", 2);
     Ok(())
 }
 
@@ -347,34 +408,28 @@ fn bounded_link(alloc: Global) -> Result<BoundedLink, NoMemory> {
 }
 
 fn assert_bounded(rt: &impl Abort, link: &BoundedLink) {
-    assert_eq!(rt; link.written(), b"abghi".as_slice());
-    assert_eq!(rt; link.faults(), 1);
-    assert_eq!(rt; link.left(), b"ab".as_slice());
+    same_bytes(rt, link.written(), b"abghi");
+    same(rt, &"faults", link.faults(), 1);
+    same_bytes(rt, link.left(), b"ab");
 }
 
 #[test]
 fn a_bounded_link_fails_past_its_room_alone(rt: HostRuntime) -> Result<(), Fail> {
     let mut link = bounded_link(rt.alloc())?;
-    let answers = link_puts(&mut link);
-    assert_eq!(rt; answers.as_slice(), b".!.".as_slice());
+    assert_link_puts(&rt, &mut link, b".!.");
     assert_bounded(&rt, &link);
-    let told = link_reads(rt.alloc(), &mut link)?;
-    assert_eq!(rt; told.as_slice(), b"ab||||||".as_slice());
+    assert_link_reads(&rt, rt.alloc(), &mut link, b"ab||||||")?;
     Ok(())
 }
 
 #[test]
 fn interrupted_calls_of_a_link_are_made_again(rt: HostRuntime) -> Result<(), Fail> {
-    let alloc = rt.alloc();
     let mut link = StreamLink::new(Stutter::new());
     let mut into = [0u8; 3];
-    assert_eq!(rt; link.read(&mut into).ok(), Some(1));
-    assert_eq!(rt; link_puts(&mut link).as_slice(), b".!!".as_slice());
-    assert_eq!(rt;
-        link_reads(alloc, &mut link)?.as_slice(),
-        b"!|!|!|!|!|!|".as_slice()
-    );
-    assert_eq!(rt; link.faults(), 20);
+    same(&rt, &"bytes read", link.read(&mut into).ok(), Some(1));
+    assert_link_puts(&rt, &mut link, b".!!");
+    assert_link_reads(&rt, rt.alloc(), &mut link, b"!|!|!|!|!|!|")?;
+    same(&rt, &"faults", link.faults(), 20);
     Ok(())
 }
 
@@ -382,9 +437,9 @@ fn interrupted_calls_of_a_link_are_made_again(rt: HostRuntime) -> Result<(), Fai
 fn a_memory_clock_stands(rt: HostRuntime) -> Result<(), Fail> {
     let moment = Moment::try_new(1000).ok_or("a moment")?;
     let mut clock = MemoryClock::new(moment);
-    assert_eq!(rt; clock.now().number(), 1000);
-    assert_eq!(rt; clock.now().number(), 1000);
-    assert_eq!(rt; clock.calls(), 2);
+    same(&rt, &"first time", clock.now().number(), 1000);
+    same(&rt, &"second time", clock.now().number(), 1000);
+    same(&rt, &"calls", clock.calls(), 2);
     Ok(())
 }
 

@@ -1,8 +1,10 @@
 //! Rosters, and the first wrong place of values that are none. In these texts `'` stands for `"`.
+use crate::tests::comparing::{same, same_at};
 use crate::tests::making::json;
 use ebl_base::{CarrierCode, Copied, Party, PlatformCode, Provider};
 use party_roster::{Roster, RosterFault, RosterPlace};
 use std::alloc::{AllocError, Global};
+use std::fmt::Debug;
 use std::process::Abort;
 use std::test::Fail;
 
@@ -143,28 +145,40 @@ fn sample_roster(alloc: Global) -> Result<Roster, Fail> {
 
 fn assert_lists(rt: &impl Abort, roster: &Roster) {
     let alph = PlatformCode::try_new(b"ALPH");
-    assert_eq!(rt; roster.platforms().first().copied(), alph);
-    assert_eq!(rt; roster.platforms().len(), 2);
+    same(rt, &"platform", roster.platforms().first().copied(), alph);
+    same(rt, &"platforms", roster.platforms().len(), 2);
     let last = Party::from_text(b"BETA/IMPORT");
-    assert_eq!(rt; roster.parties().last().copied(), last);
+    same(rt, &"party", roster.parties().last().copied(), last);
     let first = roster.carriers().first().map(|carrier| carrier.party);
-    assert_eq!(rt; first, Party::from_text(b"ALPH/CARRIER"));
+    same(rt, &"carrier", first, Party::from_text(b"ALPH/CARRIER"));
+}
+
+fn platform_row(rt: &impl Abort, roster: &Roster, text: &[u8], want: bool) {
+    let found = PlatformCode::try_new(text).map(|platform| roster.has_platform(platform));
+    same_at(rt, &text, found, Some(want));
+}
+
+fn party_row(rt: &impl Abort, roster: &Roster, text: &str, want: bool) {
+    let found = Party::from_text(text.as_bytes()).map(|party| roster.knows(party));
+    same(rt, &text, found, Some(want));
+}
+
+fn carrier_row(rt: &impl Abort, roster: &Roster, provider: Provider, code: &str, want: &str) {
+    let party = CarrierCode::try_new(code.as_bytes()).and_then(|code| roster.carrier(
+        provider, code,
+    ));
+    same(rt, &code, party, Party::from_text(want.as_bytes()));
 }
 
 fn assert_look_ups(rt: &impl Abort, roster: &Roster) {
     for &(text, want) in &LISTED {
-        let found = PlatformCode::try_new(text).map(|platform| roster.has_platform(platform));
-        assert_eq!(rt; found, Some(want), "{text:?}");
+        platform_row(rt, roster, text, want);
     }
-    for (text, want) in &TAKES_PART {
-        let found = Party::from_text(text.as_bytes()).map(|party| roster.knows(party));
-        assert_eq!(rt; found, Some(*want), "{text}");
+    for &(text, want) in &TAKES_PART {
+        party_row(rt, roster, text, want);
     }
-    for (provider, code, want) in &CARRIERS_FOR {
-        let party = CarrierCode::try_new(code.as_bytes()).and_then(|code| roster.carrier(
-            *provider, code,
-        ));
-        assert_eq!(rt; party, Party::from_text(want.as_bytes()), "{code}");
+    for &(provider, code, want) in &CARRIERS_FOR {
+        carrier_row(rt, roster, provider, code, want);
     }
 }
 
@@ -176,13 +190,16 @@ fn looks_up(rt: HostRuntime) -> Result<(), Fail> {
     Ok(())
 }
 
+// A list is the same as its copy, and has this length.
+fn same_list<T: Debug + PartialEq>(rt: &impl Abort, copy: &[T], list: &[T], length: usize) {
+    assert_eq!(rt; copy, list);
+    assert_eq!(rt; copy.len(), length);
+}
+
 fn assert_same(rt: &impl Abort, copy: &Roster, roster: &Roster) {
-    assert_eq!(rt; copy.platforms(), roster.platforms());
-    assert_eq!(rt; copy.platforms().len(), 2);
-    assert_eq!(rt; copy.parties(), roster.parties());
-    assert_eq!(rt; copy.parties().len(), 3);
-    assert_eq!(rt; copy.carriers(), roster.carriers());
-    assert_eq!(rt; copy.carriers().len(), 2);
+    same_list(rt, copy.platforms(), roster.platforms(), 2);
+    same_list(rt, copy.parties(), roster.parties(), 3);
+    same_list(rt, copy.carriers(), roster.carriers(), 2);
 }
 
 #[test]
@@ -194,59 +211,108 @@ fn copied(rt: HostRuntime) -> Result<(), Fail> {
     Ok(())
 }
 
+fn place_row(
+    rt: &impl Abort,
+    alloc: Global,
+    (platforms, parties, carriers): (&str, &str, &str),
+    want: RosterPlace,
+) -> Result<(), AllocError> {
+    let text = text_of(alloc, platforms, parties, carriers)?;
+    assert_eq!(rt; answer(alloc, &text), fault(want), "{text}");
+    Ok(())
+}
+
 #[test]
 fn names_the_first_wrong_place(rt: HostRuntime) -> Result<(), Fail> {
-    for (platforms, parties, carriers, want) in &PLACES {
-        let text = text_of(rt.alloc(), platforms, parties, carriers)?;
-        assert_eq!(rt; answer(rt.alloc(), &text), fault(*want), "{text}");
+    for &(platforms, parties, carriers, want) in &PLACES {
+        place_row(&rt, rt.alloc(), (platforms, parties, carriers), want)?;
     }
     assert_eq!(rt; answer(rt.alloc(), "[]"), fault(RosterPlace::Whole));
     Ok(())
+}
+
+fn add_item(
+    alloc: Global,
+    list: &mut String,
+    i: usize,
+    front: &str,
+    behind: &str,
+) -> Result<(), AllocError> {
+    let comma = if i == 0 { "" } else { "," };
+    let item = format!(in alloc; "{comma}{front}{i}{behind}")?;
+    list.push_str(&item)
 }
 
 // A list of texts, each with its number behind a front.
 fn numbered(alloc: Global, count: usize, front: &str, behind: &str) -> Result<String, AllocError> {
     let mut list = String::from_str(alloc, "[")?;
     for i in 0..count {
-        let comma = if i == 0 { "" } else { "," };
-        let item = format!(in alloc; "{comma}{front}{i}{behind}")?;
-        list.push_str(&item)?;
+        add_item(alloc, &mut list, i, front, behind)?;
     }
     list.push_str("]")?;
     Ok(list)
 }
 
+fn answer_of(
+    alloc: Global,
+    platforms: &str,
+    parties: &str,
+    carriers: &str,
+) -> Result<Option<Result<(), RosterFault>>, AllocError> {
+    let text = text_of(alloc, platforms, parties, carriers)?;
+    Ok(answer(alloc, &text))
+}
+
+const CARRIER: &str = "[{'code':'A','party':'PLT0/A','provider':'SMDG'}]";
+
+const LAST_CARRIER: &str = "[{'code':'A','party':'PLT0/1023','provider':'SMDG'}]";
+
+fn platforms_row(
+    rt: &impl Abort,
+    alloc: Global,
+    count: usize,
+    want: Option<Result<(), RosterFault>>,
+) -> Result<(), AllocError> {
+    let platforms = numbered(alloc, count, "'PLT", "'")?;
+    let seen = answer_of(alloc, &platforms, "['PLT0/A']", CARRIER)?;
+    same(rt, &count, seen, want);
+    Ok(())
+}
+
+fn parties_row(
+    rt: &impl Abort,
+    alloc: Global,
+    count: usize,
+    want: Option<Result<(), RosterFault>>,
+) -> Result<(), AllocError> {
+    let parties = numbered(alloc, count, "'PLT0/", "'")?;
+    let seen = answer_of(alloc, "['PLT0']", &parties, LAST_CARRIER)?;
+    same(rt, &count, seen, want);
+    Ok(())
+}
+
+fn carriers_row(
+    rt: &impl Abort,
+    alloc: Global,
+    count: usize,
+    want: Option<Result<(), RosterFault>>,
+) -> Result<(), AllocError> {
+    let front = "{'party':'PLT0/A','provider':'SMDG','code':'C";
+    let carriers = numbered(alloc, count, front, "'}")?;
+    let seen = answer_of(alloc, "['PLT0']", "['PLT0/A']", &carriers)?;
+    same(rt, &count, seen, want);
+    Ok(())
+}
+
 // One more than the most of each list is too many, and the most is not.
 #[test]
 fn lists_at_their_limits(rt: HostRuntime) -> Result<(), Fail> {
-    let alloc = rt.alloc();
-    let carriers = "[{'code':'A','party':'PLT0/A','provider':'SMDG'}]";
-    for (count, want) in [(8, Some(Ok(()))), (9, fault(RosterPlace::Whole))] {
-        let platforms = numbered(alloc, count, "'PLT", "'")?;
-        assert_eq!(rt;
-            answer(alloc, &text_of(alloc, &platforms, "['PLT0/A']", carriers)?),
-            want
-        );
-    }
-    for (count, want) in [(1024, Some(Ok(()))), (1025, fault(RosterPlace::Parties))] {
-        let parties = numbered(alloc, count, "'PLT0/", "'")?;
-        let carriers = "[{'code':'A','party':'PLT0/1023','provider':'SMDG'}]";
-        assert_eq!(rt;
-            answer(alloc, &text_of(alloc, "['PLT0']", &parties, carriers)?),
-            want
-        );
-    }
-    for (count, want) in [(64, Some(Ok(()))), (65, fault(RosterPlace::Carriers))] {
-        let carriers = numbered(
-            alloc,
-            count,
-            "{'party':'PLT0/A','provider':'SMDG','code':'C",
-            "'}",
-        )?;
-        assert_eq!(rt;
-            answer(alloc, &text_of(alloc, "['PLT0']", "['PLT0/A']", &carriers)?),
-            want
-        );
-    }
+    let read = Some(Ok(()));
+    platforms_row(&rt, rt.alloc(), 8, read)?;
+    platforms_row(&rt, rt.alloc(), 9, fault(RosterPlace::Whole))?;
+    parties_row(&rt, rt.alloc(), 1024, read)?;
+    parties_row(&rt, rt.alloc(), 1025, fault(RosterPlace::Parties))?;
+    carriers_row(&rt, rt.alloc(), 64, read)?;
+    carriers_row(&rt, rt.alloc(), 65, fault(RosterPlace::Carriers))?;
     Ok(())
 }
