@@ -1,23 +1,33 @@
 //! Commands, and values that are none. In these texts `'` stands for `"`.
 use crate::tests::making::{json, quoted};
-use canonical_json::write;
+use canonical_json::{Json, write};
 use ebl_base::{ByteList, Kind, Party};
 use holder_commands::{Command, CommandFault, CommandField};
 use std::alloc::{AllocError, Global};
+use std::process::Abort;
 use std::test::Fail;
 
 // What a text is read as; none where it is no JSON.
 fn answer(alloc: Global, text: &str) -> Option<Result<Command, CommandFault>> {
     let json = json(alloc, text).ok()?;
-    Some(Command::read(alloc, &json))
+    let answer = Command::read(alloc, &json);
+    drop(json);
+    Some(answer)
+}
+
+fn field_of(answer: &Result<Command, CommandFault>) -> Option<CommandField> {
+    match answer {
+        Err(CommandFault::CommandForm(field)) => Some(*field),
+        _ => None,
+    }
 }
 
 // The first wrong member of the command that a text is; none where it is a command.
 fn wrong_member(alloc: Global, text: &str) -> Option<CommandField> {
-    match answer(alloc, text)? {
-        Err(CommandFault::CommandForm(field)) => Some(field),
-        _ => None,
-    }
+    let answer = answer(alloc, text)?;
+    let field = field_of(&answer);
+    drop(answer);
+    field
 }
 
 // A text, and the text of what it is read as, written again.
@@ -50,41 +60,81 @@ const WRITTEN: [(&str, &str); 6] = [
 
 fn command_of(alloc: Global, text: &str) -> Result<Command, Fail> {
     let json = json(alloc, text)?;
-    Ok(Command::read(alloc, &json)?)
+    let command = Command::read(alloc, &json);
+    drop(json);
+    Ok(command?)
+}
+
+fn copied_command(alloc: Global, text: &str) -> Result<Command, Fail> {
+    let command = command_of(alloc, text)?;
+    let copy = command.copy(alloc);
+    drop(command);
+    Ok(copy?)
+}
+
+fn json_again(alloc: Global, text: &str) -> Result<Json, Fail> {
+    let command = copied_command(alloc, text)?;
+    let json = command.write(alloc);
+    drop(command);
+    Ok(json?)
 }
 
 // The text of what a text is read as, by a copy.
 fn again(alloc: Global, text: &str) -> Result<ByteList, Fail> {
-    let command = command_of(alloc, text)?.copy(alloc)?;
-    let json = command.write(alloc)?;
-    Ok(write(alloc, &json)?)
+    let json = json_again(alloc, text)?;
+    let written = write(alloc, &json);
+    drop(json);
+    Ok(written?)
+}
+
+// Asserts that the text, which is that of another one as it was read, is the wanted one.
+fn assert_written(
+    rt: &impl Abort,
+    alloc: Global,
+    bytes: &[u8],
+    wanted: &str,
+    text: &str,
+) -> Result<(), Fail> {
+    let wanted = quoted(alloc, wanted)?;
+    assert_eq!(rt; bytes, wanted.as_slice(), "{text}");
+    Ok(())
+}
+
+fn written_row(rt: &impl Abort, alloc: Global, text: &str, wanted: &str) -> Result<(), Fail> {
+    let bytes = again(alloc, text)?;
+    assert_written(rt, alloc, bytes.as_slice(), wanted, text)
 }
 
 #[test]
 fn commands_are_read_and_written(rt: HostRuntime) -> Result<(), Fail> {
     for &(text, wanted) in &WRITTEN {
-        let bytes = again(rt.alloc(), text)?;
-        let wanted = quoted(rt.alloc(), wanted)?;
-        assert_eq!(rt; bytes.as_slice(), wanted.as_slice(), "{text}");
+        written_row(&rt, rt.alloc(), text, wanted)?;
     }
     Ok(())
 }
 
-#[test]
-fn an_act_has_its_parts(rt: HostRuntime) -> Result<(), Fail> {
-    match command_of(rt.alloc(), WRITTEN[2].0)? {
+fn assert_act(rt: &impl Abort, command: &Command) -> Result<(), Fail> {
+    match command {
         Command::Act {
             bill,
             kind,
             recipient,
         } => {
             assert_eq!(rt; bill.0[0], 0x44);
-            assert!(rt; kind == Kind::Issue);
-            assert!(rt; recipient == Party::from_text(b"ALPH/EXPORT"));
+            assert!(rt; *kind == Kind::Issue);
+            assert!(rt; *recipient == Party::from_text(b"ALPH/EXPORT"));
             Ok(())
         }
         _ => Err("an act".into()),
     }
+}
+
+#[test]
+fn an_act_has_its_parts(rt: HostRuntime) -> Result<(), Fail> {
+    let command = command_of(rt.alloc(), WRITTEN[2].0)?;
+    let act = assert_act(&rt, &command);
+    drop(command);
+    act
 }
 
 // Each member wrong in each way, with all later members wrong too: the first wrong one is named.
@@ -173,13 +223,21 @@ fn attachment(
         alloc,
         "{'do':'ATTACH','bill':'44136fa355b3678a1146ad16f7e8649e94fb4fc21fe77e8310c060f61caaff8a','name':'",
     )?;
-    push_times(&mut text, "n", name)?;
-    text.push_str("','media':'")?;
-    push_times(&mut text, "m", media)?;
-    text.push_str("','bytes':'")?;
-    push_times(&mut text, "AAAA", groups)?;
-    text.push_str("'}")?;
+    push_member(&mut text, "n", name, "','media':'")?;
+    push_member(&mut text, "m", media, "','bytes':'")?;
+    push_member(&mut text, "AAAA", groups, "'}")?;
     Ok(text)
+}
+
+// A piece so many times, and what stands behind it.
+fn push_member(
+    text: &mut String,
+    piece: &str,
+    count: usize,
+    behind: &str,
+) -> Result<(), AllocError> {
+    push_times(text, piece, count)?;
+    text.push_str(behind)
 }
 
 fn push_times(text: &mut String, piece: &str, count: usize) -> Result<(), AllocError> {
@@ -198,32 +256,57 @@ const LIMITS: [(usize, usize, Option<CommandField>); 6] = [
     (128, 0, Some(CommandField::Media)),
 ];
 
+// The first wrong member of such an attachment.
+fn wrong_of(alloc: Global, name: usize, media: usize) -> Result<Option<CommandField>, AllocError> {
+    let text = attachment(alloc, name, media, 1)?;
+    Ok(wrong_member(alloc, text.as_str()))
+}
+
 #[test]
 fn limits_of_an_attachment(rt: HostRuntime) -> Result<(), Fail> {
     for &(name, media, field) in &LIMITS {
-        let text = attachment(rt.alloc(), name, media, 1)?;
-        let found = wrong_member(rt.alloc(), text.as_str());
+        let found = wrong_of(rt.alloc(), name, media)?;
         assert_eq!(rt; found, field, "{name} {media}");
     }
     Ok(())
 }
 
-// The bytes of an attachment of so many groups.
-fn attached(alloc: Global, groups: usize) -> Result<ByteList, Fail> {
+// An attachment of so many groups.
+fn attached(alloc: Global, groups: usize) -> Result<Command, Fail> {
     let text = attachment(alloc, 1, 1, groups)?;
-    match command_of(alloc, text.as_str())? {
-        Command::Attach { bytes, .. } => Ok(bytes),
+    command_of(alloc, text.as_str())
+}
+
+fn assert_zeros(rt: &impl Abort, bytes: &[u8], count: usize) {
+    assert_eq!(rt; bytes.len(), count);
+    assert!(rt; bytes.iter().all(|byte| *byte == 0));
+}
+
+fn assert_attached(rt: &impl Abort, command: &Command, count: usize) -> Result<(), Fail> {
+    match command {
+        Command::Attach { bytes, .. } => {
+            assert_zeros(rt, bytes.as_slice(), count);
+            Ok(())
+        }
         _ => Err("an attachment".into()),
     }
 }
 
-// 2,097,153 bytes, one more than a bill's document may have: the form takes any length.
+fn attached_row(rt: &impl Abort, alloc: Global, groups: usize, count: usize) -> Result<(), Fail> {
+    let command = attached(alloc, groups)?;
+    let attached = assert_attached(rt, &command, count);
+    drop(command);
+    attached
+}
+
+// Groups, and how many bytes they are. The last are one more than a bill's document may have: the form takes any
+// length.
+const LENGTHS: [(usize, usize); 3] = [(0, 0), (1, 3), (699_051, 2_097_153)];
+
 #[test]
 fn attached_bytes_have_any_length(rt: HostRuntime) -> Result<(), Fail> {
-    for groups in [0, 1, 699_051] {
-        let bytes = attached(rt.alloc(), groups)?;
-        assert_eq!(rt; bytes.len(), 3 * groups);
-        assert!(rt; bytes.as_slice().iter().all(|byte| *byte == 0));
+    for &(groups, count) in &LENGTHS {
+        attached_row(&rt, rt.alloc(), groups, count)?;
     }
     Ok(())
 }

@@ -2,7 +2,7 @@
 use crate::tests::making::{json, quoted};
 use canonical_json::{Json, Member, MemberList, write};
 use chain_entry::{EntryFault, EntryField, decode, decode_transaction, encode, encode_transaction};
-use ebl_base::{CharList, Entry, Transaction};
+use ebl_base::{ByteList, CharList, Entry, Transaction};
 use std::alloc::{AllocError, Global};
 use std::process::Abort;
 use std::test::Fail;
@@ -59,24 +59,59 @@ const WRONG: [(usize, EntryField, &str); 18] = [
     ),
 ];
 
+fn joined(alloc: Global, parts: &[&str]) -> Result<String, AllocError> {
+    let mut text = String::new(alloc);
+    for part in parts {
+        text.push_str(part)?;
+    }
+    Ok(text)
+}
+
 // An object of these members, and a further one.
 fn object(alloc: Global, members: [&str; 5]) -> Result<String, AllocError> {
-    let mut text = String::from_str(alloc, "{")?;
-    for member in members {
-        text.push_str(member)?;
-    }
-    text.push_str("'more':0}")?;
-    Ok(text)
+    let [platform, bill, previous, attempt, transactions] = members;
+    joined(
+        alloc,
+        &[
+            "{",
+            platform,
+            bill,
+            previous,
+            attempt,
+            transactions,
+            "'more':0}",
+        ],
+    )
 }
 
 // What a text is read as; None where it is no JSON.
 fn answer(alloc: Global, text: &str) -> Option<Result<Entry, EntryFault>> {
     let json = json(alloc, text).ok()?;
-    Some(decode(alloc, &json))
+    let answer = decode(alloc, &json);
+    drop(json);
+    Some(answer)
 }
 
 fn fault(alloc: Global, text: &str) -> Option<EntryFault> {
     answer(alloc, text)?.err()
+}
+
+fn entry_of(alloc: Global, text: &str) -> Result<Entry, Fail> {
+    let answer = answer(alloc, text).ok_or("json")?;
+    Ok(answer?)
+}
+
+fn sample_entry(alloc: Global) -> Result<Entry, Fail> {
+    let text = object(alloc, GOOD)?;
+    entry_of(alloc, &text)
+}
+
+// The text of an entry.
+fn written(alloc: Global, entry: &Entry) -> Result<ByteList, Fail> {
+    let json = encode(alloc, entry)?;
+    let text = write(alloc, &json);
+    drop(json);
+    Ok(text?)
 }
 
 fn assert_sample(rt: &impl Abort, entry: &Entry) {
@@ -85,15 +120,24 @@ fn assert_sample(rt: &impl Abort, entry: &Entry) {
     assert_eq!(rt; entry.transactions.len(), 2);
 }
 
+fn assert_text(rt: &impl Abort, alloc: Global, text: &[u8]) -> Result<(), Fail> {
+    let want = quoted(alloc, WRITTEN)?;
+    assert_eq!(rt; text, want.as_slice());
+    Ok(())
+}
+
+fn assert_written(rt: &impl Abort, alloc: Global, entry: &Entry) -> Result<(), Fail> {
+    let text = written(alloc, entry)?;
+    assert_text(rt, alloc, text.as_slice())
+}
+
 #[test]
 fn an_entry_is_read_and_written(rt: HostRuntime) -> Result<(), Fail> {
-    let text = object(rt.alloc(), GOOD)?;
-    let entry = answer(rt.alloc(), &text).ok_or("json")??;
+    let entry = sample_entry(rt.alloc())?;
     assert_sample(&rt, &entry);
-    let json = encode(rt.alloc(), &entry)?;
-    let written = write(rt.alloc(), &json)?;
-    assert_eq!(rt; written.as_slice(), quoted(rt.alloc(), WRITTEN)?.as_slice());
-    Ok(())
+    let written = assert_written(&rt, rt.alloc(), &entry);
+    drop(entry);
+    written
 }
 
 // The good members, with this one at the place, and nulls behind it.
@@ -125,19 +169,43 @@ fn fault_with(alloc: Global, members: [&str; 5]) -> Result<Option<EntryFault>, A
     Ok(fault(alloc, &text))
 }
 
+fn wrong_alone(
+    rt: &impl Abort,
+    alloc: Global,
+    place: usize,
+    field: EntryField,
+    wrong: &str,
+) -> Result<(), Fail> {
+    let alone = fault_with(alloc, with(place, wrong))?;
+    assert_eq!(rt; alone, Some(EntryFault::EntryForm(field)), "{wrong}");
+    Ok(())
+}
+
+fn wrong_first(
+    rt: &impl Abort,
+    alloc: Global,
+    place: usize,
+    field: EntryField,
+    wrong: &str,
+) -> Result<(), Fail> {
+    let first = fault_with(alloc, with_nulls_behind(place, wrong))?;
+    assert_eq!(rt;
+        first,
+        Some(EntryFault::EntryForm(field)),
+        "{wrong}, and more"
+    );
+    Ok(())
+}
+
 // The first wrong member is named, with all behind it right, and with all behind it wrong.
 #[test]
 fn the_first_wrong_member_is_named(rt: HostRuntime) -> Result<(), Fail> {
-    let alloc = rt.alloc();
     for &(place, field, wrong) in &WRONG {
-        let want = Some(EntryFault::EntryForm(field));
-        let alone = fault_with(alloc, with(place, wrong))?;
-        assert_eq!(rt; alone, want, "{wrong}");
-        let first = fault_with(alloc, with_nulls_behind(place, wrong))?;
-        assert_eq!(rt; first, want, "{wrong}, and more");
+        wrong_alone(&rt, rt.alloc(), place, field, wrong)?;
+        wrong_first(&rt, rt.alloc(), place, field, wrong)?;
     }
     let whole = Some(EntryFault::EntryForm(EntryField::Platform));
-    assert_eq!(rt; fault(alloc, "[]"), whole);
+    assert_eq!(rt; fault(rt.alloc(), "[]"), whole);
     Ok(())
 }
 
@@ -154,18 +222,22 @@ fn transactions(alloc: Global, count: usize) -> Result<String, AllocError> {
 
 // An entry without a previous one.
 fn first_entry(alloc: Global, attempt: &str, transactions: &str) -> Result<String, AllocError> {
-    let mut text = String::from_str(alloc, "{")?;
-    text.push_str(GOOD[0])?;
-    text.push_str(GOOD[1])?;
-    text.push_str(attempt)?;
-    text.push_str(transactions)?;
-    text.push_str("'more':0}")?;
-    Ok(text)
+    joined(
+        alloc,
+        &["{", GOOD[0], GOOD[1], attempt, transactions, "'more':0}"],
+    )
 }
 
 // The attempt and the number of transactions of an entry without a previous one.
 fn numbers_of(alloc: Global, text: &str) -> Option<(u32, usize)> {
-    match answer(alloc, text)? {
+    let answer = answer(alloc, text)?;
+    let numbers = first_numbers(&answer);
+    drop(answer);
+    numbers
+}
+
+fn first_numbers(answer: &Result<Entry, EntryFault>) -> Option<(u32, usize)> {
+    match answer {
         Ok(entry) if entry.previous.is_none() => Some((entry.attempt, entry.transactions.len())),
         _ => None,
     }
@@ -178,11 +250,15 @@ const ATTEMPTS: [(&str, Option<(u32, usize)>); 4] = [
     ("'attempt':4294967296,", None),
 ];
 
+fn numbers_at(alloc: Global, attempt: &str) -> Result<Option<(u32, usize)>, AllocError> {
+    let text = first_entry(alloc, attempt, GOOD[4])?;
+    Ok(numbers_of(alloc, &text))
+}
+
 #[test]
 fn attempts_at_their_limits(rt: HostRuntime) -> Result<(), Fail> {
     for &(attempt, want) in &ATTEMPTS {
-        let text = first_entry(rt.alloc(), attempt, GOOD[4])?;
-        assert_eq!(rt; numbers_of(rt.alloc(), &text), want, "{attempt}");
+        assert_eq!(rt; numbers_at(rt.alloc(), attempt)?, want, "{attempt}");
     }
     Ok(())
 }
@@ -277,11 +353,23 @@ fn transaction_row(
     Ok(())
 }
 
+fn transaction_at(
+    rt: &impl Abort,
+    alloc: Global,
+    text: &str,
+    time: i64,
+    is_transaction: bool,
+) -> Result<(), Fail> {
+    let json = at_time(alloc, text, time).ok_or("a transaction")?;
+    let row = transaction_row(rt, alloc, &json, is_transaction);
+    drop(json);
+    row
+}
+
 #[test]
 fn transactions_are_read_and_written(rt: HostRuntime) -> Result<(), Fail> {
     for &(text, time, is_transaction) in &TRANSACTIONS {
-        let json = at_time(rt.alloc(), text, time).ok_or("a transaction")?;
-        transaction_row(&rt, rt.alloc(), &json, is_transaction)?;
+        transaction_at(&rt, rt.alloc(), text, time, is_transaction)?;
     }
     Ok(())
 }

@@ -3,6 +3,7 @@
 use canonical_json::{Json, ReadError, read, write};
 use ebl_base::ByteList;
 use std::alloc::{AllocError, Global};
+use std::process::Abort;
 use std::test::Fail;
 use world_script::{Event, EventFault};
 
@@ -10,15 +11,20 @@ const BILL: &[u8] = b"44136fa355b3678a1146ad16f7e8649e94fb4fc21fe77e8310c060f61c
 
 const REFERENCE: &[u8] = b"447816bf-8f01-cfea-4141-40de5dae2223";
 
+fn push_spelled(bytes: &mut Vec<u8>, byte: u8) -> Result<(), AllocError> {
+    match byte {
+        b'\'' => bytes.push(b'"')?,
+        b'$' => bytes.extend_from_slice(BILL)?,
+        b'%' => bytes.extend_from_slice(REFERENCE)?,
+        _ => bytes.push(byte)?,
+    }
+    Ok(())
+}
+
 fn spelled(alloc: Global, text: &str) -> Result<Vec<u8>, AllocError> {
     let mut bytes = Vec::new(alloc);
     for byte in text.bytes() {
-        match byte {
-            b'\'' => bytes.push(b'"')?,
-            b'$' => bytes.extend_from_slice(BILL)?,
-            b'%' => bytes.extend_from_slice(REFERENCE)?,
-            _ => bytes.push(byte)?,
-        }
+        push_spelled(&mut bytes, byte)?;
     }
     Ok(bytes)
 }
@@ -33,23 +39,49 @@ fn json(alloc: Global, text: &str) -> Result<Json, ReadError> {
 // What a text is read as; none where it is no JSON.
 fn answer(alloc: Global, text: &str) -> Option<Result<Event, EventFault>> {
     let json = json(alloc, text).ok()?;
-    Some(Event::read(alloc, &json))
+    let answer = Event::read(alloc, &json);
+    drop(json);
+    Some(answer)
 }
 
-// The copy of the event that a text is.
 fn event_of(alloc: Global, text: &str) -> Result<Event, Fail> {
     let json = json(alloc, text)?;
-    Ok(Event::read(alloc, &json)?.copy(alloc)?)
+    let event = Event::read(alloc, &json);
+    drop(json);
+    Ok(event?)
+}
+
+fn copied_event(alloc: Global, text: &str) -> Result<Event, Fail> {
+    let event = event_of(alloc, text)?;
+    let copy = event.copy(alloc);
+    drop(event);
+    Ok(copy?)
+}
+
+fn json_again(alloc: Global, text: &str) -> Result<Json, Fail> {
+    let event = copied_event(alloc, text)?;
+    let json = event.write(alloc);
+    drop(event);
+    Ok(json?)
 }
 
 // The text of an event, written again from a copy.
 fn again(alloc: Global, text: &str) -> Result<ByteList, Fail> {
-    let json = event_of(alloc, text)?.write(alloc)?;
-    Ok(write(alloc, &json)?)
+    let json = json_again(alloc, text)?;
+    let written = write(alloc, &json);
+    drop(json);
+    Ok(written?)
+}
+
+fn is_form_fault(answer: &Option<Result<Event, EventFault>>) -> bool {
+    matches!(answer, Some(Err(EventFault::EventForm)))
 }
 
 fn is_none(alloc: Global, text: &str) -> bool {
-    matches!(answer(alloc, text), Some(Err(EventFault::EventForm)))
+    let answer = answer(alloc, text);
+    let is_none = is_form_fault(&answer);
+    drop(answer);
+    is_none
 }
 
 // A text, and the text of what it is read as, written again.
@@ -126,13 +158,28 @@ const WRITTEN: [(&str, &str); 21] = [
     ),
 ];
 
+// Asserts that an event, which was read of that text, is written as the wanted one.
+fn assert_written(
+    rt: &impl Abort,
+    alloc: Global,
+    bytes: &[u8],
+    wanted: &str,
+    text: &str,
+) -> Result<(), Fail> {
+    let wanted = spelled(alloc, wanted)?;
+    assert_eq!(rt; bytes, wanted.as_slice(), "{text}");
+    Ok(())
+}
+
+fn written_row(rt: &impl Abort, alloc: Global, text: &str, wanted: &str) -> Result<(), Fail> {
+    let bytes = again(alloc, text)?;
+    assert_written(rt, alloc, bytes.as_slice(), wanted, text)
+}
+
 #[test]
 fn events_are_read_and_written(rt: HostRuntime) -> Result<(), Fail> {
-    let alloc = rt.alloc();
     for (text, wanted) in &WRITTEN {
-        let again = again(alloc, text)?;
-        let wanted = spelled(alloc, wanted)?;
-        assert_eq!(rt; again.as_slice(), wanted.as_slice(), "{text}");
+        written_row(&rt, rt.alloc(), text, wanted)?;
     }
     Ok(())
 }

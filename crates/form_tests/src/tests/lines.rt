@@ -3,41 +3,41 @@ ghost use Rattle.answer_lines.specs.Lines.{IsWritable};
 ghost use Rattle.answer_lines.specs.declared.answer.Answer.TheVariants.{Replied};
 
 use answer_lines::{Answer, answer_line};
-use ebl_base::NoMemory;
+use ebl_base::{ByteList, NoMemory};
 use platform_requests::Reply;
 use std::alloc::Global;
 use std::test::Fail;
 use transport_document::DocumentFault;
 
-// Whether the line of this reply to event 1, which sends nothing and shows no bill, is this text.
+// The line of this reply to event 1, which sends nothing and shows no bill.
+fn line_of(alloc: Global, reply: Reply) -> Result<ByteList, NoMemory>
+    requires { IsWritable (Replied reply) }
+{
+    let answer = Answer::Replied(reply);
+    let line = answer_line(alloc, 1, &[], None, &answer);
+    drop(answer);
+    line
+}
+
+// Whether that line is this text.
 fn is_line(alloc: Global, reply: Reply, want: &str) -> Result<bool, NoMemory>
     requires { IsWritable (Replied reply) }
 {
-    let line = answer_line(alloc, 1, &[], None, &Answer::Replied(reply))?;
+    let line = line_of(alloc, reply)?;
     Ok(line.as_slice() == want.as_bytes())
 }
 
+const FULL: &str = "{\"event\":1,\"reply\":\"FULL\",\"sent\":[]}\n";
+
+const DISK: &str = "{\"event\":1,\"reply\":\"DISK\",\"sent\":[]}\n";
+
+const SIGN: &str = "{\"event\":1,\"reply\":\"SIGN\",\"sent\":[]}\n";
+
 #[test]
 fn replies_of_a_failing_outside(rt: HostRuntime) -> Result<(), Fail> {
-    let alloc = rt.alloc();
-    let full = is_line(
-        alloc,
-        Reply::Full,
-        "{\"event\":1,\"reply\":\"FULL\",\"sent\":[]}\n",
-    )?;
-    assert!(rt; full);
-    let disk = is_line(
-        alloc,
-        Reply::Disk,
-        "{\"event\":1,\"reply\":\"DISK\",\"sent\":[]}\n",
-    )?;
-    assert!(rt; disk);
-    let sign = is_line(
-        alloc,
-        Reply::Sign,
-        "{\"event\":1,\"reply\":\"SIGN\",\"sent\":[]}\n",
-    )?;
-    assert!(rt; sign);
+    assert!(rt; is_line(rt.alloc(), Reply::Full, FULL)?);
+    assert!(rt; is_line(rt.alloc(), Reply::Disk, DISK)?);
+    assert!(rt; is_line(rt.alloc(), Reply::Sign, SIGN)?);
     Ok(())
 }
 

@@ -1,8 +1,8 @@
 //! Manifests and bodies in and out of their forms. In these texts `'` stands for `"`.
 use crate::tests::making::{json, quoted};
-use canonical_json::{text_of, write};
+use canonical_json::{Json, text_of, write};
 use document_checksum::checksum;
-use ebl_base::{CharList, Checksum, Copied, NoMemory};
+use ebl_base::{ByteList, CharList, Checksum, Copied, NoMemory};
 use envelope_manifest::{
     Body, BodyFault, BodyField, Manifest, ManifestFault, ManifestField, Piece, PieceList, decode,
     decode_piece, encode, encode_piece,
@@ -21,10 +21,18 @@ const DOCUMENTS: ManifestFault = ManifestFault::ManifestForm(ManifestField::Docu
 const MANIFEST: &str =
     "{'bill':'44136fa355b3678a1146ad16f7e8649e94fb4fc21fe77e8310c060f61caaff8a','documents':[{'checksum':'ba7816bf8f01cfea414140de5dae2223b00361a396177a9cb410ff61f20015ad','media':'text/plain','name':'abc.txt','size':3}],'last':'ba7816bf8f01cfea414140de5dae2223b00361a396177a9cb410ff61f20015ad'}";
 
-fn sample_manifest(alloc: Global) -> Result<Manifest, Fail> {
+fn decoded(alloc: Global) -> Result<Manifest, Fail> {
     let json = json(alloc, MANIFEST)?;
-    let manifest = decode(alloc, &json)?;
-    Ok(manifest.copy(alloc)?)
+    let manifest = decode(alloc, &json);
+    drop(json);
+    Ok(manifest?)
+}
+
+fn sample_manifest(alloc: Global) -> Result<Manifest, Fail> {
+    let manifest = decoded(alloc)?;
+    let copy = manifest.copy(alloc);
+    drop(manifest);
+    Ok(copy?)
 }
 
 fn assert_piece(rt: &impl Abort, piece: &Piece) {
@@ -43,32 +51,73 @@ fn assert_manifest(rt: &impl Abort, manifest: &Manifest) {
     }
 }
 
+// The text of a manifest.
+fn written(alloc: Global, manifest: &Manifest) -> Result<ByteList, Fail> {
+    let json = encode(alloc, manifest)?;
+    let text = write(alloc, &json);
+    drop(json);
+    Ok(text?)
+}
+
+fn assert_text(rt: &impl Abort, alloc: Global, text: &[u8]) -> Result<(), Fail> {
+    let want = quoted(alloc, MANIFEST)?;
+    assert_eq!(rt; text, want.as_slice());
+    Ok(())
+}
+
+fn assert_encoded(rt: &impl Abort, alloc: Global, manifest: &Manifest) -> Result<(), Fail> {
+    let text = written(alloc, manifest)?;
+    assert_text(rt, alloc, text.as_slice())
+}
+
 #[test]
 fn a_manifest_there_and_back(rt: HostRuntime) -> Result<(), Fail> {
     let manifest = sample_manifest(rt.alloc())?;
     assert_manifest(&rt, &manifest);
-    let written = encode(rt.alloc(), &manifest)?;
-    let text = write(rt.alloc(), &written)?;
-    assert_eq!(rt; text.as_slice(), quoted(rt.alloc(), MANIFEST)?.as_slice());
+    let encoded = assert_encoded(&rt, rt.alloc(), &manifest);
+    drop(manifest);
+    encoded
+}
+
+// Whether a document is read once it is written.
+fn is_piece_read(alloc: Global, piece: &Piece) -> Result<bool, NoMemory> {
+    let json = encode_piece(alloc, piece)?;
+    let is_read = decode_piece(alloc, &json).is_ok();
+    drop(json);
+    Ok(is_read)
+}
+
+fn assert_pieces(rt: &impl Abort, alloc: Global, manifest: &Manifest) -> Result<(), Fail> {
+    for piece in manifest.documents.as_slice() {
+        assert!(rt; is_piece_read(alloc, piece)?);
+    }
+    Ok(())
+}
+
+// A whole manifest is no document.
+fn assert_no_piece(rt: &impl Abort, alloc: Global) -> Result<(), Fail> {
+    let whole = json(alloc, MANIFEST)?;
+    let fault = decode_piece(alloc, &whole).err();
+    drop(whole);
+    assert!(rt; fault == Some(DOCUMENTS));
     Ok(())
 }
 
 #[test]
 fn a_document_alone(rt: HostRuntime) -> Result<(), Fail> {
     let manifest = sample_manifest(rt.alloc())?;
-    for piece in manifest.documents.as_slice() {
-        let alone = encode_piece(rt.alloc(), piece)?;
-        assert!(rt; decode_piece(rt.alloc(), &alone).is_ok());
-    }
-    let whole = json(rt.alloc(), MANIFEST)?;
-    assert!(rt; decode_piece(rt.alloc(), &whole).err() == Some(DOCUMENTS));
-    Ok(())
+    let pieces = assert_pieces(&rt, rt.alloc(), &manifest);
+    drop(manifest);
+    pieces?;
+    assert_no_piece(&rt, rt.alloc())
 }
 
 // What the text is refused for.
 fn refused(alloc: Global, text: &str) -> Option<ManifestFault> {
     let json = json(alloc, text).ok()?;
-    decode(alloc, &json).err()
+    let fault = decode(alloc, &json).err();
+    drop(json);
+    fault
 }
 
 // Each has a second fault behind the first where there can be one.
@@ -113,10 +162,12 @@ fn piece(alloc: Global, name: &str, media: &str, size: u32, byte: u8) -> Result<
     })
 }
 
-// Whether the document is read once it is written.
+// Whether such a document is read once it is written.
 fn is_read(alloc: Global, name: &str, media: &str, size: u32) -> Result<bool, NoMemory> {
-    let json = encode_piece(alloc, &piece(alloc, name, media, size, 0)?)?;
-    Ok(decode_piece(alloc, &json).is_ok())
+    let piece = piece(alloc, name, media, size, 0)?;
+    let is_read = is_piece_read(alloc, &piece);
+    drop(piece);
+    is_read
 }
 
 fn repeated(alloc: Global, part: &str, count: usize) -> Result<String, AllocError> {
@@ -134,14 +185,28 @@ fn is_read_of(alloc: Global, part: &str, names: usize, medias: usize) -> Result<
     is_read(alloc, name.as_str(), media.as_str(), 0)
 }
 
+// A part, how many of it are a name and a media type, and whether these are read.
+const LENGTHS: [(&str, usize, usize, bool); 9] = [
+    ("a", 128, 64, true),
+    ("a", 129, 1, false),
+    ("a", 1, 65, false),
+    ("\u{e9}", 64, 32, true),
+    ("\u{e9}", 65, 1, false),
+    ("\u{e9}", 1, 33, false),
+    ("\u{1f600}", 32, 16, true),
+    ("\u{1f600}", 33, 1, false),
+    ("\u{1f600}", 1, 17, false),
+];
+
 // Lengths are counted in bytes of UTF-8: 128 and 129 of a name, 64 and 65 of a media type.
 #[test]
 fn texts_at_their_limits(rt: HostRuntime) -> Result<(), Fail> {
-    let alloc = rt.alloc();
-    for (part, names, medias) in [("a", 128, 64), ("\u{e9}", 64, 32), ("\u{1f600}", 32, 16)] {
-        assert!(rt; is_read_of(alloc, part, names, medias)?, "{part}");
-        assert!(rt; !is_read_of(alloc, part, names + 1, 1)?, "{part}");
-        assert!(rt; !is_read_of(alloc, part, 1, medias + 1)?, "{part}");
+    for &(part, names, medias, taken) in &LENGTHS {
+        assert_eq!(rt;
+            is_read_of(rt.alloc(), part, names, medias)?,
+            taken,
+            "{part}"
+        );
     }
     Ok(())
 }
@@ -158,11 +223,17 @@ const CONTROLS: [(&str, bool); 9] = [
     ("\u{20ac}", true),
 ];
 
+// Whether the text is taken for a name and for a media type.
+fn control_row(rt: &impl Abort, alloc: Global, text: &str, taken: bool) -> Result<(), Fail> {
+    assert_eq!(rt; is_read(alloc, text, "a", 0)?, taken, "{text}");
+    assert_eq!(rt; is_read(alloc, "a", text, 0)?, taken, "{text}");
+    Ok(())
+}
+
 #[test]
 fn texts_without_control_characters(rt: HostRuntime) -> Result<(), Fail> {
     for &(text, taken) in &CONTROLS {
-        assert_eq!(rt; is_read(rt.alloc(), text, "a", 0)?, taken, "{text}");
-        assert_eq!(rt; is_read(rt.alloc(), "a", text, 0)?, taken, "{text}");
+        control_row(&rt, rt.alloc(), text, taken)?;
     }
     Ok(())
 }
@@ -180,11 +251,19 @@ fn listing(alloc: Global, listed: &[(u32, u8)]) -> Result<Manifest, NoMemory> {
     })
 }
 
+fn encoded_list(alloc: Global, listed: &[(u32, u8)]) -> Result<Json, NoMemory> {
+    let manifest = listing(alloc, listed)?;
+    let json = encode(alloc, &manifest);
+    drop(manifest);
+    json
+}
+
 // What such a manifest is refused for, once it is written.
 fn refused_list(alloc: Global, listed: &[(u32, u8)]) -> Result<Option<ManifestFault>, NoMemory> {
-    let manifest = listing(alloc, listed)?;
-    let json = encode(alloc, &manifest)?;
-    Ok(decode(alloc, &json).err())
+    let json = encoded_list(alloc, listed)?;
+    let fault = decode(alloc, &json).err();
+    drop(json);
+    Ok(fault)
 }
 
 const HALF: u32 = 2_097_152;
@@ -267,7 +346,9 @@ const BODY: &str =
 
 fn body_of(alloc: Global, text: &str) -> Result<Body, Fail> {
     let bytes = quoted(alloc, text)?;
-    Ok(Body::read(alloc, &bytes)?)
+    let body = Body::read(alloc, &bytes);
+    drop(bytes);
+    Ok(body?)
 }
 
 fn assert_body(rt: &impl Abort, body: &Body) {
@@ -277,41 +358,89 @@ fn assert_body(rt: &impl Abort, body: &Body) {
     assert_eq!(rt; body.chain.len(), 2);
 }
 
+fn copy_written(alloc: Global, body: &Body) -> Result<ByteList, NoMemory> {
+    let copy = body.copy(alloc)?;
+    let text = copy.write(alloc);
+    drop(copy);
+    text
+}
+
+fn assert_body_text(rt: &impl Abort, alloc: Global, text: &[u8]) -> Result<(), Fail> {
+    let want = quoted(alloc, BODY)?;
+    assert_eq!(rt; text, want.as_slice());
+    Ok(())
+}
+
+fn assert_copy_written(rt: &impl Abort, alloc: Global, body: &Body) -> Result<(), Fail> {
+    let text = copy_written(alloc, body)?;
+    assert_body_text(rt, alloc, text.as_slice())
+}
+
+fn assert_body_written(rt: &impl Abort, alloc: Global, body: &Body) -> Result<(), Fail> {
+    let text = body.write(alloc)?;
+    assert_body_text(rt, alloc, text.as_slice())
+}
+
 // Whether a body and its copy are written so.
 fn assert_written(rt: &impl Abort, alloc: Global, body: &Body) -> Result<(), Fail> {
-    let want = quoted(alloc, BODY)?;
-    let text = body.write(alloc)?;
-    assert_eq!(rt; text.as_slice(), want.as_slice());
-    let copy = body.copy(alloc)?;
-    assert_eq!(rt; copy.write(alloc)?.as_slice(), want.as_slice());
-    Ok(())
+    assert_body_written(rt, alloc, body)?;
+    assert_copy_written(rt, alloc, body)
+}
+
+fn assert_came(rt: &impl Abort, alloc: Global) -> Result<(), Fail> {
+    let body = body_of(alloc, CAME)?;
+    assert_body(rt, &body);
+    let written = assert_written(rt, alloc, &body);
+    drop(body);
+    written
+}
+
+fn assert_again(rt: &impl Abort, alloc: Global) -> Result<(), Fail> {
+    let body = body_of(alloc, BODY)?;
+    let written = assert_written(rt, alloc, &body);
+    drop(body);
+    written
 }
 
 #[test]
 fn a_body_there_and_back(rt: HostRuntime) -> Result<(), Fail> {
-    let body = body_of(rt.alloc(), CAME)?;
-    assert_body(&rt, &body);
-    assert_written(&rt, rt.alloc(), &body)?;
-    let again = body_of(rt.alloc(), BODY)?;
-    assert_written(&rt, rt.alloc(), &again)
+    assert_came(&rt, rt.alloc())?;
+    assert_again(&rt, rt.alloc())
 }
 
 // A body with a chain of one text and so many more.
 fn chained(alloc: Global, count: usize) -> Result<String, AllocError> {
     let mut text = String::from_str(alloc, "{'document':{},'manifest':'m','chain':['t'")?;
-    for _ in 0..count {
-        text.push_str(",'t'")?;
-    }
-    text.push_str("]}")?;
+    push_chain(&mut text, count)?;
     Ok(text)
 }
 
+fn push_chain(text: &mut String, count: usize) -> Result<(), AllocError> {
+    for _ in 0..count {
+        text.push_str(",'t'")?;
+    }
+    text.push_str("]}")
+}
+
+fn chained_body(alloc: Global, count: usize) -> Result<Body, Fail> {
+    let text = chained(alloc, count)?;
+    body_of(alloc, text.as_str())
+}
+
+// How many texts are in the chain of such a body.
+fn chain_length(alloc: Global, count: usize) -> Result<usize, Fail> {
+    let body = chained_body(alloc, count)?;
+    let length = body.chain.len();
+    drop(body);
+    Ok(length)
+}
+
+const CHAINS: [(usize, usize); 3] = [(0, 1), (1, 2), (65, 66)];
+
 #[test]
 fn a_chain_of_any_length(rt: HostRuntime) -> Result<(), Fail> {
-    for count in [0, 1, 65] {
-        let text = chained(rt.alloc(), count)?;
-        let body = body_of(rt.alloc(), text.as_str())?;
-        assert_eq!(rt; body.chain.len(), count + 1);
+    for &(count, length) in &CHAINS {
+        assert_eq!(rt; chain_length(rt.alloc(), count)?, length);
     }
     Ok(())
 }

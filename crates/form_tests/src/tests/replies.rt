@@ -15,17 +15,28 @@ use transport_document::{DocumentFault, DocumentField};
 
 const BILL: Checksum = Checksum([0x44; 32]);
 
-fn json_row(rt: &impl Abort, alloc: Global, reply: Reply, text: &str) -> Result<(), NoMemory> {
-    match reply_body(alloc, reply)? {
+fn assert_json(rt: &impl Abort, body: &ReplyBody, text: &str) {
+    match body {
         ReplyBody::Json(body) => assert_eq!(rt; body.as_slice(), text.as_bytes(), "{text}"),
         _ => panic!(rt; "no JSON in place of {text}"),
     }
+}
+
+fn json_row(rt: &impl Abort, alloc: Global, reply: Reply, text: &str) -> Result<(), NoMemory> {
+    let body = reply_body(alloc, reply)?;
+    assert_json(rt, &body, text);
+    drop(body);
     Ok(())
+}
+
+fn assert_nothing(rt: &impl Abort, body: &ReplyBody) {
+    assert!(rt; matches!(body, ReplyBody::Nothing), "{body:?}");
 }
 
 fn nothing_row(rt: &impl Abort, alloc: Global, reply: Reply) -> Result<(), NoMemory> {
     let body = reply_body(alloc, reply)?;
-    assert!(rt; matches!(&body, ReplyBody::Nothing), "{body:?}");
+    assert_nothing(rt, &body);
+    drop(body);
     Ok(())
 }
 
@@ -38,37 +49,27 @@ fn refusals_of_one_word(rt: HostRuntime) -> Result<(), Fail> {
     Ok(())
 }
 
+const NOT_HERE: [(PlaceTag, &str); 2] = [
+    (PlaceTag::Absent, r#"{"place":"ABSENT","reply":"NOT_HERE"}"#),
+    (
+        PlaceTag::Parting,
+        r#"{"place":"PARTING","reply":"NOT_HERE"}"#,
+    ),
+];
+
+const NOT_PARTING: [(PlaceTag, &str); 2] = [
+    (PlaceTag::Held, r#"{"place":"HELD","reply":"NOT_PARTING"}"#),
+    (PlaceTag::Gone, r#"{"place":"GONE","reply":"NOT_PARTING"}"#),
+];
+
 #[test]
 fn refusals_by_a_place(rt: HostRuntime) -> Result<(), Fail> {
-    let alloc = rt.alloc();
-    let absent = Reply::NotHere(PlaceTag::Absent);
-    json_row(
-        &rt,
-        alloc,
-        absent,
-        r#"{"place":"ABSENT","reply":"NOT_HERE"}"#,
-    )?;
-    let parting = Reply::NotHere(PlaceTag::Parting);
-    json_row(
-        &rt,
-        alloc,
-        parting,
-        r#"{"place":"PARTING","reply":"NOT_HERE"}"#,
-    )?;
-    let held = Reply::NotParting(PlaceTag::Held);
-    json_row(
-        &rt,
-        alloc,
-        held,
-        r#"{"place":"HELD","reply":"NOT_PARTING"}"#,
-    )?;
-    let gone = Reply::NotParting(PlaceTag::Gone);
-    json_row(
-        &rt,
-        alloc,
-        gone,
-        r#"{"place":"GONE","reply":"NOT_PARTING"}"#,
-    )?;
+    for &(place, text) in &NOT_HERE {
+        json_row(&rt, rt.alloc(), Reply::NotHere(place), text)?;
+    }
+    for &(place, text) in &NOT_PARTING {
+        json_row(&rt, rt.alloc(), Reply::NotParting(place), text)?;
+    }
     Ok(())
 }
 
@@ -263,18 +264,15 @@ fn started(missing: ChecksumList) -> Reply {
 #[test]
 fn a_transfer_that_starts(rt: HostRuntime) -> Result<(), Fail> {
     let alloc = rt.alloc();
-    let mut one = ChecksumList::new(alloc);
-    one.push(BILL)?;
+    let one = ChecksumList::from_slice(alloc, &[BILL])?;
     let text =
         r#"{"missing":["4444444444444444444444444444444444444444444444444444444444444444"],"reference":"11111111-1111-1111-1111-111111111111"}"#;
     json_row(&rt, alloc, started(one), text)?;
     Ok(())
 }
 
-#[test]
-fn a_signed_answer(rt: HostRuntime) -> Result<(), Fail> {
-    let alloc = rt.alloc();
-    let response = Response {
+fn received(alloc: Global) -> Response {
+    Response {
         code: Code::Received,
         bill: None,
         last: None,
@@ -285,11 +283,31 @@ fn a_signed_answer(rt: HostRuntime) -> Result<(), Fail> {
             own: None,
             theirs: None,
         },
-    };
-    let text = SignedText::from_bytes(alloc, ByteList::from_slice(alloc, b"a.b.c")?)?;
-    match reply_body(alloc, Reply::Answer { response, text })? {
+    }
+}
+
+fn signed_text(alloc: Global) -> Result<SignedText, NoMemory> {
+    SignedText::from_bytes(alloc, ByteList::from_slice(alloc, b"a.b.c")?)
+}
+
+// The body of an answer with that text.
+fn answer_body(alloc: Global) -> Result<ReplyBody, NoMemory> {
+    let text = signed_text(alloc)?;
+    let response = received(alloc);
+    reply_body(alloc, Reply::Answer { response, text })
+}
+
+fn assert_signed(rt: &impl Abort, body: &ReplyBody) {
+    match body {
         ReplyBody::Signed(text) => assert_eq!(rt; text.0.as_slice(), b"a.b.c".as_slice()),
         _ => panic!(rt; "no signed text"),
     }
+}
+
+#[test]
+fn a_signed_answer(rt: HostRuntime) -> Result<(), Fail> {
+    let body = answer_body(rt.alloc())?;
+    assert_signed(&rt, &body);
+    drop(body);
     Ok(())
 }

@@ -5,15 +5,17 @@ ghost use Rattle.platform_requests.specs.Request.{request_view};
 use crate::tests::making::{party, platform};
 use canonical_json::read;
 use ebl_base::{
-    ByteList, Checksum, ChecksumList, Code, Copied, Evidence, Kind, Moment, NoMemory, PlaceTag,
-    PlatformCode, Reference, SharedBytes, SignedText,
+    ByteList, Checksum, ChecksumList, Code, Copied, Evidence, Kind, Moment, NoMemory, Party,
+    PlaceTag, PlatformCode, Reference, SharedBytes, SignedText,
 };
 use holder_commands::Command;
 use pint_responses::Response;
 use platform_requests::{
-    Desk, IgnoreReason, MemoryDesk, Message, MessageList, Outcome, Reply, Request, shard_of, suits,
+    Desk, IgnoreReason, KeptCall, MemoryDesk, Message, MessageList, Outcome, Reply, Request,
+    shard_of, suits,
 };
 use std::alloc::Global;
+use std::process::Abort;
 use std::test::Fail;
 
 const DOCUMENT: &[u8] =
@@ -36,7 +38,9 @@ fn reference(first: u8) -> Reference {
 
 // The shard of a request that is given away.
 fn shard(alloc: Global, request: Request) -> Result<u32, NoMemory> {
-    shard_of(alloc, &request)
+    let shard = shard_of(alloc, &request);
+    drop(request);
+    shard
 }
 
 fn start_shard(alloc: Global, body: &[u8]) -> Result<u32, NoMemory> {
@@ -164,9 +168,16 @@ fn a_question_goes_by_its_bill(rt: HostRuntime) -> Result<(), Fail> {
     Ok(())
 }
 
+fn copied_put(alloc: Global, first: u8) -> Result<Request, NoMemory> {
+    let request = put(alloc, first);
+    let copy = request.copy(alloc);
+    drop(request);
+    copy
+}
+
 #[test]
 fn a_request_is_copied(rt: HostRuntime) -> Result<(), Fail> {
-    let copy = put(rt.alloc(), 0x1F).copy(rt.alloc())?;
+    let copy = copied_put(rt.alloc(), 0x1F)?;
     assert_eq!(rt; shard(rt.alloc(), copy)?, 15);
     Ok(())
 }
@@ -190,16 +201,29 @@ fn answer(alloc: Global, code: Code) -> Reply {
     }
 }
 
+fn copied_answer(alloc: Global, code: Code) -> Result<Reply, NoMemory> {
+    let reply = answer(alloc, code);
+    let copy = reply.copy(alloc);
+    drop(reply);
+    copy
+}
+
+fn assert_same(rt: &impl Abort, word: &str, want: &str) {
+    assert_eq!(rt; word, want);
+}
+
+fn assert_word(rt: &impl Abort, reply: Reply, want: &str) {
+    assert_same(rt, reply.as_str(), want);
+    drop(reply);
+}
+
 #[test]
 fn words_of_replies(rt: HostRuntime) -> Result<(), Fail> {
-    let copy = answer(rt.alloc(), Code::DisputedEnvelope).copy(rt.alloc())?;
-    assert_eq!(rt; copy.as_str(), "DISE");
-    assert_eq!(rt; Reply::NotHere(PlaceTag::Gone).as_str(), "NOT_HERE");
-    assert_eq!(rt;
-        Reply::Ignored(IgnoreReason::OtherEntry).as_str(),
-        "IGNORED"
-    );
-    assert_eq!(rt; IgnoreReason::OtherEntry.as_str(), "OTHER_ENTRY");
+    let copy = copied_answer(rt.alloc(), Code::DisputedEnvelope)?;
+    assert_word(&rt, copy, "DISE");
+    assert_word(&rt, Reply::NotHere(PlaceTag::Gone), "NOT_HERE");
+    assert_word(&rt, Reply::Ignored(IgnoreReason::OtherEntry), "IGNORED");
+    assert_same(&rt, IgnoreReason::OtherEntry.as_str(), "OTHER_ENTRY");
     Ok(())
 }
 
@@ -248,26 +272,55 @@ fn stored(alloc: Global, count: usize) -> Result<Outcome, Fail> {
     })
 }
 
-fn suits_with(alloc: Global, request: Request, count: usize) -> Result<bool, Fail> {
-    let outcome = stored(alloc, count)?;
-    Ok(suits(&request, &outcome))
+// Whether the outcome suits a request that is given away.
+fn is_suited(request: Request, outcome: &Outcome) -> bool {
+    let may = suits(&request, outcome);
+    drop(request);
+    may
 }
+
+fn assert_suited(rt: &impl Abort, request: Request, outcome: &Outcome, may: bool) {
+    assert_eq!(rt; is_suited(request, outcome), may);
+}
+
+fn start_reply_row(rt: &impl Abort, alloc: Global, count: usize, may: bool) -> Result<(), Fail> {
+    let outcome = stored(alloc, count)?;
+    assert_suited(rt, start_reply(alloc, 1), &outcome, may);
+    drop(outcome);
+    Ok(())
+}
+
+// How many Puts, and whether they and a Finish may come of a reply to a start.
+const PUTS: [(usize, bool); 3] = [(0, true), (16, true), (17, false)];
 
 #[test]
 fn puts_and_a_finish_come_of_a_start_reply(rt: HostRuntime) -> Result<(), Fail> {
-    for (count, may) in [(0, true), (16, true), (17, false)] {
-        let request = start_reply(rt.alloc(), 1);
-        assert_eq!(rt; suits_with(rt.alloc(), request, count)?, may);
+    for &(count, may) in &PUTS {
+        start_reply_row(&rt, rt.alloc(), count, may)?;
     }
+    Ok(())
+}
+
+fn assert_no_finish(rt: &impl Abort, alloc: Global) -> Result<(), Fail> {
+    let outcome = stored(alloc, 0)?;
+    assert_suited(rt, finish_reply(alloc, 1), &outcome, false);
+    assert_suited(rt, Request::Resend { bill: bill(1) }, &outcome, false);
+    drop(outcome);
+    Ok(())
+}
+
+// Whatever comes of a question suits it.
+fn assert_question(rt: &impl Abort, alloc: Global) -> Result<(), Fail> {
+    let outcome = stored(alloc, 17)?;
+    assert_suited(rt, Request::Ask { bill: bill(1) }, &outcome, true);
+    drop(outcome);
     Ok(())
 }
 
 #[test]
 fn no_finish_comes_of_other_requests(rt: HostRuntime) -> Result<(), Fail> {
-    assert!(rt; !suits_with(rt.alloc(), finish_reply(rt.alloc(), 1), 0)?);
-    assert!(rt; !suits_with(rt.alloc(), Request::Resend { bill: bill(1) }, 0)?);
-    assert!(rt; suits_with(rt.alloc(), Request::Ask { bill: bill(1) }, 17)?);
-    Ok(())
+    assert_no_finish(&rt, rt.alloc())?;
+    assert_question(&rt, rt.alloc())
 }
 
 // One Start.
@@ -281,10 +334,18 @@ fn started_again(alloc: Global) -> Result<Outcome, Fail> {
     })
 }
 
+fn copied_start(alloc: Global) -> Result<Outcome, Fail> {
+    let outcome = started_again(alloc)?;
+    let copy = outcome.copy(alloc);
+    drop(outcome);
+    Ok(copy?)
+}
+
 #[test]
 fn a_start_comes_of_a_resend(rt: HostRuntime) -> Result<(), Fail> {
-    let again = started_again(rt.alloc())?.copy(rt.alloc())?;
-    assert!(rt; suits(&Request::Resend { bill: bill(1) }, &again));
+    let again = copied_start(rt.alloc())?;
+    assert_suited(&rt, Request::Resend { bill: bill(1) }, &again, true);
+    drop(again);
     Ok(())
 }
 
@@ -300,60 +361,103 @@ fn started(alloc: Global) -> Outcome {
 
 #[test]
 fn a_started_names_documents(rt: HostRuntime) -> Result<(), Fail> {
-    assert!(rt; !suits(&Request::Ask { bill: bill(1) }, &started(rt.alloc())));
+    let outcome = started(rt.alloc());
+    assert_suited(&rt, Request::Ask { bill: bill(1) }, &outcome, false);
+    drop(outcome);
     Ok(())
 }
 
-// A desk with one outcome: a Finish.
-fn desk(alloc: Global) -> Result<MemoryDesk, Fail> {
+// The one party that the desk knows.
+fn importers(alloc: Global) -> Result<Vec<Party>, Fail> {
     let party = party("BETA/IMPORT")?;
-    let mut parties = Vec::new(alloc);
-    parties.push(party)?;
+    Ok(Vec::from_slice(alloc, &[party])?)
+}
+
+// One outcome: a Finish.
+fn outcomes(alloc: Global) -> Result<Vec<Outcome>, Fail> {
+    let outcome = stored(alloc, 0)?;
     let mut outcomes = Vec::new(alloc);
-    outcomes.push(stored(alloc, 0)?)?;
+    outcomes.push(outcome)?;
+    Ok(outcomes)
+}
+
+fn desk(alloc: Global) -> Result<MemoryDesk, Fail> {
+    let parties = importers(alloc)?;
+    let outcomes = outcomes(alloc)?;
     Ok(MemoryDesk::new(alloc, outcomes, parties))
 }
 
+fn moment() -> Result<Moment, Fail> {
+    Ok(Moment::try_new(5).ok_or("a moment")?)
+}
+
 // How many messages come of a request.
-fn taken(alloc: Global, desk: &mut MemoryDesk, request: Request) -> Result<usize, Fail>
+fn taken(alloc: Global, desk: &mut MemoryDesk, now: Moment, request: Request) -> usize
     requires { MayAsk (request_view request) }
 {
-    let now = Moment::try_new(5).ok_or("a moment")?;
-    Ok(desk.take(alloc, now, request).messages.len())
+    let outcome = desk.take(alloc, now, request);
+    let count = outcome.messages.len();
+    drop(outcome);
+    count
+}
+
+// One message comes of a reply to a start, and none of one to a finish.
+fn takes_start_reply(rt: &impl Abort, alloc: Global, desk: &mut MemoryDesk) -> Result<(), Fail> {
+    let now = moment()?;
+    assert_eq!(rt; taken(alloc, desk, now, start_reply(alloc, 1)), 1);
+    Ok(())
+}
+
+fn takes_finish_reply(rt: &impl Abort, alloc: Global, desk: &mut MemoryDesk) -> Result<(), Fail> {
+    let now = moment()?;
+    assert_eq!(rt; taken(alloc, desk, now, finish_reply(alloc, 1)), 0);
+    Ok(())
+}
+
+fn assert_calls(rt: &impl Abort, calls: &[KeptCall]) {
+    assert_eq!(rt; calls.len(), 2);
+    assert_eq!(rt; calls[0].outcome.messages.len(), 1);
+    assert_eq!(rt; calls[1].now.number(), 5);
+}
+
+fn assert_kept(rt: &impl Abort, desk: &MemoryDesk) -> Result<(), Fail> {
+    let calls = desk.calls().ok_or("kept calls")?;
+    assert_calls(rt, calls);
+    Ok(())
+}
+
+fn gives_and_keeps(rt: &impl Abort, alloc: Global, desk: &mut MemoryDesk) -> Result<(), Fail> {
+    takes_start_reply(rt, alloc, desk)?;
+    takes_finish_reply(rt, alloc, desk)?;
+    assert_kept(rt, desk)
 }
 
 #[test]
 fn a_desk_in_memory_gives_and_keeps(rt: HostRuntime) -> Result<(), Fail> {
     let mut desk = desk(rt.alloc())?;
-    assert_eq!(rt;
-        taken(rt.alloc(), &mut desk, start_reply(rt.alloc(), 1))?,
-        1
-    );
-    assert_eq!(rt;
-        taken(rt.alloc(), &mut desk, finish_reply(rt.alloc(), 1))?,
-        0
-    );
-    let calls = desk.calls().ok_or("kept calls")?;
-    assert_eq!(rt; calls.len(), 2);
-    assert_eq!(rt; calls[0].outcome.messages.len(), 1);
-    assert_eq!(rt; calls[1].now.number(), 5);
-    Ok(())
+    let kept = gives_and_keeps(&rt, rt.alloc(), &mut desk);
+    drop(desk);
+    kept
 }
 
 #[test]
 fn an_outcome_that_does_not_suit_is_not_given(rt: HostRuntime) -> Result<(), Fail> {
     let mut desk = desk(rt.alloc())?;
-    assert_eq!(rt;
-        taken(rt.alloc(), &mut desk, finish_reply(rt.alloc(), 1))?,
-        0
-    );
+    let taken = takes_finish_reply(&rt, rt.alloc(), &mut desk);
+    drop(desk);
+    taken
+}
+
+fn assert_parties(rt: &impl Abort, desk: &MemoryDesk) -> Result<(), Fail> {
+    assert!(rt; desk.knows(party("BETA/IMPORT")?));
+    assert!(rt; !desk.knows(party("BETA/OTHER")?));
     Ok(())
 }
 
 #[test]
 fn a_desk_in_memory_knows_its_parties(rt: HostRuntime) -> Result<(), Fail> {
     let desk = desk(rt.alloc())?;
-    assert!(rt; desk.knows(party("BETA/IMPORT")?));
-    assert!(rt; !desk.knows(party("BETA/OTHER")?));
-    Ok(())
+    let known = assert_parties(&rt, &desk);
+    drop(desk);
+    known
 }

@@ -1,7 +1,7 @@
 //! Uploads beside what is stored, references, and answers in and out of their form. In these texts `'` stands for `"`.
 use crate::tests::making::quoted;
 use document_checksum::checksum;
-use ebl_base::{CharList, Checksum, ChecksumList, Copied, NoMemory, Reference};
+use ebl_base::{ByteList, CharList, Checksum, ChecksumList, Copied, NoMemory, Reference};
 use envelope_manifest::{Manifest, Piece, PieceList};
 use std::alloc::Global;
 use std::process::Abort;
@@ -33,7 +33,27 @@ fn listing(alloc: Global, listed: &[&[u8]]) -> Result<Manifest, NoMemory> {
     })
 }
 
+fn missing_among(
+    alloc: Global,
+    manifest: &Manifest,
+    stored: &[Checksum],
+) -> Result<ChecksumList, NoMemory> {
+    let stored = ChecksumList::from_slice(alloc, stored)?;
+    missing(alloc, manifest, &stored)
+}
+
 // What is missing of such a manifest where these bytes are stored.
+fn missing_of(
+    alloc: Global,
+    listed: &[&[u8]],
+    stored: &[Checksum],
+) -> Result<ChecksumList, NoMemory> {
+    let manifest = listing(alloc, listed)?;
+    let missing = missing_among(alloc, &manifest, stored);
+    drop(manifest);
+    missing
+}
+
 fn missing_row(
     rt: &impl Abort,
     alloc: Global,
@@ -41,9 +61,7 @@ fn missing_row(
     stored: &[Checksum],
     want: &[Checksum],
 ) -> Result<(), NoMemory> {
-    let manifest = listing(alloc, listed)?;
-    let stored = ChecksumList::from_slice(alloc, stored)?;
-    let found = missing(alloc, &manifest, &stored)?;
+    let found = missing_of(alloc, listed, stored)?;
     assert_eq!(rt; found.as_slice(), want);
     Ok(())
 }
@@ -66,14 +84,23 @@ fn what_is_missing(rt: HostRuntime) -> Result<(), Fail> {
     Ok(())
 }
 
+fn assert_fits(rt: &impl Abort, listed: &Piece) {
+    assert!(rt; fits(listed, b"abc"));
+    assert!(rt; !fits(listed, b"abd"));
+    assert!(rt; !fits(listed, b"{}"));
+}
+
+fn assert_no_fit(rt: &impl Abort, listed: &Piece) {
+    assert!(rt; !fits(listed, b"abc"));
+}
+
 #[test]
 fn which_bytes_fit(rt: HostRuntime) -> Result<(), Fail> {
     let mut listed = piece(rt.alloc(), b"abc")?;
-    assert!(rt; fits(&listed, b"abc"));
-    assert!(rt; !fits(&listed, b"abd"));
-    assert!(rt; !fits(&listed, b"{}"));
+    assert_fits(&rt, &listed);
     listed.size = 4;
-    assert!(rt; !fits(&listed, b"abc"));
+    assert_no_fit(&rt, &listed);
+    drop(listed);
     Ok(())
 }
 
@@ -129,17 +156,32 @@ const WRITTEN: &str =
 
 fn sample_answer(alloc: Global) -> Result<Started, Fail> {
     let came = quoted(alloc, CAME)?;
-    Ok(started_read(alloc, &came)?)
+    let started = started_read(alloc, &came);
+    drop(came);
+    Ok(started?)
+}
+
+fn assert_started(rt: &impl Abort, started: &Started) {
+    assert_eq!(rt; Some(started.reference), reference_from(TEXT.as_bytes()));
+    assert_eq!(rt; started.missing.as_slice(), [checksum(b"abc")].as_slice());
+}
+
+fn assert_text(rt: &impl Abort, alloc: Global, text: &[u8]) -> Result<(), Fail> {
+    let want = quoted(alloc, WRITTEN)?;
+    assert_eq!(rt; text, want.as_slice());
+    Ok(())
+}
+
+fn assert_written(rt: &impl Abort, alloc: Global, started: &Started) -> Result<(), Fail> {
+    let text = started_write(alloc, started)?;
+    assert_text(rt, alloc, text.as_slice())
 }
 
 #[test]
 fn an_answer_there_and_back(rt: HostRuntime) -> Result<(), Fail> {
     let started = sample_answer(rt.alloc())?;
-    assert_eq!(rt; Some(started.reference), reference_from(TEXT.as_bytes()));
-    assert_eq!(rt; started.missing.as_slice(), [checksum(b"abc")].as_slice());
-    let text = started_write(rt.alloc(), &started)?;
-    assert_eq!(rt; text.as_slice(), quoted(rt.alloc(), WRITTEN)?.as_slice());
-    Ok(())
+    assert_started(&rt, &started);
+    assert_written(&rt, rt.alloc(), &started)
 }
 
 // An answer of so many checksums.
@@ -154,16 +196,22 @@ fn started_of(alloc: Global, count: usize) -> Result<Started, NoMemory> {
     })
 }
 
+fn started_text(alloc: Global, count: usize) -> Result<ByteList, NoMemory> {
+    let started = started_of(alloc, count)?;
+    started_write(alloc, &started)
+}
+
 // Whether such an answer is read once it is written.
 fn is_read(alloc: Global, count: usize) -> Result<bool, NoMemory> {
-    let started = started_of(alloc, count)?;
-    let text = started_write(alloc, &started)?;
+    let text = started_text(alloc, count)?;
     Ok(started_read(alloc, text.as_slice()).is_ok())
 }
 
+const COUNTS: [(usize, bool); 4] = [(0, false), (1, true), (16, true), (17, false)];
+
 #[test]
 fn answers_of_so_many_checksums(rt: HostRuntime) -> Result<(), Fail> {
-    for (count, taken) in [(0, false), (1, true), (16, true), (17, false)] {
+    for &(count, taken) in &COUNTS {
         assert_eq!(rt; is_read(rt.alloc(), count)?, taken, "{count}");
     }
     Ok(())
@@ -193,13 +241,22 @@ fn texts_that_are_no_answers(rt: HostRuntime) {
     }
 }
 
+fn copy_of(alloc: Global, reference: Reference, names: &[Checksum]) -> Result<Started, NoMemory> {
+    let missing = ChecksumList::from_slice(alloc, names)?;
+    let started = Started { reference, missing };
+    started.copy(alloc)
+}
+
+fn assert_copy(rt: &impl Abort, copy: &Started, reference: Reference, names: &[Checksum]) {
+    assert!(rt; copy.reference == reference);
+    assert_eq!(rt; copy.missing.as_slice(), names);
+}
+
 #[test]
 fn copied_answer(rt: HostRuntime) -> Result<(), Fail> {
     let two = [checksum(b"abc"), checksum(b"{}")];
     let reference = reference_of(checksum(b"{}"), checksum(b"abc"));
-    let missing = ChecksumList::from_slice(rt.alloc(), &two)?;
-    let copy = Started { reference, missing }.copy(rt.alloc())?;
-    assert!(rt; copy.reference == reference);
-    assert_eq!(rt; copy.missing.as_slice(), two.as_slice());
+    let copy = copy_of(rt.alloc(), reference, &two)?;
+    assert_copy(&rt, &copy, reference, &two);
     Ok(())
 }

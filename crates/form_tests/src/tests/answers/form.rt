@@ -1,8 +1,9 @@
 //! Each member wrong in each way. In these texts `'` stands for `"`.
+use crate::tests::answers::unseal_fault;
 use crate::tests::making::{platform, quoted};
 use canonical_json::read;
 use ebl_base::SignedText;
-use pint_responses::{ResponseField, UnsealFault, unseal};
+use pint_responses::{ResponseField, UnsealFault};
 use signed_envelope::compose;
 use std::alloc::{AllocError, Global};
 use std::process::Abort;
@@ -19,14 +20,23 @@ const REQUIRED: [(&str, &str); 3] = [
 // A response with these members, behind those that a response must have and that aren't among them.
 fn payload_with(alloc: Global, members: &str) -> Result<String, AllocError> {
     let mut text = String::from_str(alloc, "{")?;
+    push_required(&mut text, members)?;
+    push_members(&mut text, members)?;
+    Ok(text)
+}
+
+fn push_required(text: &mut String, members: &str) -> Result<(), AllocError> {
     for &(name, member) in &REQUIRED {
         if !members.contains(name) {
             text.push_str(member)?;
         }
     }
+    Ok(())
+}
+
+fn push_members(text: &mut String, members: &str) -> Result<(), AllocError> {
     text.push_str(members)?;
-    text.push_str("}")?;
-    Ok(text)
+    text.push_str("}")
 }
 
 pub(crate) fn fault_with(
@@ -37,19 +47,25 @@ pub(crate) fn fault_with(
     fault_of(rt, text.as_str())
 }
 
-// The text of a payload, signed by ALPH.
-fn signed(alloc: Global, payload: &str) -> Result<SignedText, Fail> {
+// The text of a payload of these bytes, signed by ALPH.
+fn signed_bytes(alloc: Global, payload: &[u8]) -> Result<SignedText, Fail> {
     let alph = platform("ALPH")?;
-    let bytes = quoted(alloc, payload)?;
-    let json = read(alloc, &bytes)?;
+    let json = read(alloc, payload)?;
     let mut ring = KeyedRing::derived();
-    Ok(compose(alloc, &mut ring, alph, &json, 65_536)?)
+    let text = compose(alloc, &mut ring, alph, &json, 65_536);
+    drop(json);
+    Ok(text?)
+}
+
+fn signed(alloc: Global, payload: &str) -> Result<SignedText, Fail> {
+    let bytes = quoted(alloc, payload)?;
+    signed_bytes(alloc, &bytes)
 }
 
 fn fault_of(rt: &(impl Abort + AllocGlobal), payload: &str) -> Result<Option<UnsealFault>, Fail> {
     let alph = platform("ALPH")?;
     let text = signed(rt.alloc(), payload)?;
-    Ok(unseal(rt.alloc(), &KeyedRing::derived(), text.0.as_slice(), alph).err())
+    Ok(unseal_fault(rt.alloc(), alph, text.0.as_slice()))
 }
 
 // Members, and the one that is wrong.

@@ -3,28 +3,32 @@ ghost use Rattle.std.specs.Prelude.{IfOk};
 ghost use Rattle.pint_responses.specs.Response.{IsEvidence, IsSealable};
 
 use crate::tests::answers::form::fault_with;
-use crate::tests::answers::response;
+use crate::tests::answers::{response, sealed_by, unsealed};
 use crate::tests::making::platform;
 use document_checksum::checksum;
-use ebl_base::{ByteList, Checksum, ChecksumList, Code, Evidence, NoMemory, Reason, SignedText};
-use pint_responses::{Response, is_sealable, seal, unseal};
+use ebl_base::{
+    ByteList, Checksum, ChecksumList, Code, Evidence, NoMemory, PlatformCode, Reason, SignedText,
+};
+use pint_responses::{Response, is_sealable};
 use signed_envelope::is_compact;
 use std::alloc::Global;
 use std::process::Abort;
 use std::test::Fail;
-use test_signer::KeyedRing;
 
 // A header `{}`, a payload of zero bytes and a signature of 63 zero bytes, in so many characters.
 fn evidence_text(alloc: Global, len: usize) -> Result<Vec<u8>, Fail> {
     let mut text = b"e30.".to_vec(alloc)?;
-    for _ in 0..len.saturating_sub(89) {
-        text.push(b'A')?;
-    }
+    push_zeros(&mut text, len.saturating_sub(89))?;
     text.push(b'.')?;
-    for _ in 0..84 {
+    push_zeros(&mut text, 84)?;
+    Ok(text)
+}
+
+fn push_zeros(text: &mut Vec<u8>, count: usize) -> Result<(), Fail> {
+    for _ in 0..count {
         text.push(b'A')?;
     }
-    Ok(text)
+    Ok(())
 }
 
 fn longest_evidence(alloc: Global) -> Result<SignedText, Fail>
@@ -37,18 +41,32 @@ fn longest_evidence(alloc: Global) -> Result<SignedText, Fail>
     }
 }
 
-// An answer with this text as its own evidence.
-fn shown(alloc: Global, own: Vec<u8>, missing: ChecksumList) -> Result<Response, NoMemory> {
-    let own = Some(SignedText::from_bytes(alloc, ByteList::from_vec(own))?);
-    let theirs = None;
-    let mut r = response(Code::DisputedEnvelope, None, None, missing);
-    r.evidence = Evidence { own, theirs };
-    Ok(r)
+fn signed_text(alloc: Global, text: &[u8]) -> Result<SignedText, NoMemory> {
+    SignedText::from_bytes(alloc, ByteList::from_slice(alloc, text)?)
 }
 
-fn is_shown_sealable(alloc: Global, own: Vec<u8>) -> Result<bool, NoMemory> {
-    let r = shown(alloc, own, ChecksumList::new(alloc))?;
-    is_sealable(alloc, &r)
+// An answer with this text as its own evidence.
+fn shown(alloc: Global, own: &[u8]) -> Result<Response, NoMemory> {
+    let own = signed_text(alloc, own)?;
+    Ok(Response {
+        code: Code::DisputedEnvelope,
+        bill: None,
+        last: None,
+        standing: false,
+        reason: None,
+        missing: ChecksumList::new(alloc),
+        evidence: Evidence {
+            own: Some(own),
+            theirs: None,
+        },
+    })
+}
+
+fn is_shown_sealable(alloc: Global, own: &[u8]) -> Result<bool, NoMemory> {
+    let r = shown(alloc, own)?;
+    let sealable = is_sealable(alloc, &r);
+    drop(r);
+    sealable
 }
 
 fn own_member(alloc: Global, own: &[u8]) -> Result<String, Fail> {
@@ -56,14 +74,35 @@ fn own_member(alloc: Global, own: &[u8]) -> Result<String, Fail> {
     Ok(format!(in alloc; "'own':'{text}'")?)
 }
 
+fn assert_member(rt: &(impl Abort + AllocGlobal), own: &[u8]) -> Result<(), Fail> {
+    let member = own_member(rt.alloc(), own)?;
+    assert_eq!(rt; fault_with(rt, member.as_str())?, None);
+    Ok(())
+}
+
+fn assert_evidence(
+    rt: &(impl Abort + AllocGlobal),
+    own: &[u8],
+    len: usize,
+    sealable: bool,
+) -> Result<(), Fail> {
+    assert_eq!(rt; own.len(), len);
+    assert_member(rt, own)?;
+    assert_eq!(rt; is_shown_sealable(rt.alloc(), own)?, sealable);
+    Ok(())
+}
+
+fn evidence_row(rt: &(impl Abort + AllocGlobal), len: usize, sealable: bool) -> Result<(), Fail> {
+    let bytes = evidence_text(rt.alloc(), len)?;
+    assert_evidence(rt, &bytes, len, sealable)
+}
+
+const LENGTHS: [(usize, bool); 2] = [(16_384, true), (16_385, false)];
+
 #[test]
 fn evidence_that_can_be_sealed(rt: HostRuntime) -> Result<(), Fail> {
-    for (len, sealable) in [(16_384, true), (16_385, false)] {
-        let bytes = evidence_text(rt.alloc(), len)?;
-        assert_eq!(rt; bytes.len(), len);
-        let member = own_member(rt.alloc(), &bytes)?;
-        assert_eq!(rt; fault_with(&rt, member.as_str())?, None);
-        assert_eq!(rt; is_shown_sealable(rt.alloc(), bytes)?, sealable);
+    for &(len, sealable) in &LENGTHS {
+        evidence_row(&rt, len, sealable)?;
     }
     Ok(())
 }
@@ -71,7 +110,9 @@ fn evidence_that_can_be_sealed(rt: HostRuntime) -> Result<(), Fail> {
 fn is_list_sealable(alloc: Global, names: &[Checksum]) -> Result<bool, NoMemory> {
     let missing = ChecksumList::from_slice(alloc, names)?;
     let r = response(Code::MissingDocuments, None, None, missing);
-    is_sealable(alloc, &r)
+    let sealable = is_sealable(alloc, &r);
+    drop(r);
+    sealable
 }
 
 #[test]
@@ -79,33 +120,42 @@ fn missing_documents_that_can_be_sealed(rt: HostRuntime) -> Result<(), Fail> {
     let name = checksum(b"abc");
     assert_eq!(rt; is_list_sealable(rt.alloc(), &[name; 16])?, true);
     assert_eq!(rt; is_list_sealable(rt.alloc(), &[name; 17])?, false);
-    let other = b"e30.e31.AA".to_vec(rt.alloc())?;
-    assert_eq!(rt; is_shown_sealable(rt.alloc(), other)?, false);
+    assert_eq!(rt; is_shown_sealable(rt.alloc(), b"e30.e31.AA")?, false);
     Ok(())
 }
 
 fn longest(alloc: Global) -> Result<Response, Fail>
     ensures { IfOk result (λ r. IsSealable r) }
 {
+    let own = longest_evidence(alloc)?;
+    let theirs = longest_evidence(alloc)?;
     let name = checksum(b"abc");
     let missing = ChecksumList::from_slice(alloc, &[name; 16])?;
-    let mut r = response(
-        Code::BadSignature,
-        Some(Reason::Signature(usize::MAX)),
-        Some(name),
+    Ok(Response {
+        code: Code::BadSignature,
+        bill: Some(name),
+        last: Some(name),
+        standing: false,
+        reason: Some(Reason::Signature(usize::MAX)),
         missing,
-    );
-    r.standing = false;
-    r.evidence.own = Some(longest_evidence(alloc)?);
-    r.evidence.theirs = Some(longest_evidence(alloc)?);
-    Ok(r)
+        evidence: Evidence {
+            own: Some(own),
+            theirs: Some(theirs),
+        },
+    })
+}
+
+fn sealed_longest(alloc: Global) -> Result<SignedText, Fail> {
+    let alph = platform("ALPH")?;
+    let r = longest(alloc)?;
+    let text = sealed_by(alloc, alph, &r);
+    drop(r);
+    Ok(text?)
 }
 
 #[test]
 fn longest_response(rt: HostRuntime) -> Result<(), Fail> {
-    let alph = platform("ALPH")?;
-    let r = longest(rt.alloc())?;
-    let text = seal(rt.alloc(), &mut KeyedRing::derived(), alph, &r)?;
+    let text = sealed_longest(rt.alloc())?;
     // By Python's json, base64 and hmac.
     assert_eq!(rt; text.0.len(), 45_559);
     Ok(())
@@ -114,11 +164,34 @@ fn longest_response(rt: HostRuntime) -> Result<(), Fail> {
 fn disputed(alloc: Global) -> Result<Response, Fail>
     ensures { IfOk result (λ r. IsSealable r) }
 {
-    let missing = ChecksumList::new(alloc);
-    let mut r = response(Code::DisputedEnvelope, Some(Reason::Parts), None, missing);
-    r.standing = true;
-    r.evidence.theirs = Some(longest_evidence(alloc)?);
-    Ok(r)
+    let theirs = longest_evidence(alloc)?;
+    Ok(Response {
+        code: Code::DisputedEnvelope,
+        bill: None,
+        last: None,
+        standing: true,
+        reason: Some(Reason::Parts),
+        missing: ChecksumList::new(alloc),
+        evidence: Evidence {
+            own: None,
+            theirs: Some(theirs),
+        },
+    })
+}
+
+fn sealed_dispute(alloc: Global, who: PlatformCode) -> Result<SignedText, Fail> {
+    let r = disputed(alloc)?;
+    let text = sealed_by(alloc, who, &r);
+    drop(r);
+    Ok(text?)
+}
+
+fn unsealed_dispute(alloc: Global) -> Result<Response, Fail> {
+    let alph = platform("ALPH")?;
+    let text = sealed_dispute(alloc, alph)?;
+    let again = unsealed(alloc, alph, text.0.as_slice());
+    drop(text);
+    Ok(again?)
 }
 
 fn assert_disputed(rt: &impl Abort, r: &Response, text: &[u8]) {
@@ -131,11 +204,9 @@ fn assert_disputed(rt: &impl Abort, r: &Response, text: &[u8]) {
 
 #[test]
 fn evidence_there_and_back(rt: HostRuntime) -> Result<(), Fail> {
-    let alph = platform("ALPH")?;
-    let r = disputed(rt.alloc())?;
-    let text = seal(rt.alloc(), &mut KeyedRing::derived(), alph, &r)?;
-    let again = unseal(rt.alloc(), &KeyedRing::derived(), text.0.as_slice(), alph)?;
     let evidence = evidence_text(rt.alloc(), 16_384)?;
+    let again = unsealed_dispute(rt.alloc())?;
     assert_disputed(&rt, &again, &evidence);
+    drop(again);
     Ok(())
 }

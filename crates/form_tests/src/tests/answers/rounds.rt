@@ -2,16 +2,18 @@
 ghost use Rattle.std.specs.Prelude.{IfOk};
 ghost use Rattle.pint_responses.specs.Response.{IsSealable};
 
-use crate::tests::answers::response;
+use crate::tests::answers::{response, sealed_by, unseal_fault, unsealed};
 use crate::tests::making::platform;
 use document_checksum::checksum;
-use ebl_base::{CallList, Checksum, ChecksumList, Code, Copied, Reason, SignedText};
-use pint_responses::{Response, ResponseField, SealFault, UnsealFault, seal, unseal};
+use ebl_base::{
+    CallList, Checksum, ChecksumList, Code, Copied, NoMemory, PlatformCode, Reason, SignedText,
+};
+use pint_responses::{Response, ResponseField, SealFault, UnsealFault, seal};
 use signed_envelope::BadSigned;
 use std::alloc::Global;
 use std::process::Abort;
 use std::test::Fail;
-use test_signer::{FailingRing, KeyedRing};
+use test_signer::FailingRing;
 
 // By Python's hmac and json, under the test key of BETA.
 const MISSING: &str =
@@ -32,6 +34,14 @@ fn sample(alloc: Global) -> Result<Response, Fail>
     Ok(r)
 }
 
+fn sealed_sample(alloc: Global) -> Result<SignedText, Fail> {
+    let beta = platform("BETA")?;
+    let r = sample(alloc)?;
+    let text = sealed_by(alloc, beta, &r);
+    drop(r);
+    Ok(text?)
+}
+
 fn assert_sample(rt: &impl Abort, r: &Response) {
     assert_eq!(rt; r.code, Code::MissingDocuments);
     assert_eq!(rt; r.bill, Some(checksum(b"abc")));
@@ -44,27 +54,32 @@ fn assert_sample(rt: &impl Abort, r: &Response) {
 
 #[test]
 fn missing_documents_of_beta(rt: HostRuntime) -> Result<(), Fail> {
-    let beta = platform("BETA")?;
-    let r = sample(rt.alloc())?;
-    let text = seal(rt.alloc(), &mut KeyedRing::derived(), beta, &r)?;
+    let text = sealed_sample(rt.alloc())?;
     assert_eq!(rt; text.0.as_slice(), MISSING.as_bytes());
+    Ok(())
+}
+
+fn assert_copy(rt: &impl Abort, alloc: Global, r: &Response) -> Result<(), Fail> {
+    let copy = r.copy(alloc)?;
+    assert_sample(rt, &copy);
+    drop(copy);
     Ok(())
 }
 
 #[test]
 fn missing_documents_from_beta(rt: HostRuntime) -> Result<(), Fail> {
     let beta = platform("BETA")?;
-    let again = unseal(rt.alloc(), &KeyedRing::derived(), MISSING.as_bytes(), beta)?;
+    let again = unsealed(rt.alloc(), beta, MISSING.as_bytes())?;
     assert_sample(&rt, &again);
-    let copy = again.copy(rt.alloc())?;
-    assert_sample(&rt, &copy);
-    Ok(())
+    let copied = assert_copy(&rt, rt.alloc(), &again);
+    drop(again);
+    copied
 }
 
 #[test]
 fn missing_documents_from_nobody_else(rt: HostRuntime) -> Result<(), Fail> {
     let alph = platform("ALPH")?;
-    let fault = unseal(rt.alloc(), &KeyedRing::derived(), MISSING.as_bytes(), alph).err();
+    let fault = unseal_fault(rt.alloc(), alph, MISSING.as_bytes());
     assert_eq!(rt; fault, Some(UnsealFault::Signature(BadSigned::WrongKey)));
     Ok(())
 }
@@ -95,20 +110,28 @@ const REASONS: [(&str, &str, bool); 20] = [
     ("BYTES", "INCD", false),
 ];
 
+fn code_row(rt: &impl Abort, text: &'static str) {
+    let code = Code::from_text(text.as_bytes());
+    assert_eq!(rt; code.map(Code::as_str), Some(text), "{text}");
+}
+
+fn reason_row(rt: &impl Abort, text: &'static str, code: &'static str, of_entry: bool) {
+    let reason = Reason::from_text(text.as_bytes());
+    assert_eq!(rt; reason.map(|r| r.code().as_str()), Some(code), "{text}");
+    assert_eq!(rt;
+        reason.is_some_and(|r| r.index().is_some()),
+        of_entry,
+        "{text}"
+    );
+}
+
 #[test]
 fn texts_of_codes_and_reasons(rt: HostRuntime) {
     for &text in &CODES {
-        let code = Code::from_text(text.as_bytes());
-        assert_eq!(rt; code.map(Code::as_str), Some(text), "{text}");
+        code_row(&rt, text);
     }
     for &(text, code, of_entry) in &REASONS {
-        let reason = Reason::from_text(text.as_bytes());
-        assert_eq!(rt; reason.map(|r| r.code().as_str()), Some(code), "{text}");
-        assert_eq!(rt;
-            reason.is_some_and(|r| r.index().is_some()),
-            of_entry,
-            "{text}"
-        );
+        reason_row(&rt, text, code, of_entry);
     }
     assert_eq!(rt; Reason::from_text(b"body"), None);
 }
@@ -146,7 +169,10 @@ const ROUNDS: [(Code, Option<Reason>); 27] = [
 #[test]
 fn each_code_and_reason(rt: HostRuntime) -> Result<(), Fail> {
     for &(code, reason) in &ROUNDS {
-        assert!(rt; there_and_back(&rt, code, reason)?, "{code:?} {reason:?}");
+        assert!(rt;
+            there_and_back(rt.alloc(), code, reason)?,
+            "{code:?} {reason:?}"
+        );
     }
     Ok(())
 }
@@ -158,21 +184,33 @@ fn sealed(
     reason: Option<Reason>,
     name: Option<Checksum>,
 ) -> Result<SignedText, Fail> {
+    let alph = platform("ALPH")?;
     let r = response(code, reason, name, ChecksumList::new(alloc));
-    Ok(seal(alloc, &mut KeyedRing::derived(), platform("ALPH")?, &r)?)
+    let text = sealed_by(alloc, alph, &r);
+    drop(r);
+    Ok(text?)
+}
+
+fn unsealed_again(
+    alloc: Global,
+    code: Code,
+    reason: Option<Reason>,
+    name: Option<Checksum>,
+) -> Result<Response, Fail> {
+    let alph = platform("ALPH")?;
+    let text = sealed(alloc, code, reason, name)?;
+    let again = unsealed(alloc, alph, text.0.as_slice());
+    drop(text);
+    Ok(again?)
 }
 
 // Sealed, and unsealed to the same code, reason and names.
-fn there_and_back(
-    rt: &(impl Abort + AllocGlobal),
-    code: Code,
-    reason: Option<Reason>,
-) -> Result<bool, Fail> {
-    let alph = platform("ALPH")?;
+fn there_and_back(alloc: Global, code: Code, reason: Option<Reason>) -> Result<bool, Fail> {
     let name = Some(checksum(b"abc"));
-    let text = sealed(rt.alloc(), code, reason, name)?;
-    let again = unseal(rt.alloc(), &KeyedRing::derived(), text.0.as_slice(), alph)?;
-    Ok(is_same(&again, code, reason, name))
+    let again = unsealed_again(alloc, code, reason, name)?;
+    let is_same = is_same(&again, code, reason, name);
+    drop(again);
+    Ok(is_same)
 }
 
 fn is_same(r: &Response, code: Code, reason: Option<Reason>, name: Option<Checksum>) -> bool {
@@ -196,26 +234,44 @@ const OUTSIDE: [(Code, Reason, ResponseField); 4] = [
     ),
 ];
 
+fn outside_fault(alloc: Global, code: Code, reason: Reason) -> Result<Option<UnsealFault>, Fail> {
+    let alph = platform("ALPH")?;
+    let text = sealed(alloc, code, Some(reason), None)?;
+    Ok(unseal_fault(alloc, alph, text.0.as_slice()))
+}
+
 #[test]
 fn reasons_outside_the_form(rt: HostRuntime) -> Result<(), Fail> {
-    let alph = platform("ALPH")?;
     for &(code, reason, field) in &OUTSIDE {
-        let text = sealed(rt.alloc(), code, Some(reason), None)?;
-        let fault = unseal(rt.alloc(), &KeyedRing::derived(), text.0.as_slice(), alph).err();
+        let fault = outside_fault(rt.alloc(), code, reason)?;
         assert_eq!(rt; fault, Some(UnsealFault::Form(field)));
     }
     Ok(())
 }
 
+// A ring that fails at its first call.
+fn ring(alloc: Global) -> Result<FailingRing, NoMemory> {
+    let calls = CallList::from_slice(alloc, &[0])?;
+    Ok(FailingRing::derived(calls))
+}
+
+// Why a receipt isn't sealed with this ring; none where it is.
+fn seal_fault(alloc: Global, alph: PlatformCode, ring: &mut FailingRing) -> Option<SealFault> {
+    let r = response(Code::Received, None, None, ChecksumList::new(alloc));
+    let fault = seal(alloc, ring, alph, &r).err();
+    drop(r);
+    fault
+}
+
+fn assert_fails_once(rt: &impl Abort, alloc: Global, ring: &mut FailingRing) -> Result<(), Fail> {
+    let alph = platform("ALPH")?;
+    assert_eq!(rt; seal_fault(alloc, alph, ring), Some(SealFault::Sign));
+    assert_eq!(rt; seal_fault(alloc, alph, ring), None);
+    Ok(())
+}
+
 #[test]
 fn failing_ring(rt: HostRuntime) -> Result<(), Fail> {
-    let mut ring = FailingRing::derived(CallList::from_slice(rt.alloc(), &[0])?);
-    let alph = platform("ALPH")?;
-    let r = response(Code::Received, None, None, ChecksumList::new(rt.alloc()));
-    assert_eq!(rt;
-        seal(rt.alloc(), &mut ring, alph, &r).err(),
-        Some(SealFault::Sign)
-    );
-    assert!(rt; seal(rt.alloc(), &mut ring, alph, &r).is_ok());
-    Ok(())
+    let mut ring = ring(rt.alloc())?;
+    assert_fails_once(&rt, rt.alloc(), &mut ring)
 }
