@@ -1,6 +1,6 @@
 //! What each route asks with a body.
 use crate::tests::making::{CHECKSUM, REFERENCE};
-use ebl_base::Party;
+use ebl_base::{NoMemory, Party};
 use http_heads::Route;
 use http_requests::{Asked, asked_of};
 use platform_requests::Request;
@@ -52,13 +52,21 @@ fn is_asked(asked: &Option<Asked>, want: Want) -> bool {
     }
 }
 
+// Whether the route asks that with this body.
+fn asks(alloc: Global, route: Route, body: &[u8], want: Want) -> Result<bool, NoMemory> {
+    let asked = asked_of(alloc, route, body)?;
+    let asks = is_asked(&asked, want);
+    drop(asked);
+    Ok(asks)
+}
+
 // A route, a body, and what is asked.
 type Row = (Route, &'static [u8], Want);
 
 fn assert_rows<R: Abort>(rt: &R, alloc: Global, rows: &[Row]) -> Result<(), Fail> {
     for (route, body, want) in rows {
-        let asked = asked_of(alloc, *route, body)?;
-        assert!(rt; is_asked(&asked, *want), "{want:?} with {body:?}");
+        let asks = asks(alloc, *route, body, *want)?;
+        assert!(rt; asks, "{want:?} with {body:?}");
     }
     Ok(())
 }

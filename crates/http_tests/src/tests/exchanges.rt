@@ -48,12 +48,26 @@ fn link_of(alloc: Global, came: &[u8]) -> Result<MemoryLink, NoMemory> {
     Ok(MemoryLink::new(alloc, bytes, CallList::new(alloc)))
 }
 
-// Asserts which bytes one exchange of the message writes.
+fn is_answered(alloc: Global, link: &mut MemoryLink, out: &Message) -> bool {
+    exchange(alloc, link, out).is_ok()
+}
+
+// Asserts which bytes one exchange of the message writes to this link.
+fn assert_writes<R: Abort>(
+    rt: &R,
+    alloc: Global,
+    link: &mut MemoryLink,
+    out: &Message,
+    text: &[u8],
+) {
+    assert!(rt; is_answered(alloc, link, out));
+    assert_eq!(rt; link.written(), text);
+}
+
 fn writes<R: Abort>(rt: &R, alloc: Global, out: &Message, text: &[u8]) -> Result<(), Fail> {
     let mut link = link_of(alloc, b"HTTP/1.1 204 No Content\r\n\r\n")?;
-    let is_ok = exchange(alloc, &mut link, out).is_ok();
-    assert!(rt; is_ok);
-    assert_eq!(rt; link.written(), text);
+    assert_writes(rt, alloc, &mut link, out, text);
+    drop(link);
     Ok(())
 }
 
@@ -66,11 +80,32 @@ const PUT: &[u8] =
 const FINISH: &[u8] =
     b"PUT /v3/envelopes/00010203-0405-0607-0809-0a0b0c0d0eff/finish-transfer HTTP/1.1\r\nhost: pint\r\ncontent-length: 0\r\n\r\n";
 
+fn writes_start<R: Abort>(rt: &R, alloc: Global) -> Result<(), Fail> {
+    let out = start(alloc, b"{\"a\":1}")?;
+    let written = writes(rt, alloc, &out, START);
+    drop(out);
+    written
+}
+
+fn writes_put<R: Abort>(rt: &R, alloc: Global) -> Result<(), Fail> {
+    let out = put(alloc, b"abcdefghij")?;
+    let written = writes(rt, alloc, &out, PUT);
+    drop(out);
+    written
+}
+
+fn writes_finish<R: Abort>(rt: &R, alloc: Global) -> Result<(), Fail> {
+    let out = finish()?;
+    let written = writes(rt, alloc, &out, FINISH);
+    drop(out);
+    written
+}
+
 #[test]
 fn one_request_for_each_message(rt: HostRuntime) -> Result<(), Fail> {
-    writes(&rt, rt.alloc(), &start(rt.alloc(), b"{\"a\":1}")?, START)?;
-    writes(&rt, rt.alloc(), &put(rt.alloc(), b"abcdefghij")?, PUT)?;
-    writes(&rt, rt.alloc(), &finish()?, FINISH)
+    writes_start(&rt, rt.alloc())?;
+    writes_put(&rt, rt.alloc())?;
+    writes_finish(&rt, rt.alloc())
 }
 
 // ---- what comes
@@ -94,15 +129,28 @@ fn is_got<'a>(answer: &Result<Incoming, ClientFault>, got: Got<'a>) -> bool {
     }
 }
 
-// Whether an exchange of a Finish over this link gives that.
+// Whether an exchange of the message over this link gives that.
+fn answers<'a>(alloc: Global, link: &mut MemoryLink, out: &Message, got: Got<'a>) -> bool {
+    let answer = exchange(alloc, link, out);
+    let gives = is_got(&answer, got);
+    drop(answer);
+    gives
+}
+
+// Whether that of a Finish does.
 fn link_gives<'a>(alloc: Global, link: &mut MemoryLink, got: Got<'a>) -> Result<bool, Fail> {
-    let answer = exchange(alloc, link, &finish()?);
-    Ok(is_got(&answer, got))
+    let out = finish()?;
+    let gives = answers(alloc, link, &out, got);
+    drop(out);
+    Ok(gives)
 }
 
 // Whether it does over a link that hands out these bytes.
 fn gives<'a>(alloc: Global, came: &[u8], got: Got<'a>) -> Result<bool, Fail> {
-    link_gives(alloc, &mut link_of(alloc, came)?, got)
+    let mut link = link_of(alloc, came)?;
+    let gives = link_gives(alloc, &mut link, got);
+    drop(link);
+    gives
 }
 
 // The bytes that come, and what the exchange gives.
@@ -139,10 +187,15 @@ fn with_line(alloc: Global, status: &str, line: &str) -> Result<String, AllocErr
     format!(in alloc; "HTTP/1.1 {status}\r\n{line}\r\n\r\nabcde")
 }
 
+// Whether the exchange gives that if such a head comes.
+fn line_gives<'a>(alloc: Global, status: &str, line: &str, got: Got<'a>) -> Result<bool, Fail> {
+    let came = with_line(alloc, status, line)?;
+    gives(alloc, came.as_bytes(), got)
+}
+
 fn assert_lines<R: Abort>(rt: &R, alloc: Global, rows: &[LineRow]) -> Result<(), Fail> {
     for (status, line, got) in rows {
-        let came = with_line(alloc, status, line)?;
-        assert!(rt; gives(alloc, came.as_bytes(), *got)?, "{status} {line}");
+        assert!(rt; line_gives(alloc, status, line, *got)?, "{status} {line}");
     }
     Ok(())
 }
@@ -300,21 +353,37 @@ fn link_in_pieces(
 }
 
 fn gives_in_pieces<'a>(alloc: Global, size: usize, got: Got<'a>) -> Result<bool, Fail> {
-    link_gives(alloc, &mut link_in_pieces(alloc, CREATED, size, &[])?, got)
+    let mut link = link_in_pieces(alloc, CREATED, size, &[])?;
+    let gives = link_gives(alloc, &mut link, got);
+    drop(link);
+    gives
+}
+
+fn gives_cut<'a>(alloc: Global, cut: usize, got: Got<'a>) -> Result<bool, Fail> {
+    let front = CREATED.get(..cut).ok_or("a front")?;
+    gives(alloc, front, got)
+}
+
+fn every_piece<R: Abort>(rt: &R, alloc: Global) -> Result<(), Fail> {
+    let whole = Got::Reply(201, b"{\"body\":1234");
+    for size in 1..CREATED.len() + 1 {
+        assert!(rt; gives_in_pieces(alloc, size, whole)?, "{size}");
+    }
+    Ok(())
+}
+
+fn every_cut<R: Abort>(rt: &R, alloc: Global) -> Result<(), Fail> {
+    for cut in 0..CREATED.len() {
+        assert!(rt; gives_cut(alloc, cut, Got::BadReply)?, "{cut}");
+    }
+    Ok(())
 }
 
 // The same reply in pieces of each size, and cut at each byte.
 #[test]
 fn every_piece_and_every_cut(rt: HostRuntime) -> Result<(), Fail> {
-    let whole = Got::Reply(201, b"{\"body\":1234");
-    for size in 1..CREATED.len() + 1 {
-        assert!(rt; gives_in_pieces(rt.alloc(), size, whole)?, "{size}");
-    }
-    for cut in 0..CREATED.len() {
-        let front = CREATED.get(..cut).ok_or("a front")?;
-        assert!(rt; gives(rt.alloc(), front, Got::BadReply)?, "{cut}");
-    }
-    Ok(())
+    every_piece(&rt, rt.alloc())?;
+    every_cut(&rt, rt.alloc())
 }
 
 const SHORT: &[u8] = b"HTTP/1.1 200 OK\r\ncontent-length: 2\r\n\r\nab";
@@ -344,12 +413,33 @@ fn sent_where_failed(call: u64) -> usize {
     }
 }
 
+// How many calls fail there.
+fn faults_where_failed(call: u64) -> u64 {
+    if call == NO_CALL { 0 } else { 1 }
+}
+
+fn assert_link<R: Abort>(rt: &R, link: &MemoryLink, call: u64) {
+    assert_eq!(rt; link.faults(), faults_where_failed(call));
+    assert_eq!(rt; link.written().len(), sent_where_failed(call));
+}
+
+fn assert_failed<R: Abort>(rt: &R, alloc: Global, link: &mut MemoryLink, out: &Message, call: u64) {
+    assert!(rt; answers(alloc, link, out, got_where_failed(call)), "{call}");
+    assert_link(rt, link, call);
+}
+
 fn failed_row<R: Abort>(rt: &R, alloc: Global, out: &Message, call: u64) -> Result<(), Fail> {
     let mut link = link_in_pieces(alloc, SHORT, 1, &[call])?;
-    let is_well = is_got(&exchange(alloc, &mut link, out), got_where_failed(call));
-    assert!(rt; is_well, "{call}");
-    assert_eq!(rt; link.faults(), if call == NO_CALL { 0 } else { 1 });
-    assert_eq!(rt; link.written().len(), sent_where_failed(call));
+    assert_failed(rt, alloc, &mut link, out, call);
+    drop(link);
+    Ok(())
+}
+
+fn failed_rows<R: Abort>(rt: &R, alloc: Global, out: &Message) -> Result<(), Fail> {
+    writes(rt, alloc, out, PUT_OF_ABC)?;
+    for call in 0..NO_CALL + 1 {
+        failed_row(rt, alloc, out, call)?;
+    }
     Ok(())
 }
 
@@ -357,11 +447,9 @@ fn failed_row<R: Abort>(rt: &R, alloc: Global, out: &Message, call: u64) -> Resu
 #[test]
 fn each_call_of_the_link_failed(rt: HostRuntime) -> Result<(), Fail> {
     let out = put(rt.alloc(), b"abc")?;
-    writes(&rt, rt.alloc(), &out, PUT_OF_ABC)?;
-    for call in 0..NO_CALL + 1 {
-        failed_row(&rt, rt.alloc(), &out, call)?;
-    }
-    Ok(())
+    let failed = failed_rows(&rt, rt.alloc(), &out);
+    drop(out);
+    failed
 }
 
 // ---- limits
@@ -379,11 +467,15 @@ const AB: Got<'static> = Got::Reply(200, b"ab");
 
 const SIZES: [(usize, Got<'static>); 3] = [(16_383, AB), (16_384, AB), (16_385, Got::BadReply)];
 
+fn padded_gives<'a>(alloc: Global, size: usize, got: Got<'a>) -> Result<bool, Fail> {
+    let came = padded(alloc, size)?;
+    gives(alloc, &came, got)
+}
+
 #[test]
 fn the_longest_head(rt: HostRuntime) -> Result<(), Fail> {
     for (size, got) in &SIZES {
-        let came = padded(rt.alloc(), *size)?;
-        assert!(rt; gives(rt.alloc(), &came, *got)?, "{size}");
+        assert!(rt; padded_gives(rt.alloc(), *size, *got)?, "{size}");
     }
     Ok(())
 }
@@ -400,11 +492,15 @@ fn with_fields(alloc: Global, count: usize) -> Result<Vec<u8>, AllocError> {
 
 const FIELDS: [(usize, Got<'static>); 2] = [(64, AB), (65, Got::BadReply)];
 
+fn fields_give<'a>(alloc: Global, count: usize, got: Got<'a>) -> Result<bool, Fail> {
+    let came = with_fields(alloc, count)?;
+    gives(alloc, &came, got)
+}
+
 #[test]
 fn the_most_fields(rt: HostRuntime) -> Result<(), Fail> {
     for (count, got) in &FIELDS {
-        let came = with_fields(rt.alloc(), *count)?;
-        assert!(rt; gives(rt.alloc(), &came, *got)?, "{count}");
+        assert!(rt; fields_give(rt.alloc(), *count, *got)?, "{count}");
     }
     Ok(())
 }
@@ -427,20 +523,49 @@ fn is_longest(answer: &Result<Incoming, ClientFault>) -> bool {
     }
 }
 
+fn answers_longest(alloc: Global, link: &mut MemoryLink, out: &Message) -> bool {
+    let answer = exchange(alloc, link, out);
+    let is_longest = is_longest(&answer);
+    drop(answer);
+    is_longest
+}
+
+fn link_of_longest(alloc: Global) -> Result<MemoryLink, NoMemory> {
+    let came = longest(alloc)?;
+    link_of(alloc, &came)
+}
+
+fn assert_longest<R: Abort>(rt: &R, alloc: Global, link: &mut MemoryLink) -> Result<(), Fail> {
+    let out = finish()?;
+    assert!(rt; answers_longest(alloc, link, &out));
+    drop(out);
+    Ok(())
+}
+
+fn assert_left<R: Abort>(rt: &R, link: &MemoryLink, left: &[u8]) {
+    assert_eq!(rt; link.left(), left);
+}
+
 // Of further bytes those that came with the head are dropped, the others left.
 #[test]
 fn the_longest_body(rt: HostRuntime) -> Result<(), Fail> {
-    let mut link = link_of(rt.alloc(), &longest(rt.alloc())?)?;
-    let is_well = is_longest(&exchange(rt.alloc(), &mut link, &finish()?));
-    assert!(rt; is_well);
-    assert_eq!(rt; link.left(), b"behind".as_slice());
+    let mut link = link_of_longest(rt.alloc())?;
+    let exchanged = assert_longest(&rt, rt.alloc(), &mut link);
+    assert_left(&rt, &link, b"behind");
+    drop(link);
+    exchanged
+}
+
+fn assert_bare<R: Abort>(rt: &R, alloc: Global, link: &mut MemoryLink) -> Result<(), Fail> {
+    assert!(rt; link_gives(alloc, link, BARE)?);
+    assert_eq!(rt; link.left().len(), 0);
     Ok(())
 }
 
 #[test]
 fn bytes_behind_a_head(rt: HostRuntime) -> Result<(), Fail> {
     let mut link = link_of(rt.alloc(), b"HTTP/1.1 204 No Content\r\n\r\nbehind")?;
-    assert!(rt; link_gives(rt.alloc(), &mut link, BARE)?);
-    assert_eq!(rt; link.left().len(), 0);
-    Ok(())
+    let exchanged = assert_bare(&rt, rt.alloc(), &mut link);
+    drop(link);
+    exchanged
 }

@@ -85,8 +85,14 @@ type Row = (&'static [u8], &'static [u8], &'static [u8], Plan);
 
 fn assert_rows<R: Abort>(rt: &R, alloc: Global, rows: &[Row]) -> Result<(), Fail> {
     let plans = Plans::new(alloc)?;
+    let asked = plan_rows(rt, alloc, &plans, rows);
+    drop(plans);
+    asked
+}
+
+fn plan_rows<R: Abort>(rt: &R, alloc: Global, plans: &Plans, rows: &[Row]) -> Result<(), Fail> {
     for (method, path, rest, plan) in rows {
-        assert_plan(rt, asks(alloc, &plans, method, path, rest)?, *plan, rest);
+        assert_plan(rt, asks(alloc, plans, method, path, rest)?, *plan, rest);
     }
     Ok(())
 }
@@ -230,13 +236,19 @@ fn finish_plan(alloc: Global, plans: &Plans, text: &[u8]) -> Result<Plan, NoMemo
     asks(alloc, plans, b"PUT", &path, b"HTTP/1.1")
 }
 
+fn reference_rows<R: Abort>(rt: &R, alloc: Global, plans: &Plans) -> Result<(), Fail> {
+    for text in &REFERENCES {
+        assert_plan(rt, finish_plan(alloc, plans, text)?, SPELT, text);
+    }
+    Ok(())
+}
+
 #[test]
 fn spellings_of_a_reference(rt: HostRuntime) -> Result<(), Fail> {
     let plans = Plans::new(rt.alloc())?;
-    for text in &REFERENCES {
-        assert_plan(&rt, finish_plan(rt.alloc(), &plans, text)?, SPELT, text);
-    }
-    Ok(())
+    let spelt = reference_rows(&rt, rt.alloc(), &plans);
+    drop(plans);
+    spelt
 }
 
 // ---- paths that are none of the six
@@ -268,6 +280,10 @@ fn near_paths<R: Abort>(rt: &R, alloc: Global, plans: &Plans, path: &[u8]) -> Re
         assert_no_route(rt, alloc, plans, &[&path[..at], &path[at + 1..]])?;
         assert_no_route(rt, alloc, plans, &[&path[..at + 1], &path[at..]])?;
     }
+    endings(rt, alloc, plans, path)
+}
+
+fn endings<R: Abort>(rt: &R, alloc: Global, plans: &Plans, path: &[u8]) -> Result<(), NoMemory> {
     for end in &ENDINGS {
         assert_no_route(rt, alloc, plans, &[path, end])?;
     }
@@ -276,13 +292,19 @@ fn near_paths<R: Abort>(rt: &R, alloc: Global, plans: &Plans, path: &[u8]) -> Re
 
 const SIX: [&[u8]; 6] = [START, DOCUMENT, FINISH, VALIDATION, COMMAND, BILL];
 
+fn near_rows<R: Abort>(rt: &R, alloc: Global, plans: &Plans) -> Result<(), Fail> {
+    for path in &SIX {
+        near_paths(rt, alloc, plans, path)?;
+    }
+    Ok(())
+}
+
 #[test]
 fn paths_near_the_six(rt: HostRuntime) -> Result<(), Fail> {
     let plans = Plans::new(rt.alloc())?;
-    for path in &SIX {
-        near_paths(&rt, rt.alloc(), &plans, path)?;
-    }
-    Ok(())
+    let near = near_rows(&rt, rt.alloc(), &plans);
+    drop(plans);
+    near
 }
 
 const OTHERS: [&[u8]; 16] = [
@@ -304,14 +326,19 @@ const OTHERS: [&[u8]; 16] = [
     b"/v3/bills/44136FA355B3678A1146AD16F7E8649E94FB4FC21FE77E8310C060F61CAAFF8A",
 ];
 
-#[test]
-fn other_paths(rt: HostRuntime) -> Result<(), Fail> {
-    let alloc = rt.alloc();
-    let plans = Plans::new(alloc)?;
+fn other_rows<R: Abort>(rt: &R, alloc: Global, plans: &Plans) -> Result<(), Fail> {
     for path in &OTHERS {
-        assert_no_route(&rt, alloc, &plans, &[path])?;
+        assert_no_route(rt, alloc, plans, &[path])?;
     }
     Ok(())
+}
+
+#[test]
+fn other_paths(rt: HostRuntime) -> Result<(), Fail> {
+    let plans = Plans::new(rt.alloc())?;
+    let none = other_rows(&rt, rt.alloc(), &plans);
+    drop(plans);
+    none
 }
 
 // ---- statuses, in their order
@@ -372,12 +399,17 @@ const REFUSED: [(&[u8], Status); 15] = [
     ),
 ];
 
+fn status_rows<R: Abort>(rt: &R, plans: &Plans) {
+    for (head, status) in &REFUSED {
+        assert_plan(rt, plans.plan_of(head), Plan::Refuse(*status), head);
+    }
+}
+
 #[test]
 fn the_first_status_that_applies(rt: HostRuntime) -> Result<(), Fail> {
     let plans = Plans::new(rt.alloc())?;
-    for (head, status) in &REFUSED {
-        assert_plan(&rt, plans.plan_of(head), Plan::Refuse(*status), head);
-    }
+    status_rows(&rt, &plans);
+    drop(plans);
     Ok(())
 }
 
@@ -402,14 +434,20 @@ const LENGTHS: [(&[u8], Status); 12] = [
     (b"0\r\ncontent-length: 00", Status::BadRequest),
 ];
 
+fn length_rows<R: Abort>(rt: &R, alloc: Global, plans: &Plans) -> Result<(), Fail> {
+    for (length, status) in &LENGTHS {
+        let plan = length_plan(alloc, plans, length)?;
+        assert_plan(rt, plan, Plan::Refuse(*status), length);
+    }
+    Ok(())
+}
+
 #[test]
 fn lengths_that_are_refused(rt: HostRuntime) -> Result<(), Fail> {
     let plans = Plans::new(rt.alloc())?;
-    for (length, status) in &LENGTHS {
-        let plan = length_plan(rt.alloc(), &plans, length)?;
-        assert_plan(&rt, plan, Plan::Refuse(*status), length);
-    }
-    Ok(())
+    let refused = length_rows(&rt, rt.alloc(), &plans);
+    drop(plans);
+    refused
 }
 
 fn head_of_fields(alloc: Global, count: usize) -> Result<Vec<u8>, NoMemory> {
@@ -426,14 +464,31 @@ const FIELDS: [(usize, Plan); 2] = [
     (MAX_FIELDS + 1, Plan::Refuse(Status::BadRequest)),
 ];
 
+fn field_row<R: Abort>(
+    rt: &R,
+    alloc: Global,
+    plans: &Plans,
+    count: usize,
+    plan: Plan,
+) -> Result<(), NoMemory> {
+    let head = head_of_fields(alloc, count)?;
+    assert_plan(rt, plans.plan_of(&head), plan, &head);
+    Ok(())
+}
+
+fn field_rows<R: Abort>(rt: &R, alloc: Global, plans: &Plans) -> Result<(), Fail> {
+    for (count, plan) in &FIELDS {
+        field_row(rt, alloc, plans, *count, *plan)?;
+    }
+    Ok(())
+}
+
 #[test]
 fn heads_of_64_fields_and_65(rt: HostRuntime) -> Result<(), Fail> {
     let plans = Plans::new(rt.alloc())?;
-    for (count, plan) in &FIELDS {
-        let head = head_of_fields(rt.alloc(), *count)?;
-        assert_plan(&rt, plans.plan_of(&head), *plan, &head);
-    }
-    Ok(())
+    let planned = field_rows(&rt, rt.alloc(), &plans);
+    drop(plans);
+    planned
 }
 
 // ---- phrases

@@ -36,7 +36,9 @@ fn reading_of(alloc: Global, link: MemoryLink) -> Reading {
 // What stands at its front.
 fn front_at(alloc: Global, reading: &mut Reading) -> Result<Result<Front, LinkEnd>, NoMemory> {
     let plans = Plans::new(alloc)?;
-    Ok(await_next(&mut reading.link, &plans, &mut reading.buffer))
+    let front = await_next(&mut reading.link, &plans, &mut reading.buffer);
+    drop(plans);
+    Ok(front)
 }
 
 // What stands at the front of the input.
@@ -45,10 +47,11 @@ fn front_of(
     input: &[u8],
     pieces: &[usize],
 ) -> Result<Result<Front, LinkEnd>, NoMemory> {
-    front_at(
-        alloc,
-        &mut reading_of(alloc, link_of(alloc, input, pieces)?),
-    )
+    let link = link_of(alloc, input, pieces)?;
+    let mut reading = reading_of(alloc, link);
+    let front = front_at(alloc, &mut reading);
+    drop(reading);
+    front
 }
 
 // Asserts what stands at the front, in a row of this number.
@@ -85,15 +88,31 @@ fn a_request_that_ends_early(rt: HostRuntime) -> Result<(), Fail> {
     Ok(())
 }
 
+// Asserts that all of the input was read, and stands at the front.
+fn assert_read<R: Abort>(rt: &R, reading: &Reading, input: &[u8]) {
+    assert_eq!(rt; reading.buffer.as_slice(), input);
+    assert_eq!(rt; reading.link.left().len(), 0);
+}
+
+fn assert_request<R: Abort>(rt: &R, alloc: Global, reading: &mut Reading) -> Result<(), Fail> {
+    assert_front(rt, front_at(alloc, reading)?, Ok(FRONT), 0);
+    Ok(())
+}
+
+fn assert_two<R: Abort>(rt: &R, alloc: Global, input: &[u8]) -> Result<(), Fail> {
+    let link = link_of(alloc, input, &[])?;
+    let mut reading = reading_of(alloc, link);
+    let request = assert_request(rt, alloc, &mut reading);
+    assert_read(rt, &reading, input);
+    drop(reading);
+    request
+}
+
 // The bytes behind a request stay at the front for the next, and nothing is read for it.
 #[test]
 fn two_requests_in_one_piece(rt: HostRuntime) -> Result<(), Fail> {
     let input = joined(rt.alloc(), &[VALIDATION, VALIDATION])?;
-    let mut reading = reading_of(rt.alloc(), link_of(rt.alloc(), &input, &[])?);
-    assert_front(&rt, front_at(rt.alloc(), &mut reading)?, Ok(FRONT), 0);
-    assert_eq!(rt; reading.buffer.as_slice(), input.as_slice());
-    assert_eq!(rt; reading.link.left().len(), 0);
-    Ok(())
+    assert_two(&rt, rt.alloc(), &input)
 }
 
 // A head of so many bytes.
@@ -124,18 +143,28 @@ const SIZES: [(usize, Front); 2] = [
     (MAX_HEAD + 1, Front::Refused(Status::BadRequest)),
 ];
 
+fn assert_head<R: Abort>(
+    rt: &R,
+    alloc: Global,
+    head: &[u8],
+    size: usize,
+    front: Front,
+) -> Result<(), Fail> {
+    assert_eq!(rt; head.len(), size);
+    assert_front(rt, front_of(alloc, head, &[])?, Ok(front), size);
+    assert_front(rt, front_of(alloc, head, &ONE_LAST)?, Ok(front), size);
+    Ok(())
+}
+
+fn size_row<R: Abort>(rt: &R, alloc: Global, size: usize, front: Front) -> Result<(), Fail> {
+    let head = head_of(alloc, size)?;
+    assert_head(rt, alloc, &head, size, front)
+}
+
 #[test]
 fn heads_of_16_384_bytes_and_one_more(rt: HostRuntime) -> Result<(), Fail> {
     for (size, front) in &SIZES {
-        let head = head_of(rt.alloc(), *size)?;
-        assert_eq!(rt; head.len(), *size);
-        assert_front(&rt, front_of(rt.alloc(), &head, &[])?, Ok(*front), *size);
-        assert_front(
-            &rt,
-            front_of(rt.alloc(), &head, &ONE_LAST)?,
-            Ok(*front),
-            *size,
-        );
+        size_row(&rt, rt.alloc(), *size, *front)?;
     }
     Ok(())
 }
@@ -146,23 +175,44 @@ fn line_feeds(alloc: Global, count: usize) -> Result<Vec<u8>, AllocError> {
 
 // The read behind these bytes would fail.
 fn failing_behind(alloc: Global, lines: &[u8]) -> Result<Reading, NoMemory> {
-    Ok(reading_of(alloc, failing_link(alloc, lines, &[], &[4])?))
+    let link = failing_link(alloc, lines, &[], &[4])?;
+    Ok(reading_of(alloc, link))
+}
+
+// What stands at the front of so many line feeds, behind which a read would fail.
+fn front_of_feeds(alloc: Global, count: usize) -> Result<Result<Front, LinkEnd>, NoMemory> {
+    let lines = line_feeds(alloc, count)?;
+    let mut reading = failing_behind(alloc, &lines)?;
+    let front = front_at(alloc, &mut reading);
+    drop(reading);
+    front
+}
+
+// What stands there if the input ends behind them.
+fn front_of_last_feeds(alloc: Global, count: usize) -> Result<Result<Front, LinkEnd>, NoMemory> {
+    let lines = line_feeds(alloc, count)?;
+    front_of(alloc, &lines, &[])
 }
 
 // 16,384 bytes without an end are refused at once: no further byte is waited for.
 #[test]
 fn a_head_that_does_not_end(rt: HostRuntime) -> Result<(), Fail> {
-    let lines = line_feeds(rt.alloc(), MAX_HEAD)?;
-    let refused = front_at(rt.alloc(), &mut failing_behind(rt.alloc(), &lines)?)?;
+    let refused = front_of_feeds(rt.alloc(), MAX_HEAD)?;
     assert_front(
         &rt,
         refused,
         Ok(Front::Refused(Status::BadRequest)),
         MAX_HEAD,
     );
-    let lines = line_feeds(rt.alloc(), MAX_HEAD - 1)?;
-    let none = front_of(rt.alloc(), &lines, &[])?;
+    let none = front_of_last_feeds(rt.alloc(), MAX_HEAD - 1)?;
     assert_front(&rt, none, Err(LinkEnd::Cut), MAX_HEAD - 1);
+    Ok(())
+}
+
+fn assert_fault<R: Abort>(rt: &R, alloc: Global, reading: &mut Reading) -> Result<(), Fail> {
+    let front = front_at(alloc, reading)?;
+    assert_front(rt, front, Err(LinkEnd::ReadFault), HEAD);
+    assert_eq!(rt; reading.link.faults(), 1);
     Ok(())
 }
 
@@ -170,8 +220,7 @@ fn a_head_that_does_not_end(rt: HostRuntime) -> Result<(), Fail> {
 fn a_read_that_fails(rt: HostRuntime) -> Result<(), Fail> {
     let link = failing_link(rt.alloc(), VALIDATION, &[HEAD], &[1])?;
     let mut reading = reading_of(rt.alloc(), link);
-    let front = front_at(rt.alloc(), &mut reading)?;
-    assert_front(&rt, front, Err(LinkEnd::ReadFault), HEAD);
-    assert_eq!(rt; reading.link.faults(), 1);
-    Ok(())
+    let fault = assert_fault(&rt, rt.alloc(), &mut reading);
+    drop(reading);
+    fault
 }

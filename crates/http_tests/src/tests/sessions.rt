@@ -9,7 +9,7 @@ use ebl_base::{Moment, Party, Reference};
 use ebl_edge::{MemoryClock, MemoryLink};
 use pint_http::{LinkEnd, serve_link};
 use platform_requests::{MemoryDesk, MessageList, Outcome, Reply};
-use std::alloc::Global;
+use std::alloc::{AllocError, Global};
 use std::process::Abort;
 use std::test::Fail;
 
@@ -39,84 +39,108 @@ fn plain(alloc: Global, reply: Reply) -> Outcome {
     }
 }
 
-fn no_outcomes(alloc: Global) -> Vec<Outcome> {
-    Vec::new(alloc)
+// The one party that a desk knows: `BETA/IMPORT`.
+fn importers(alloc: Global) -> Result<Vec<Party>, Fail> {
+    let party = Party::from_text(b"BETA/IMPORT").ok_or("a party")?;
+    Ok(Vec::from_slice(alloc, &[party])?)
 }
 
 // A desk that knows `BETA/IMPORT`.
 fn desk_with(alloc: Global, outcomes: Vec<Outcome>) -> Result<MemoryDesk, Fail> {
-    let party = Party::from_text(b"BETA/IMPORT").ok_or("a party")?;
-    let mut parties = Vec::new(alloc);
-    parties.push(party)?;
+    let parties = importers(alloc)?;
     Ok(MemoryDesk::new(alloc, outcomes, parties))
+}
+
+// One that has no outcome.
+fn bare_desk(alloc: Global) -> Result<MemoryDesk, Fail> {
+    desk_with(alloc, Vec::new(alloc))
 }
 
 fn clock() -> Result<MemoryClock, Fail> {
     Ok(MemoryClock::new(Moment::try_new(1000).ok_or("a moment")?))
 }
 
-/// A session: a link, the desk that is asked over it, and the desk's clock.
-#[derive(Drop)]
-struct Session {
-    link: MemoryLink,
-    desk: MemoryDesk,
-    clock: MemoryClock,
+// How a session over this link ends.
+fn serve(
+    alloc: Global,
+    link: &mut MemoryLink,
+    desk: &mut MemoryDesk,
+    clock: &mut MemoryClock,
+) -> LinkEnd {
+    serve_link(alloc, link, desk, clock)
 }
 
-fn session_on(alloc: Global, link: MemoryLink, outcomes: Vec<Outcome>) -> Result<Session, Fail> {
-    let clock = clock()?;
-    Ok(Session {
-        link,
-        desk: desk_with(alloc, outcomes)?,
-        clock,
-    })
+// Serves a session, and asserts how it ends and what it writes.
+fn assert_served<R: Abort>(
+    rt: &R,
+    alloc: Global,
+    link: &mut MemoryLink,
+    desk: &mut MemoryDesk,
+    clock: &mut MemoryClock,
+    end: LinkEnd,
+    written: &[u8],
+) {
+    assert_eq!(rt; serve(alloc, link, desk, clock), end);
+    assert_eq!(rt; link.written(), written);
 }
 
-// How the session ends.
-fn serve(alloc: Global, session: &mut Session) -> LinkEnd {
-    serve_link(
-        alloc,
-        &mut session.link,
-        &mut session.desk,
-        &mut session.clock,
-    )
-}
-
-// Serves a session over this link, whose desk has no outcome, and asserts how it ends and what it writes.
+// The same over this link, with a desk that has no outcome.
 fn assert_session<R: Abort>(
     rt: &R,
     alloc: Global,
-    link: MemoryLink,
+    link: &mut MemoryLink,
     end: LinkEnd,
     written: &[u8],
 ) -> Result<(), Fail> {
-    let mut session = session_on(alloc, link, no_outcomes(alloc))?;
-    assert_eq!(rt; serve(alloc, &mut session), end);
-    assert_eq!(rt; session.link.written(), written);
+    let mut clock = clock()?;
+    let mut desk = bare_desk(alloc)?;
+    assert_served(rt, alloc, link, &mut desk, &mut clock, end, written);
+    drop(desk);
     Ok(())
 }
 
-// The same over a link that doesn't fail, whose desk has these outcomes.
+fn assert_faultless<R: Abort>(rt: &R, link: &MemoryLink) {
+    assert_eq!(rt; link.faults(), 0);
+}
+
+// The same with this desk, over a link that doesn't fail.
+fn session_with<R: Abort>(
+    rt: &R,
+    alloc: Global,
+    input: &[u8],
+    desk: &mut MemoryDesk,
+    end: LinkEnd,
+    written: &[u8],
+) -> Result<(), Fail> {
+    let mut clock = clock()?;
+    let mut link = link_of(alloc, input, &[])?;
+    assert_served(rt, alloc, &mut link, desk, &mut clock, end, written);
+    assert_faultless(rt, &link);
+    drop(link);
+    Ok(())
+}
+
+// The same with a desk that has no outcome.
 fn session_row<R: Abort>(
     rt: &R,
     alloc: Global,
     input: &[u8],
-    outcomes: Vec<Outcome>,
     end: LinkEnd,
     written: &[u8],
 ) -> Result<(), Fail> {
-    let mut session = session_on(alloc, link_of(alloc, input, &[])?, outcomes)?;
-    assert_eq!(rt; serve(alloc, &mut session), end);
-    assert_eq!(rt; session.link.written(), written);
-    assert_eq!(rt; session.link.faults(), 0);
-    Ok(())
+    let mut desk = bare_desk(alloc)?;
+    let served = session_with(rt, alloc, input, &mut desk, end, written);
+    drop(desk);
+    served
+}
+
+// The reply of this status that closes the link.
+fn closing_reply(alloc: Global, line: &str) -> Result<String, AllocError> {
+    format!(in alloc; "HTTP/1.1 {line}\r\ncontent-length: 0\r\nconnection: close\r\n\r\n")
 }
 
 // A session whose one reply closes the link.
 fn refused_row<R: Abort>(rt: &R, alloc: Global, input: &[u8], line: &str) -> Result<(), Fail> {
-    let text = format!(in alloc;
-        "HTTP/1.1 {line}\r\ncontent-length: 0\r\nconnection: close\r\n\r\n"
-    )?;
-    let none = no_outcomes(alloc);
-    session_row(rt, alloc, input, none, LinkEnd::Closed, text.as_bytes())
+    let text = closing_reply(alloc, line)?;
+    session_row(rt, alloc, input, LinkEnd::Closed, text.as_bytes())
 }

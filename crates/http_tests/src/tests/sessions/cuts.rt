@@ -1,7 +1,7 @@
 //! A session however its bytes come, and where it ends.
 use crate::tests::making::{joined, link_of};
 use crate::tests::sessions::{
-    FINISH, KNOWN, UNKNOWN_REFERENCE, VALIDATION, assert_session, no_outcomes, session_row,
+    FINISH, KNOWN, UNKNOWN_REFERENCE, VALIDATION, assert_session, session_row,
 };
 use ebl_base::{ByteList, CallList, NoMemory};
 use ebl_edge::{MemoryLink, PieceList};
@@ -26,19 +26,25 @@ fn pieces_row<R: Abort>(
     pieces: &[usize],
     replies: &[u8],
 ) -> Result<(), Fail> {
-    let link = link_of(alloc, input, pieces)?;
-    assert_session(rt, alloc, link, LinkEnd::Closed, replies)
+    let mut link = link_of(alloc, input, pieces)?;
+    let served = assert_session(rt, alloc, &mut link, LinkEnd::Closed, replies);
+    drop(link);
+    served
+}
+
+// The requests in two pieces, cut at each byte.
+fn cut_rows<R: Abort>(rt: &R, alloc: Global, input: &[u8], replies: &[u8]) -> Result<(), Fail> {
+    for at in 1..input.len() {
+        pieces_row(rt, alloc, input, &[at], replies)?;
+    }
+    Ok(())
 }
 
 #[test]
 fn a_session_cut_at_each_byte(rt: HostRuntime) -> Result<(), Fail> {
-    let alloc = rt.alloc();
-    let input = three_requests(alloc)?;
-    let replies = three_replies(alloc)?;
-    for at in 1..input.len() {
-        pieces_row(&rt, alloc, &input, &[at], &replies)?;
-    }
-    Ok(())
+    let input = three_requests(rt.alloc())?;
+    let replies = three_replies(rt.alloc())?;
+    cut_rows(&rt, rt.alloc(), &input, &replies)
 }
 
 // Sizes by a linear congruential generator, from 1 to 32.
@@ -52,16 +58,29 @@ fn made_sizes(alloc: Global, seed: u32) -> Result<Vec<usize>, NoMemory> {
     Ok(sizes)
 }
 
-#[test]
-fn a_session_in_made_pieces(rt: HostRuntime) -> Result<(), Fail> {
-    let alloc = rt.alloc();
-    let input = three_requests(alloc)?;
-    let replies = three_replies(alloc)?;
+fn made_row<R: Abort>(
+    rt: &R,
+    alloc: Global,
+    input: &[u8],
+    seed: u32,
+    replies: &[u8],
+) -> Result<(), Fail> {
+    let sizes = made_sizes(alloc, seed)?;
+    pieces_row(rt, alloc, input, &sizes, replies)
+}
+
+fn made_rows<R: Abort>(rt: &R, alloc: Global, input: &[u8], replies: &[u8]) -> Result<(), Fail> {
     for seed in 0..100 {
-        let sizes = made_sizes(alloc, seed)?;
-        pieces_row(&rt, alloc, &input, &sizes, &replies)?;
+        made_row(rt, alloc, input, seed, replies)?;
     }
     Ok(())
+}
+
+#[test]
+fn a_session_in_made_pieces(rt: HostRuntime) -> Result<(), Fail> {
+    let input = three_requests(rt.alloc())?;
+    let replies = three_replies(rt.alloc())?;
+    made_rows(&rt, rt.alloc(), &input, &replies)
 }
 
 // So many bytes came and no more, up to this number, of which only the first ends a request; and the replies by then.
@@ -77,19 +96,45 @@ const ENDINGS: [Ending; 3] = [
     ),
 ];
 
+// How the session ends behind so many bytes, of which the first number ends a request.
+fn end_behind(at: usize, from: usize) -> LinkEnd {
+    if at == from {
+        LinkEnd::Closed
+    } else {
+        LinkEnd::Cut
+    }
+}
+
+fn ending_row<R: Abort>(
+    rt: &R,
+    alloc: Global,
+    input: &[u8],
+    at: usize,
+    end: LinkEnd,
+    written: &[u8],
+) -> Result<(), Fail> {
+    let front = input.get(..at).ok_or("a front")?;
+    session_row(rt, alloc, front, end, written)
+}
+
+fn endings_between<R: Abort>(
+    rt: &R,
+    alloc: Global,
+    input: &[u8],
+    range: (usize, usize),
+    written: &[u8],
+) -> Result<(), Fail> {
+    let (from, to) = range;
+    for at in from..to {
+        ending_row(rt, alloc, input, at, end_behind(at, from), written)?;
+    }
+    Ok(())
+}
+
 fn ending_rows<R: Abort>(rt: &R, alloc: Global, input: &[u8], ending: Ending) -> Result<(), Fail> {
     let (from, to, replies) = ending;
     let written = joined(alloc, replies)?;
-    for at in from..to {
-        let front = input.get(..at).ok_or("a front")?;
-        let end = if at == from {
-            LinkEnd::Closed
-        } else {
-            LinkEnd::Cut
-        };
-        session_row(rt, alloc, front, no_outcomes(alloc), end, &written)?;
-    }
-    Ok(())
+    endings_between(rt, alloc, input, (from, to), &written)
 }
 
 // The replies to what is whole, and Cut behind a part.
@@ -120,10 +165,28 @@ fn torn(alloc: Global, replies: &[&[u8]], last: &[u8]) -> Result<Vec<u8>, NoMemo
 // The call that fails, how the session ends, the replies that are written, and one of which half is.
 type Failure = (u64, LinkEnd, &'static [&'static [u8]], &'static [u8]);
 
+fn torn_session<R: Abort>(
+    rt: &R,
+    alloc: Global,
+    call: u64,
+    end: LinkEnd,
+    written: &[u8],
+) -> Result<(), Fail> {
+    let mut link = tearing_link(alloc, call)?;
+    let served = assert_session(rt, alloc, &mut link, end, written);
+    drop(link);
+    served
+}
+
+fn failing_row<R: Abort>(rt: &R, alloc: Global, failure: Failure) -> Result<(), Fail> {
+    let (call, end, replies, last) = failure;
+    let written = torn(alloc, replies, last)?;
+    torn_session(rt, alloc, call, end, &written)
+}
+
 fn failing_rows<R: Abort>(rt: &R, alloc: Global, failures: &[Failure]) -> Result<(), Fail> {
-    for (call, end, replies, last) in failures {
-        let written = torn(alloc, replies, last)?;
-        assert_session(rt, alloc, tearing_link(alloc, *call)?, *end, &written)?;
+    for failure in failures {
+        failing_row(rt, alloc, *failure)?;
     }
     Ok(())
 }

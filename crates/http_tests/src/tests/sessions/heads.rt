@@ -1,8 +1,6 @@
 //! Heads that end a session, and those that don't.
 use crate::tests::making::joined;
-use crate::tests::sessions::{
-    KNOWN, UNKNOWN_REFERENCE, VALIDATION, no_outcomes, refused_row, session_row,
-};
+use crate::tests::sessions::{KNOWN, UNKNOWN_REFERENCE, VALIDATION, refused_row, session_row};
 use pint_http::LinkEnd;
 use std::test::Fail;
 
@@ -85,14 +83,7 @@ fn a_finish_with_a_body(rt: HostRuntime) -> Result<(), Fail> {
     let alloc = rt.alloc();
     let input = joined(alloc, &[FINISH_WITH_A_BODY, VALIDATION])?;
     let written = joined(alloc, &[UNKNOWN_REFERENCE, KNOWN])?;
-    session_row(
-        &rt,
-        alloc,
-        &input,
-        no_outcomes(alloc),
-        LinkEnd::Closed,
-        &written,
-    )
+    session_row(&rt, alloc, &input, LinkEnd::Closed, &written)
 }
 
 const EXPECTING: &[u8] =
@@ -101,13 +92,5 @@ const EXPECTING: &[u8] =
 // A server may leave the interim reply out (RFC 9110, section 10.1.1), and writes one reply.
 #[test]
 fn a_request_that_expects_an_interim_reply(rt: HostRuntime) -> Result<(), Fail> {
-    let alloc = rt.alloc();
-    session_row(
-        &rt,
-        alloc,
-        EXPECTING,
-        no_outcomes(alloc),
-        LinkEnd::Closed,
-        KNOWN,
-    )
+    session_row(&rt, rt.alloc(), EXPECTING, LinkEnd::Closed, KNOWN)
 }

@@ -1,13 +1,13 @@
 //! Each reply of a desk as its bytes; all bodies are in `replies` of the crate `form_tests`.
 use crate::tests::making::CHECKSUM;
-use crate::tests::sessions::{FINISH, REFERENCE, plain, session_row};
+use crate::tests::sessions::{FINISH, REFERENCE, desk_with, plain, session_with};
 use ebl_base::{
     ByteList, ChecksumList, Code, Evidence, LimitKind, NoMemory, Party, PlaceTag, SignedText,
 };
 use pint_http::LinkEnd;
 use pint_responses::Response;
-use platform_requests::{IgnoreReason, Reply, View};
-use std::alloc::Global;
+use platform_requests::{IgnoreReason, MemoryDesk, Reply, View};
+use std::alloc::{AllocError, Global};
 use std::process::Abort;
 use std::test::Fail;
 use title_fold::FoldRefusal;
@@ -21,7 +21,14 @@ const START: &[u8] = b"POST /v3/envelopes HTTP/1.1\r\ncontent-length: 2\r\n\r\n{
 const DOCUMENT: &[u8] =
     b"PUT /v3/envelopes/00112233445566778899aabbccddeeff/additional-documents/4444444444444444444444444444444444444444444444444444444444444444 HTTP/1.1\r\ncontent-length: 2\r\n\r\n{}";
 
-// The bytes of the reply that a desk's one outcome gives.
+// A desk whose one outcome gives this reply.
+fn desk_of(alloc: Global, reply: Reply) -> Result<MemoryDesk, Fail> {
+    let mut outcomes = Vec::new(alloc);
+    outcomes.push(plain(alloc, reply))?;
+    desk_with(alloc, outcomes)
+}
+
+// The bytes of the reply that such a desk gives.
 fn reply_row(
     rt: &impl Abort,
     alloc: Global,
@@ -29,15 +36,32 @@ fn reply_row(
     reply: Reply,
     written: &[u8],
 ) -> Result<(), Fail> {
-    let mut outcomes = Vec::new(alloc);
-    outcomes.push(plain(alloc, reply))?;
-    session_row(rt, alloc, input, outcomes, LinkEnd::Closed, written)
+    let mut desk = desk_of(alloc, reply)?;
+    let served = session_with(rt, alloc, input, &mut desk, LinkEnd::Closed, written);
+    drop(desk);
+    served
 }
 
-// A reply without a body.
+// The bytes of a reply without a body.
+fn bare_text(alloc: Global, line: &str) -> Result<String, AllocError> {
+    format!(in alloc; "HTTP/1.1 {line}\r\ncontent-length: 0\r\n\r\n")
+}
+
 fn bare_row(rt: &impl Abort, alloc: Global, reply: Reply, line: &str) -> Result<(), Fail> {
-    let text = format!(in alloc; "HTTP/1.1 {line}\r\ncontent-length: 0\r\n\r\n")?;
-    reply_row(rt, alloc, ASK, reply, text.as_bytes())
+    let mut desk = desk_of(alloc, reply)?;
+    let served = bare_session(rt, alloc, &mut desk, line);
+    drop(desk);
+    served
+}
+
+fn bare_session(
+    rt: &impl Abort,
+    alloc: Global,
+    desk: &mut MemoryDesk,
+    line: &str,
+) -> Result<(), Fail> {
+    let text = bare_text(alloc, line)?;
+    session_with(rt, alloc, ASK, desk, LinkEnd::Closed, text.as_bytes())
 }
 
 #[test]
@@ -53,13 +77,29 @@ fn replies_without_a_body(rt: HostRuntime) -> Result<(), Fail> {
     bare_row(&rt, alloc, fault, "500 Internal Server Error")
 }
 
-// A refusal, whose body is JSON.
-fn refusal_row(rt: &impl Abort, alloc: Global, reply: Reply, body: &str) -> Result<(), Fail> {
+// The bytes of a refusal, whose body is JSON.
+fn refusal_text(alloc: Global, body: &str) -> Result<String, AllocError> {
     let length = body.len();
-    let text = format!(in alloc;
+    format!(in alloc;
         "HTTP/1.1 409 Conflict\r\ncontent-type: application/json\r\ncontent-length: {length}\r\n\r\n{body}"
-    )?;
-    reply_row(rt, alloc, ASK, reply, text.as_bytes())
+    )
+}
+
+fn refusal_row(rt: &impl Abort, alloc: Global, reply: Reply, body: &str) -> Result<(), Fail> {
+    let mut desk = desk_of(alloc, reply)?;
+    let served = refusal_session(rt, alloc, &mut desk, body);
+    drop(desk);
+    served
+}
+
+fn refusal_session(
+    rt: &impl Abort,
+    alloc: Global,
+    desk: &mut MemoryDesk,
+    body: &str,
+) -> Result<(), Fail> {
+    let text = refusal_text(alloc, body)?;
+    session_with(rt, alloc, ASK, desk, LinkEnd::Closed, text.as_bytes())
 }
 
 #[test]
@@ -163,8 +203,8 @@ fn a_document_that_is_stored(rt: HostRuntime) -> Result<(), Fail> {
     reply_row(&rt, rt.alloc(), DOCUMENT, Reply::Stored, text)
 }
 
-fn answer_of(alloc: Global, code: Code) -> Result<Reply, NoMemory> {
-    let response = Response {
+fn response_of(alloc: Global, code: Code) -> Response {
+    Response {
         code,
         bill: None,
         last: None,
@@ -175,16 +215,42 @@ fn answer_of(alloc: Global, code: Code) -> Result<Reply, NoMemory> {
             own: None,
             theirs: None,
         },
-    };
-    let text = SignedText::from_bytes(alloc, ByteList::from_slice(alloc, b"a.b.c")?)?;
+    }
+}
+
+fn signed_text(alloc: Global) -> Result<SignedText, NoMemory> {
+    SignedText::from_bytes(alloc, ByteList::from_slice(alloc, b"a.b.c")?)
+}
+
+fn answer_of(alloc: Global, code: Code) -> Result<Reply, NoMemory> {
+    let text = signed_text(alloc)?;
+    let response = response_of(alloc, code);
     Ok(Reply::Answer { response, text })
 }
 
-fn answer_row<R: Abort>(rt: &R, alloc: Global, code: Code, line: &str) -> Result<(), Fail> {
-    let text = format!(in alloc;
+// The bytes of a signed answer.
+fn answer_text(alloc: Global, line: &str) -> Result<String, AllocError> {
+    format!(in alloc;
         "HTTP/1.1 {line}\r\ncontent-type: application/jose\r\ncontent-length: 5\r\n\r\na.b.c"
-    )?;
-    reply_row(rt, alloc, FINISH, answer_of(alloc, code)?, text.as_bytes())
+    )
+}
+
+fn answer_row<R: Abort>(rt: &R, alloc: Global, code: Code, line: &str) -> Result<(), Fail> {
+    let reply = answer_of(alloc, code)?;
+    let mut desk = desk_of(alloc, reply)?;
+    let served = answer_session(rt, alloc, &mut desk, line);
+    drop(desk);
+    served
+}
+
+fn answer_session<R: Abort>(
+    rt: &R,
+    alloc: Global,
+    desk: &mut MemoryDesk,
+    line: &str,
+) -> Result<(), Fail> {
+    let text = answer_text(alloc, line)?;
+    session_with(rt, alloc, FINISH, desk, LinkEnd::Closed, text.as_bytes())
 }
 
 const ANSWERS: [(Code, &str); 7] = [

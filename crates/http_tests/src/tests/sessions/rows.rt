@@ -1,32 +1,56 @@
 //! The rows that were worked by hand.
 use crate::tests::making::{joined, link_of};
 use crate::tests::sessions::{
-    FINISH, KNOWN, NOT_FOUND, REFERENCE, Session, UNKNOWN_REFERENCE, VALIDATION, no_outcomes,
-    refused_row, serve, session_on, session_row,
+    FINISH, KNOWN, NOT_FOUND, REFERENCE, UNKNOWN_REFERENCE, VALIDATION, assert_served, bare_desk,
+    clock, refused_row, serve, session_row,
 };
+use ebl_base::NoMemory;
+use ebl_edge::{MemoryClock, MemoryLink};
 use pint_http::LinkEnd;
 use platform_requests::{MemoryDesk, Request};
 use std::alloc::Global;
 use std::process::Abort;
 use std::test::Fail;
 
-fn in_single_bytes(alloc: Global) -> Result<Session, Fail> {
+fn in_single_bytes(alloc: Global) -> Result<MemoryLink, NoMemory> {
     let input = joined(alloc, &[VALIDATION, b"GET /v3/none HTTP/1.1\r\n\r\n"])?;
-    session_on(
+    link_of(alloc, &input, &[1; 200])
+}
+
+fn assert_calls<R: Abort>(rt: &R, clock: &MemoryClock, calls: u64) {
+    assert_eq!(rt; clock.calls(), calls);
+}
+
+// Serves a session over this link, and asserts what it writes and that the clock isn't asked.
+fn assert_unclocked<R: Abort>(
+    rt: &R,
+    alloc: Global,
+    link: &mut MemoryLink,
+    written: &[u8],
+) -> Result<(), Fail> {
+    let mut clock = clock()?;
+    let mut desk = bare_desk(alloc)?;
+    assert_served(
+        rt,
         alloc,
-        link_of(alloc, &input, &[1; 200])?,
-        no_outcomes(alloc),
-    )
+        link,
+        &mut desk,
+        &mut clock,
+        LinkEnd::Closed,
+        written,
+    );
+    drop(desk);
+    assert_calls(rt, &clock, 0);
+    Ok(())
 }
 
 #[test]
 fn http_in_single_bytes(rt: HostRuntime) -> Result<(), Fail> {
     let written = joined(rt.alloc(), &[KNOWN, NOT_FOUND])?;
-    let mut session = in_single_bytes(rt.alloc())?;
-    assert_eq!(rt; serve(rt.alloc(), &mut session), LinkEnd::Closed);
-    assert_eq!(rt; session.link.written(), written.as_slice());
-    assert_eq!(rt; session.clock.calls(), 0);
-    Ok(())
+    let mut link = in_single_bytes(rt.alloc())?;
+    let served = assert_unclocked(&rt, rt.alloc(), &mut link, &written);
+    drop(link);
+    served
 }
 
 // Heads, and the status that refuses each.
@@ -72,8 +96,7 @@ fn a_finish_of_an_unknown_reference(rt: HostRuntime) -> Result<(), Fail> {
     let alloc = rt.alloc();
     let input = joined(alloc, &[FINISH, FINISH])?;
     let written = joined(alloc, &[UNKNOWN_REFERENCE, UNKNOWN_REFERENCE])?;
-    let none = no_outcomes(alloc);
-    session_row(&rt, alloc, &input, none, LinkEnd::Closed, &written)
+    session_row(&rt, alloc, &input, LinkEnd::Closed, &written)
 }
 
 // Asserts that the desk was asked once, for the finish, at this moment.
@@ -94,13 +117,22 @@ fn is_finish(request: &Request) -> bool {
     }
 }
 
+// Serves a session of a finish, for which the clock is asked once.
+fn serve_finish<R: Abort>(rt: &R, alloc: Global, desk: &mut MemoryDesk) -> Result<(), Fail> {
+    let mut clock = clock()?;
+    let mut link = link_of(alloc, FINISH, &[])?;
+    let _ = serve(alloc, &mut link, desk, &mut clock);
+    drop(link);
+    assert_calls(rt, &clock, 1);
+    Ok(())
+}
+
 // The desk keeps what it was asked, at the clock's moment.
 #[test]
 fn a_desk_is_asked_once(rt: HostRuntime) -> Result<(), Fail> {
-    let link = link_of(rt.alloc(), FINISH, &[])?;
-    let mut session = session_on(rt.alloc(), link, no_outcomes(rt.alloc()))?;
-    let _ = serve(rt.alloc(), &mut session);
-    assert_eq!(rt; session.clock.calls(), 1);
-    assert_asked(&rt, &session.desk, 1000);
-    Ok(())
+    let mut desk = bare_desk(rt.alloc())?;
+    let served = serve_finish(&rt, rt.alloc(), &mut desk);
+    assert_asked(&rt, &desk, 1000);
+    drop(desk);
+    served
 }
