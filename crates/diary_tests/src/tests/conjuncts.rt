@@ -53,8 +53,8 @@ fn staged<'a>(
 
 impl Scenario {
     fn found(&self, alloc: Global) -> Result<Found, Fail> {
-        let verdict = survey(alloc, &self.family.copy(alloc)?)?;
-        Ok(shown(&verdict))
+        let copy = self.family.copy(alloc)?;
+        surveyed(alloc, &copy)
     }
 
     fn lacks(&self, alloc: Global, at: At, what: Lack) -> Result<Found, Fail> {
@@ -81,41 +81,60 @@ impl Scenario {
         Ok(place(alloc, self.diary(at)?, self.bill.name)?)
     }
 
+    fn may_act(&self, alloc: Global, at: At) -> Result<bool, Fail> {
+        Ok(may_act(alloc, self.diary(at)?, self.bill.name)?)
+    }
+
     // Whether somebody may act, on ALPH, on BETA and on GAMM.
     fn acts(&self, alloc: Global) -> Result<[bool; 3], Fail> {
-        let alph = may_act(alloc, self.diary(At::Alph)?, self.bill.name)?;
-        let beta = may_act(alloc, self.diary(At::Beta)?, self.bill.name)?;
-        let gamm = may_act(alloc, self.diary(At::Gamm)?, self.bill.name)?;
+        let alph = self.may_act(alloc, At::Alph)?;
+        let beta = self.may_act(alloc, At::Beta)?;
+        let gamm = self.may_act(alloc, At::Gamm)?;
         Ok([alph, beta, gamm])
     }
 
     // The only entry of the chain by which a platform holds the bill.
     fn only_entry(&self, alloc: Global, at: At) -> Result<Option<Checksum>, Fail> {
-        match self.place(alloc, at)? {
-            BillPlace::Held { known, .. } => Ok(only_name(known.as_slice())),
-            _ => Ok(None),
-        }
+        let place = self.place(alloc, at)?;
+        Ok(only_name(&place))
     }
 
     // The transactions at a platform that holds the bill.
     fn transactions(&self, alloc: Global, at: At) -> Result<TransactionList, Fail> {
-        transactions_at(alloc, &self.place(alloc, at)?)
+        let place = self.place(alloc, at)?;
+        transactions_at(alloc, &place)
     }
 
     // The title there.
     fn title(&self, alloc: Global, at: At) -> Result<Title, Fail> {
-        title_of(self.transactions(alloc, at)?.as_slice())
+        let transactions = self.transactions(alloc, at)?;
+        title_of(transactions.as_slice())
     }
+}
+
+fn surveyed(alloc: Global, family: &Family) -> Result<Found, Fail> {
+    let verdict = survey(alloc, family)?;
+    Ok(shown(&verdict))
+}
+
+fn add_known(all: &mut TransactionList, known: &[ChainLink]) -> Result<(), Fail> {
+    for link in known {
+        all.extend_from_slice(link.entry.transactions.as_slice())?;
+    }
+    Ok(())
+}
+
+fn add_held(all: &mut TransactionList, place: &BillPlace) -> Result<(), Fail> {
+    if let BillPlace::Held { known, since } = place {
+        add_known(all, known.as_slice())?;
+        all.extend_from_slice(since.as_slice())?;
+    }
+    Ok(())
 }
 
 fn transactions_at(alloc: Global, place: &BillPlace) -> Result<TransactionList, Fail> {
     let mut all = TransactionList::new(alloc);
-    if let BillPlace::Held { known, since } = place {
-        for link in known.as_slice() {
-            all.extend_from_slice(link.entry.transactions.as_slice())?;
-        }
-        all.extend_from_slice(since.as_slice())?;
-    }
+    add_held(&mut all, place)?;
     Ok(all)
 }
 
@@ -126,7 +145,14 @@ fn title_of(transactions: &[Transaction]) -> Result<Title, Fail> {
     }
 }
 
-fn only_name(chain: &[ChainLink]) -> Option<Checksum> {
+fn only_name(place: &BillPlace) -> Option<Checksum> {
+    match place {
+        BillPlace::Held { known, .. } => name_of_one(known.as_slice()),
+        _ => None,
+    }
+}
+
+fn name_of_one(chain: &[ChainLink]) -> Option<Checksum> {
     match chain {
         [link] => Some(link.name),
         _ => None,
@@ -141,8 +167,8 @@ fn before_last(alloc: Global, steps: &[Step]) -> Result<Diary, Fail> {
 
 // Where the bill stands before the last step.
 fn place_before_last(alloc: Global, steps: &[Step]) -> Result<BillPlace, Fail> {
-    let front = before_last(alloc, steps)?;
     let bill = the_bill(alloc)?;
+    let front = before_last(alloc, steps)?;
     Ok(place(alloc, &front, bill.name)?)
 }
 
@@ -208,20 +234,29 @@ fn assert_before<R: Abort>(
 
 // ---- nobody acts elsewhere, and the bill is held nowhere else
 
+fn assert_two_act<R: Abort>(
+    rt: &R,
+    alloc: Global,
+    scene: &Scenario,
+    at: At,
+    what: Lack,
+) -> Result<(), Fail> {
+    assert_acts(rt, alloc, scene, [true, true, false])?;
+    assert_lacks(rt, alloc, scene, at, what)
+}
+
 // BETA took an entry with which ALPH never parted.
 #[test]
 fn two_may_act_where_nobody_parted(rt: HostRuntime) -> Result<(), Fail> {
     let scene = staged(rt.alloc(), &ISSUED, &TAKEN, &NOTHING)?;
-    assert_acts(&rt, rt.alloc(), &scene, [true, true, false])?;
-    assert_lacks(&rt, rt.alloc(), &scene, At::Alph, Lack::Parted)
+    assert_two_act(&rt, rt.alloc(), &scene, At::Alph, Lack::Parted)
 }
 
 // BETA took an entry that ALPH regained.
 #[test]
 fn two_may_act_where_nobody_declined(rt: HostRuntime) -> Result<(), Fail> {
     let scene = staged(rt.alloc(), &REGAINED, &TAKEN, &NOTHING)?;
-    assert_acts(&rt, rt.alloc(), &scene, [true, true, false])?;
-    assert_lacks(&rt, rt.alloc(), &scene, At::Beta, Lack::Declined)
+    assert_two_act(&rt, rt.alloc(), &scene, At::Beta, Lack::Declined)
 }
 
 fn signed_document(diary: &Diary) -> Result<&[u8], Fail> {
@@ -238,15 +273,19 @@ fn assert_signed_alike<R: Abort>(rt: &R, scene: &Scenario) -> Result<(), Fail> {
     Ok(())
 }
 
+fn assert_two_signed<R: Abort>(rt: &R, alloc: Global, scene: &Scenario) -> Result<(), Fail> {
+    assert_acts(rt, alloc, scene, [true, true, false])?;
+    assert_found(rt, alloc, scene, Found::Consistent)?;
+    assert_signed_alike(rt, scene)
+}
+
 const SIGNED_AT_BETA: [Step; 1] = [Step::Acted(SIGN_AT_BETA)];
 
 // One document was signed on two platforms. Each diary is sound, and nothing is lacking.
 #[test]
 fn two_may_act_where_two_signed(rt: HostRuntime) -> Result<(), Fail> {
     let scene = staged(rt.alloc(), &ISSUED, &SIGNED_AT_BETA, &NOTHING)?;
-    assert_acts(&rt, rt.alloc(), &scene, [true, true, false])?;
-    assert_found(&rt, rt.alloc(), &scene, Found::Consistent)?;
-    assert_signed_alike(&rt, &scene)
+    assert_two_signed(&rt, rt.alloc(), &scene)
 }
 
 // ---- of two accepted chains one is a prefix of the other
@@ -281,13 +320,18 @@ const PARTED_TWICE: [Step; 4] = [
     Step::Parted(FORK),
 ];
 
+// A fork with which nothing is lacking.
+fn assert_unseen_fork<R: Abort>(rt: &R, alloc: Global, scene: &Scenario) -> Result<(), Fail> {
+    assert_fork(rt, alloc, scene)?;
+    assert_found(rt, alloc, scene, Found::Consistent)
+}
+
 // ALPH parted with the bill again while it was parting.
 #[test]
 fn a_fork_by_a_second_parted(rt: HostRuntime) -> Result<(), Fail> {
+    assert_before(&rt, rt.alloc(), &PARTED_TWICE, PlaceTag::Parting)?;
     let scene = staged(rt.alloc(), &PARTED_TWICE, &TAKEN, &FORK_TAKEN)?;
-    assert_fork(&rt, rt.alloc(), &scene)?;
-    assert_found(&rt, rt.alloc(), &scene, Found::Consistent)?;
-    assert_before(&rt, rt.alloc(), &PARTED_TWICE, PlaceTag::Parting)
+    assert_unseen_fork(&rt, rt.alloc(), &scene)
 }
 
 const PARTED_AGAIN: [Step; 5] = [
@@ -298,25 +342,33 @@ const PARTED_AGAIN: [Step; 5] = [
     Step::Parted(FORK),
 ];
 
+fn assert_undeclined_fork<R: Abort>(rt: &R, alloc: Global, scene: &Scenario) -> Result<(), Fail> {
+    assert_fork(rt, alloc, scene)?;
+    assert_lacks(rt, alloc, scene, At::Beta, Lack::Declined)
+}
+
 // ALPH parted with the bill again after it had regained an entry that BETA didn't decline, but took.
 #[test]
 fn a_fork_where_nobody_declined(rt: HostRuntime) -> Result<(), Fail> {
+    assert_before(&rt, rt.alloc(), &PARTED_AGAIN, PlaceTag::Held)?;
     let scene = staged(rt.alloc(), &PARTED_AGAIN, &TAKEN, &FORK_TAKEN)?;
-    assert_fork(&rt, rt.alloc(), &scene)?;
-    assert_lacks(&rt, rt.alloc(), &scene, At::Beta, Lack::Declined)?;
-    assert_before(&rt, rt.alloc(), &PARTED_AGAIN, PlaceTag::Held)
+    assert_undeclined_fork(&rt, rt.alloc(), &scene)
 }
 
 // ---- at the end of the line the bill is held or parting
+
+fn assert_nobody_holds<R: Abort>(rt: &R, alloc: Global, scene: &Scenario) -> Result<(), Fail> {
+    assert_place(rt, alloc, scene, At::Alph, PlaceTag::Gone)?;
+    assert_place(rt, alloc, scene, At::Beta, PlaceTag::Absent)?;
+    assert_place(rt, alloc, scene, At::Gamm, PlaceTag::Absent)?;
+    assert_lacks(rt, alloc, scene, At::Beta, Lack::Taken)
+}
 
 // ALPH let the bill go, and BETA didn't take it: nobody has it.
 #[test]
 fn nobody_holds_where_nobody_took(rt: HostRuntime) -> Result<(), Fail> {
     let scene = staged(rt.alloc(), &SETTLED, &NOTHING, &NOTHING)?;
-    assert_place(&rt, rt.alloc(), &scene, At::Alph, PlaceTag::Gone)?;
-    assert_place(&rt, rt.alloc(), &scene, At::Beta, PlaceTag::Absent)?;
-    assert_place(&rt, rt.alloc(), &scene, At::Gamm, PlaceTag::Absent)?;
-    assert_lacks(&rt, rt.alloc(), &scene, At::Beta, Lack::Taken)
+    assert_nobody_holds(&rt, rt.alloc(), &scene)
 }
 
 // ---- the title there
@@ -326,6 +378,26 @@ fn assert_no_title<R: Abort>(rt: &R, alloc: Global, scene: &Scenario) -> Result<
     let has_none = fold(transactions.as_slice()).is_err();
     assert!(rt; has_none);
     Ok(())
+}
+
+fn assert_held<R: Abort>(rt: &R, alloc: Global, scene: &Scenario) -> Result<(), Fail> {
+    assert_found(rt, alloc, scene, Found::Consistent)?;
+    assert_place(rt, alloc, scene, At::Alph, PlaceTag::Held)
+}
+
+fn assert_held_without_title<R: Abort>(
+    rt: &R,
+    alloc: Global,
+    scene: &Scenario,
+) -> Result<(), Fail> {
+    assert_held(rt, alloc, scene)?;
+    assert_no_title(rt, alloc, scene)
+}
+
+fn assert_without_title<R: Abort>(rt: &R, alloc: Global, alph: &[Step]) -> Result<(), Fail> {
+    assert_before(rt, alloc, alph, PlaceTag::Held)?;
+    let scene = staged(alloc, alph, &NOTHING, &NOTHING)?;
+    assert_held_without_title(rt, alloc, &scene)
 }
 
 const REFUSED: [Step; 2] = [Step::Acted(SIGN), Step::Acted(ISSUE_BY_EXPORTER)];
@@ -338,11 +410,7 @@ const WITHOUT_TITLE: [&[Step]; 2] = [&REFUSED, &SIGNED_TWICE];
 #[test]
 fn no_title_at_the_end(rt: HostRuntime) -> Result<(), Fail> {
     for alph in &WITHOUT_TITLE {
-        let scene = staged(rt.alloc(), alph, &NOTHING, &NOTHING)?;
-        assert_found(&rt, rt.alloc(), &scene, Found::Consistent)?;
-        assert_place(&rt, rt.alloc(), &scene, At::Alph, PlaceTag::Held)?;
-        assert_no_title(&rt, rt.alloc(), &scene)?;
-        assert_before(&rt, rt.alloc(), alph, PlaceTag::Held)?;
+        assert_without_title(&rt, rt.alloc(), alph)?;
     }
     Ok(())
 }
@@ -350,7 +418,12 @@ fn no_title_at_the_end(rt: HostRuntime) -> Result<(), Fail> {
 // The title before the last step.
 fn title_before_last(alloc: Global, steps: &[Step]) -> Result<Title, Fail> {
     let front = place_before_last(alloc, steps)?;
-    title_of(transactions_at(alloc, &front)?.as_slice())
+    title_of_place(alloc, &front)
+}
+
+fn title_of_place(alloc: Global, place: &BillPlace) -> Result<Title, Fail> {
+    let transactions = transactions_at(alloc, place)?;
+    title_of(transactions.as_slice())
 }
 
 // On which platform the possessor of the bill is, by the title where it is held.
@@ -372,16 +445,29 @@ const MOVED: [Step; 3] = [
     Step::Acted(TO_IMPORTER),
 ];
 
+// The last step moves the bill.
+fn assert_moves<R: Abort>(
+    rt: &R,
+    alloc: Global,
+    scene: &Scenario,
+    steps: &[Step],
+) -> Result<(), Fail> {
+    let before = title_before_last(alloc, steps)?;
+    assert!(rt; moves(Some(before), scene.title(alloc, At::Alph)?));
+    Ok(())
+}
+
+fn assert_moved<R: Abort>(rt: &R, alloc: Global, scene: &Scenario) -> Result<(), Fail> {
+    assert_held(rt, alloc, scene)?;
+    assert_possessor(rt, alloc, scene, At::Alph, At::Beta)?;
+    assert_moves(rt, alloc, scene, &MOVED)
+}
+
 // A transaction that moves, written down as one that stays: ALPH holds the bill, and its possessor is on BETA.
 #[test]
 fn the_possessor_is_elsewhere(rt: HostRuntime) -> Result<(), Fail> {
     let scene = staged(rt.alloc(), &MOVED, &NOTHING, &NOTHING)?;
-    assert_found(&rt, rt.alloc(), &scene, Found::Consistent)?;
-    assert_place(&rt, rt.alloc(), &scene, At::Alph, PlaceTag::Held)?;
-    assert_possessor(&rt, rt.alloc(), &scene, At::Alph, At::Beta)?;
-    let before = title_before_last(rt.alloc(), &MOVED)?;
-    assert!(rt; moves(Some(before), scene.title(rt.alloc(), At::Alph)?));
-    Ok(())
+    assert_moved(&rt, rt.alloc(), &scene)
 }
 
 const ACTED_WHILE_PARTING: [Step; 4] = [
@@ -393,20 +479,24 @@ const ACTED_WHILE_PARTING: [Step; 4] = [
 
 // The title after these transactions.
 fn title_after(alloc: Global, acts: &[Act]) -> Result<Title, Fail> {
-    title_of(transactions(alloc, acts)?.as_slice())
+    let transactions = transactions(alloc, acts)?;
+    title_of(transactions.as_slice())
+}
+
+fn assert_taken_by_importer<R: Abort>(rt: &R, alloc: Global, scene: &Scenario) -> Result<(), Fail> {
+    assert_found(rt, alloc, scene, Found::Consistent)?;
+    assert_possessor(rt, alloc, scene, At::Beta, At::Beta)
 }
 
 // A transaction that was made while the bill was parting breaks no promise, but no chain has it: by ALPH's diary the
 // bank has possession, and by the chain that BETA took the importer.
 #[test]
 fn a_transaction_that_no_chain_has(rt: HostRuntime) -> Result<(), Fail> {
-    let scene = staged(rt.alloc(), &ACTED_WHILE_PARTING, &TAKEN, &NOTHING)?;
-    assert_found(&rt, rt.alloc(), &scene, Found::Consistent)?;
     assert_before(&rt, rt.alloc(), &ACTED_WHILE_PARTING, PlaceTag::Parting)?;
-    assert_possessor(&rt, rt.alloc(), &scene, At::Beta, At::Beta)?;
     let title = title_after(rt.alloc(), &[SIGN, ISSUE, TO_BANK])?;
     assert_eq!(rt; possessor(title).platform, code(At::Alph)?);
-    Ok(())
+    let scene = staged(rt.alloc(), &ACTED_WHILE_PARTING, &TAKEN, &NOTHING)?;
+    assert_taken_by_importer(&rt, rt.alloc(), &scene)
 }
 
 // ---- each entry is taken once, and none is both taken and declined
@@ -418,14 +508,18 @@ fn assert_taken<R: Abort>(rt: &R, alloc: Global, scene: &Scenario, at: At) -> Re
     Ok(())
 }
 
+fn assert_both_took<R: Abort>(rt: &R, alloc: Global, scene: &Scenario) -> Result<(), Fail> {
+    assert_found(rt, alloc, scene, Found::Consistent)?;
+    assert_taken(rt, alloc, scene, At::Beta)?;
+    assert_taken(rt, alloc, scene, At::Gamm)?;
+    assert_possessor(rt, alloc, scene, At::Gamm, At::Beta)
+}
+
 // GAMM took the entry that moves the bill to BETA.
 #[test]
 fn taken_on_two_platforms(rt: HostRuntime) -> Result<(), Fail> {
     let scene = staged(rt.alloc(), &SETTLED, &TAKEN, &TAKEN)?;
-    assert_found(&rt, rt.alloc(), &scene, Found::Consistent)?;
-    assert_taken(&rt, rt.alloc(), &scene, At::Beta)?;
-    assert_taken(&rt, rt.alloc(), &scene, At::Gamm)?;
-    assert_possessor(&rt, rt.alloc(), &scene, At::Gamm, At::Beta)
+    assert_both_took(&rt, rt.alloc(), &scene)
 }
 
 // How often an entry was taken.
@@ -451,15 +545,25 @@ fn taken_by(frame: &Frame) -> Option<Checksum> {
 
 const TAKEN_TWICE: [Step; 2] = [Step::BegunTaken(FIRST), Step::Taken(FIRST)];
 
+// Whether an entry was taken before the last step.
+fn was_taken(alloc: Global, steps: &[Step], entry: Checksum) -> Result<bool, Fail> {
+    let front = before_last(alloc, steps)?;
+    Ok(is_taken(&front, entry))
+}
+
+fn assert_taken_twice<R: Abort>(rt: &R, alloc: Global, scene: &Scenario) -> Result<(), Fail> {
+    assert_found(rt, alloc, scene, Found::Consistent)?;
+    let entry = scene.name(alloc, FIRST)?;
+    assert_eq!(rt; takings(scene.diary(At::Beta)?, entry), 2);
+    assert!(rt; was_taken(alloc, &TAKEN_TWICE, entry)?);
+    Ok(())
+}
+
 // BETA took an entry that it had taken.
 #[test]
 fn taken_twice(rt: HostRuntime) -> Result<(), Fail> {
     let scene = staged(rt.alloc(), &SETTLED, &TAKEN_TWICE, &NOTHING)?;
-    assert_found(&rt, rt.alloc(), &scene, Found::Consistent)?;
-    let entry = scene.name(rt.alloc(), FIRST)?;
-    assert_eq!(rt; takings(scene.diary(At::Beta)?, entry), 2);
-    assert!(rt; is_taken(&before_last(rt.alloc(), &TAKEN_TWICE)?, entry));
-    Ok(())
+    assert_taken_twice(&rt, rt.alloc(), &scene)
 }
 
 const DECLINED_LATER: [Step; 2] = [Step::BegunTaken(FIRST), Step::Declined(FIRST)];
@@ -476,27 +580,37 @@ fn answered(diary: &Diary, entry: Checksum) -> (bool, bool) {
     )
 }
 
+// The same before the last step.
+fn answered_before(alloc: Global, steps: &[Step], entry: Checksum) -> Result<(bool, bool), Fail> {
+    let front = before_last(alloc, steps)?;
+    Ok(answered(&front, entry))
+}
+
 fn assert_both<R: Abort>(
     rt: &R,
     alloc: Global,
     scene: &Scenario,
     beta: &[Step],
 ) -> Result<(), Fail> {
+    assert_found(rt, alloc, scene, Found::Consistent)?;
     let entry = scene.name(alloc, FIRST)?;
     let whole = answered(scene.diary(At::Beta)?, entry);
     assert!(rt; whole == (true, true), "{beta:?}");
-    let front = answered(&before_last(alloc, beta)?, entry);
+    let front = answered_before(alloc, beta, entry)?;
     assert!(rt; front.0 || front.1, "{beta:?}");
     Ok(())
+}
+
+fn assert_taken_and_declined<R: Abort>(rt: &R, alloc: Global, beta: &[Step]) -> Result<(), Fail> {
+    let scene = staged(alloc, &SETTLED, &*beta, &NOTHING)?;
+    assert_both(rt, alloc, &scene, beta)
 }
 
 // BETA declined an entry that it had taken, and took one that it had declined.
 #[test]
 fn taken_and_declined(rt: HostRuntime) -> Result<(), Fail> {
     for beta in &BOTH {
-        let scene = staged(rt.alloc(), &SETTLED, beta, &NOTHING)?;
-        assert_found(&rt, rt.alloc(), &scene, Found::Consistent)?;
-        assert_both(&rt, rt.alloc(), &scene, beta)?;
+        assert_taken_and_declined(&rt, rt.alloc(), beta)?;
     }
     Ok(())
 }

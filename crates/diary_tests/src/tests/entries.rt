@@ -1,7 +1,7 @@
 //! Chains of a bill that goes to and fro between ALPH and BETA, each named by what its entries do. A chain's name is
 //! that of its last entry too.
 use super::making::{
-    Act, At, Bill, EXPORTER, IMPORTER, ISSUE, SIGN, TO_AGENT, code, link_of, roster, transaction,
+    Act, At, Bill, EXPORTER, IMPORTER, ISSUE, SIGN, TO_AGENT, add, code, link_of, roster,
 };
 use ebl_base::{
     Chain, ChainLink, Checksum, Copied, Entry, Kind, SignedText, TextList, TransactionList,
@@ -81,13 +81,17 @@ fn transfer(entries: usize, leg: Leg) -> Act {
     }
 }
 
+fn add_transactions(list: &mut TransactionList, entries: usize, leg: Leg) -> Result<(), Fail> {
+    if entries == 0 {
+        add(list, SIGN)?;
+        add(list, ISSUE)?;
+    }
+    add(list, transfer(entries, leg))
+}
+
 fn transactions(alloc: Global, entries: usize, leg: Leg) -> Result<TransactionList, Fail> {
     let mut list = TransactionList::new(alloc);
-    if entries == 0 {
-        list.push(transaction(SIGN)?)?;
-        list.push(transaction(ISSUE)?)?;
-    }
-    list.push(transaction(transfer(entries, leg))?)?;
+    add_transactions(&mut list, entries, leg)?;
     Ok(list)
 }
 
@@ -100,28 +104,45 @@ fn attempt(entries: usize, leg: Leg) -> u32 {
     }
 }
 
-// An entry after a chain.
-fn link(alloc: Global, bill: Bill, before: &[ChainLink], leg: Leg) -> Result<ChainLink, Fail> {
-    let previous = match before.last() {
+fn name_of_last(before: &[ChainLink]) -> Option<Checksum> {
+    match before.last() {
         Some(link) => Some(link.name),
         None => None,
-    };
-    let entry = Entry {
+    }
+}
+
+fn entry(alloc: Global, bill: Bill, before: &[ChainLink], leg: Leg) -> Result<Entry, Fail> {
+    Ok(Entry {
         platform: code(turn(before.len()))?,
         bill: bill.name,
-        previous,
+        previous: name_of_last(before),
         attempt: attempt(before.len(), leg),
         transactions: transactions(alloc, before.len(), leg)?,
-    };
+    })
+}
+
+// An entry after a chain.
+fn link(alloc: Global, bill: Bill, before: &[ChainLink], leg: Leg) -> Result<ChainLink, Fail> {
+    let entry = entry(alloc, bill, before, leg)?;
     link_of(alloc, entry)
 }
 
-pub(crate) fn chain(alloc: Global, bill: Bill, route: Route) -> Result<Chain, Fail> {
-    let mut links = Vec::new(alloc);
+fn add_links(
+    alloc: Global,
+    bill: Bill,
+    links: &mut Vec<ChainLink>,
+    route: Route,
+) -> Result<(), Fail> {
     for leg in route {
         let link = link(alloc, bill, links.as_slice(), *leg)?;
         links.push(link)?;
     }
+    Ok(())
+}
+
+pub(crate) fn chain(alloc: Global, bill: Bill, route: Route) -> Result<Chain, Fail> {
+    let mut links = Vec::new(alloc);
+    add_links(alloc, bill, &mut links, route)?;
     Ok(Chain::from_vec(alloc, links)?)
 }
 

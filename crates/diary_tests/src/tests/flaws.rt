@@ -1,8 +1,8 @@
 //! Texts of chains of the bill, with flaws at will.
 use super::entries::turn;
 use super::making::{
-    Act, At, EXPORTER, IMPORTER, ISSUE, SIGN, another_bill, code, signed, signed_with, the_bill,
-    transaction,
+    Act, At, EXPORTER, IMPORTER, ISSUE, SIGN, add, another_bill, code, signed, signed_with,
+    the_bill,
 };
 use canonical_json::read;
 use chain_entry::encode;
@@ -60,43 +60,60 @@ const SIGN_BY_EXPORTER: Act = (Kind::Sign, EXPORTER, "");
 
 const ISSUE_BY_EXPORTER: Act = (Kind::Issue, EXPORTER, EXPORTER);
 
+// One of two values: the other one where there is this flaw.
+fn chosen<T: Copy>(flaws: &Flaws, at: usize, flaw: Flaw, other: T, usual: T) -> T {
+    if has(flaws, at, flaw) { other } else { usual }
+}
+
 // The carrier signs and issues, at the first entry.
 fn begin(list: &mut TransactionList, flaws: &Flaws) -> Result<(), Fail> {
-    let by_exporter = has(flaws, 0, Flaw::Carrier);
-    list.push(transaction(if by_exporter { SIGN_BY_EXPORTER } else { SIGN })?)?;
-    let by_exporter = has(flaws, 0, Flaw::Fold);
-    list.push(transaction(if by_exporter {
-        ISSUE_BY_EXPORTER
-    } else {
-        ISSUE
-    })?)?;
-    Ok(())
+    add(
+        list,
+        chosen(flaws, 0, Flaw::Carrier, SIGN_BY_EXPORTER, SIGN),
+    )?;
+    add(list, chosen(flaws, 0, Flaw::Fold, ISSUE_BY_EXPORTER, ISSUE))
+}
+
+/// The party that has the bill, the one on the other platform, and one that isn't a party, on the same platform.
+type Parties = (&'static str, &'static str, &'static str);
+
+// The parties of an entry after so many entries.
+fn parties(at: usize) -> Parties {
+    match turn(at) {
+        At::Alph => (EXPORTER, IMPORTER, "ALPH/STORE"),
+        _ => (IMPORTER, EXPORTER, "BETA/STORE"),
+    }
+}
+
+// The other platform gets possession, and gives it back.
+fn move_inside(list: &mut TransactionList, (from, to, _): Parties) -> Result<(), Fail> {
+    add(list, (Kind::Transfer, from, to))?;
+    add(list, (Kind::Transfer, to, from))
+}
+
+// The last transaction of an entry.
+fn last_transfer(at: usize, flaws: &Flaws, (from, to, beside): Parties) -> Act {
+    let by = chosen(flaws, at, Flaw::Fold, "GAMM/AGENT", from);
+    (
+        Kind::Transfer,
+        by,
+        chosen(flaws, at, Flaw::Stays, beside, to),
+    )
+}
+
+fn add_transactions(list: &mut TransactionList, at: usize, flaws: &Flaws) -> Result<(), Fail> {
+    if at == 0 {
+        begin(list, flaws)?;
+    }
+    if has(flaws, at, Flaw::Inside) {
+        move_inside(list, parties(at))?;
+    }
+    add(list, last_transfer(at, flaws, parties(at)))
 }
 
 fn transactions(alloc: Global, at: usize, flaws: &Flaws) -> Result<TransactionList, Fail> {
     let mut list = TransactionList::new(alloc);
-    if at == 0 {
-        begin(&mut list, flaws)?;
-    }
-    let (from, to, beside) = match turn(at) {
-        At::Alph => (EXPORTER, IMPORTER, "ALPH/STORE"),
-        _ => (IMPORTER, EXPORTER, "BETA/STORE"),
-    };
-    if has(flaws, at, Flaw::Inside) {
-        list.push(transaction((Kind::Transfer, from, to))?)?;
-        list.push(transaction((Kind::Transfer, to, from))?)?;
-    }
-    let by = if has(flaws, at, Flaw::Fold) {
-        "GAMM/AGENT"
-    } else {
-        from
-    };
-    let to = if has(flaws, at, Flaw::Stays) {
-        beside
-    } else {
-        to
-    };
-    list.push(transaction((Kind::Transfer, by, to))?)?;
+    add_transactions(&mut list, at, flaws)?;
     Ok(list)
 }
 
@@ -107,23 +124,11 @@ fn entry(
     at: usize,
     flaws: &Flaws,
 ) -> Result<Entry, Fail> {
-    let has = |flaw: Flaw| has(flaws, at, flaw);
+    let other = another_bill();
     Ok(Entry {
-        platform: code(if has(Flaw::Platform) {
-            At::Gamm
-        } else {
-            turn(at)
-        })?,
-        bill: if has(Flaw::Bill) {
-            another_bill()
-        } else {
-            bill
-        },
-        previous: if has(Flaw::Link) {
-            Some(another_bill())
-        } else {
-            previous
-        },
+        platform: code(chosen(flaws, at, Flaw::Platform, At::Gamm, turn(at)))?,
+        bill: chosen(flaws, at, Flaw::Bill, other, bill),
+        previous: chosen(flaws, at, Flaw::Link, Some(other), previous),
         attempt: 1,
         transactions: transactions(alloc, at, flaws)?,
     })
@@ -145,7 +150,36 @@ fn sealed(
     who: PlatformCode,
     entry: &Entry,
 ) -> Result<SignedText, Fail> {
-    signed_with(alloc, ring, who, &encode(alloc, entry)?)
+    let payload = encode(alloc, entry)?;
+    signed_with(alloc, ring, who, &payload)
+}
+
+fn not_compact(alloc: Global) -> Result<SignedText, Fail> {
+    let bytes = ByteList::from_slice(alloc, b"x")?;
+    Ok(SignedText::from_bytes(alloc, bytes)?)
+}
+
+fn no_entry(alloc: Global, who: PlatformCode) -> Result<SignedText, Fail> {
+    let payload = read(alloc, b"{}")?;
+    signed(alloc, who, &payload)
+}
+
+// The text of an entry, with the flaws that a signed text may have.
+fn signed_entry(
+    alloc: Global,
+    entry: &Entry,
+    at: usize,
+    flaws: &Flaws,
+) -> Result<SignedText, Fail> {
+    if has(flaws, at, Flaw::NoEntry) {
+        return no_entry(alloc, entry.platform);
+    }
+    if has(flaws, at, Flaw::WrongKey) {
+        return sealed(alloc, &mut crossed()?, entry.platform, entry);
+    }
+    let own = entry.platform;
+    let who = chosen(flaws, at, Flaw::OtherSigner, code(At::Gamm)?, own);
+    sealed(alloc, &mut KeyedRing::derived(), who, entry)
 }
 
 fn text(
@@ -156,20 +190,10 @@ fn text(
     flaws: &Flaws,
 ) -> Result<SignedText, Fail> {
     if has(flaws, at, Flaw::NotCompact) {
-        let bytes = ByteList::from_slice(alloc, b"x")?;
-        return Ok(SignedText::from_bytes(alloc, bytes)?);
+        return not_compact(alloc);
     }
     let entry = entry(alloc, bill, previous, at, flaws)?;
-    if has(flaws, at, Flaw::NoEntry) {
-        return signed(alloc, entry.platform, &read(alloc, b"{}")?);
-    }
-    if has(flaws, at, Flaw::WrongKey) {
-        return sealed(alloc, &mut crossed()?, entry.platform, &entry);
-    }
-    if has(flaws, at, Flaw::OtherSigner) {
-        return sealed(alloc, &mut KeyedRing::derived(), code(At::Gamm)?, &entry);
-    }
-    sealed(alloc, &mut KeyedRing::derived(), entry.platform, &entry)
+    signed_entry(alloc, &entry, at, flaws)
 }
 
 /// So many texts of the bill, with these flaws.

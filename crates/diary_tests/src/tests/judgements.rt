@@ -2,8 +2,11 @@
 use super::entries::{FIRST, NONE, Route, SECOND, checked, is_text, name};
 use super::making::{At, SIGN, another_bill, code, roster, the_bill};
 use super::steps::{Step, diary, manifest};
-use ebl_base::{Checksum, Copied, Evidence};
+use bill_diary::Diary;
+use ebl_base::{Chain, Checksum, Copied, Evidence};
+use envelope_manifest::Manifest;
 use std::alloc::Global;
+use std::process::Abort;
 use std::test::Fail;
 use transfer_judge::{Judgement, judge};
 
@@ -17,7 +20,35 @@ enum Answer {
     Parts(Route, Route),
 }
 
-// The judgement, after these steps, of a chain whose manifest names a bill.
+// The judgement by a diary of a chain with a manifest.
+fn judged_by(
+    alloc: Global,
+    at: At,
+    diary: &Diary,
+    chain: &Chain,
+    manifest: &Manifest,
+) -> Result<Judgement, Fail> {
+    let me = code(at)?;
+    let roster = roster(alloc)?;
+    Ok(judge(alloc, diary, &roster, me, chain, manifest)?)
+}
+
+// The same of the chain on a route, whose manifest names a bill.
+fn judged_route(
+    alloc: Global,
+    at: At,
+    diary: &Diary,
+    route: Route,
+    named: Checksum,
+) -> Result<Judgement, Fail> {
+    let bill = the_bill(alloc)?;
+    let last = name(alloc, bill, route)?;
+    let manifest = manifest(alloc, named, last, &[])?;
+    let chain = checked(alloc, bill, route)?;
+    judged_by(alloc, at, diary, &chain, &manifest)
+}
+
+// The same after these steps.
 fn judged(
     alloc: Global,
     at: At,
@@ -25,12 +56,8 @@ fn judged(
     route: Route,
     named: Checksum,
 ) -> Result<Judgement, Fail> {
-    let bill = the_bill(alloc)?;
-    let diary = diary(alloc, bill, steps)?;
-    let manifest = manifest(alloc, named, name(alloc, bill, route)?, &[])?;
-    let chain = checked(alloc, bill, route)?;
-    let roster = roster(alloc)?;
-    Ok(judge(alloc, &diary, &roster, code(at)?, &chain, &manifest)?)
+    let diary = diary(alloc, the_bill(alloc)?, steps)?;
+    judged_route(alloc, at, &diary, route, named)
 }
 
 fn is_evidence(
@@ -111,25 +138,40 @@ const UNSOUND: [Row; 9] = [
     ),
 ];
 
+// Whether this is answered at BETA.
+fn answers(alloc: Global, named: Checksum, (steps, route, want): &Row) -> Result<bool, Fail> {
+    let judgement = judged(alloc, At::Beta, steps, route, named)?;
+    is_answer(alloc, &judgement, *want)
+}
+
+fn assert_row<R: Abort>(rt: &R, alloc: Global, named: Checksum, row: &Row) -> Result<(), Fail> {
+    let is_so = answers(alloc, named, row)?;
+    let (steps, route, want) = row;
+    assert!(rt; is_so, "{route:?} after {steps:?}: {want:?}");
+    Ok(())
+}
+
 #[test]
 fn diaries_that_no_run_has(rt: HostRuntime) -> Result<(), Fail> {
     let named = the_bill(rt.alloc())?.name;
-    for (steps, route, want) in &UNSOUND {
-        let judgement = judged(rt.alloc(), At::Beta, steps, route, named)?;
-        let is_so = is_answer(rt.alloc(), &judgement, *want)?;
-        assert!(rt; is_so, "{route:?} after {steps:?}: {want:?}");
+    for row in &UNSOUND {
+        assert_row(&rt, rt.alloc(), named, row)?;
     }
     Ok(())
 }
 
+fn assert_disputed<R: Abort>(rt: &R, alloc: Global, judgement: &Judgement) -> Result<(), Fail> {
+    assert!(rt; is_answer(alloc, judgement, Answer::Parts(NONE, FIRST))?);
+    let copy = judgement.copy(alloc)?;
+    assert!(rt; is_answer(alloc, &copy, Answer::Parts(NONE, FIRST))?);
+    Ok(())
+}
+
+const SIGNED: [Step; 1] = [Step::Acted(SIGN)];
+
 // The bill is the chain's, whatever bill the manifest names: held at ALPH, it is disputed.
 #[test]
 fn manifest_of_another_bill(rt: HostRuntime) -> Result<(), Fail> {
-    let (alloc, parts) = (rt.alloc(), Answer::Parts(NONE, FIRST));
-    let signed = [Step::Acted(SIGN)];
-    let judgement = judged(alloc, At::Alph, &signed, SECOND, another_bill())?;
-    assert!(rt; is_answer(alloc, &judgement, parts)?);
-    let copy = judgement.copy(alloc)?;
-    assert!(rt; is_answer(alloc, &copy, parts)?);
-    Ok(())
+    let judgement = judged(rt.alloc(), At::Alph, &SIGNED, SECOND, another_bill())?;
+    assert_disputed(&rt, rt.alloc(), &judgement)
 }

@@ -100,10 +100,15 @@ pub(crate) fn transaction(act: Act) -> Result<Transaction, Fail> {
     })
 }
 
+pub(crate) fn add(list: &mut TransactionList, act: Act) -> Result<(), Fail> {
+    list.push(transaction(act)?)?;
+    Ok(())
+}
+
 pub(crate) fn transactions(alloc: Global, acts: &[Act]) -> Result<TransactionList, Fail> {
     let mut list = TransactionList::new(alloc);
     for act in acts {
-        list.push(transaction(*act)?)?;
+        add(&mut list, *act)?;
     }
     Ok(list)
 }
@@ -193,9 +198,15 @@ pub(crate) fn signed(alloc: Global, who: PlatformCode, payload: &Json) -> Result
     signed_with(alloc, &mut KeyedRing::derived(), who, payload)
 }
 
+// The text of an entry, which its platform signed.
+fn text_of(alloc: Global, entry: &Entry) -> Result<SignedText, Fail> {
+    let payload = encode(alloc, entry)?;
+    signed(alloc, entry.platform, &payload)
+}
+
 /// An entry with its text, which its platform signed.
 pub(crate) fn link_of(alloc: Global, entry: Entry) -> Result<ChainLink, Fail> {
-    let text = signed(alloc, entry.platform, &encode(alloc, &entry)?)?;
+    let text = text_of(alloc, &entry)?;
     Ok(ChainLink {
         name: checksum(text.0.as_slice()),
         text,

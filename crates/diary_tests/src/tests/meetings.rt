@@ -3,8 +3,9 @@ use super::entries::{
     FIRST, NONE, OTHER_FIRST_THIRD, OTHER_SECOND_THIRD, OTHER_THIRD, Route, SECOND, THIRD, checked,
 };
 use super::making::{At, code, the_bill};
-use ebl_base::Chain;
+use ebl_base::{Chain, PlatformCode};
 use std::alloc::Global;
+use std::process::Abort;
 use std::test::Fail;
 use transfer_chain::{Meeting, dest, meet};
 
@@ -32,20 +33,43 @@ const MEETINGS: [(Route, Route, Meeting); 8] = [
     (THIRD, OTHER_THIRD, Meeting::Parts(2)),
 ];
 
-#[test]
-fn how_chains_meet(rt: HostRuntime) -> Result<(), Fail> {
-    for (first, second, want) in &MEETINGS {
-        let seen = meeting(rt.alloc(), first, second)?;
-        assert_eq!(rt; seen, *want, "{first:?} and {second:?}");
-    }
+fn assert_meeting<R: Abort>(
+    rt: &R,
+    alloc: Global,
+    first: Route,
+    second: Route,
+    want: Meeting,
+) -> Result<(), Fail> {
+    let seen = meeting(alloc, first, second)?;
+    assert_eq!(rt; seen, want, "{first:?} and {second:?}");
     Ok(())
 }
 
 #[test]
+fn how_chains_meet(rt: HostRuntime) -> Result<(), Fail> {
+    for (first, second, want) in &MEETINGS {
+        assert_meeting(&rt, rt.alloc(), first, second, *want)?;
+    }
+    Ok(())
+}
+
+fn end(alloc: Global, route: Route) -> Result<Option<PlatformCode>, Fail> {
+    let chain = checked_or_empty(alloc, route)?;
+    Ok(dest(&chain))
+}
+
+fn assert_end<R: Abort>(rt: &R, alloc: Global, route: Route, at: At) -> Result<(), Fail> {
+    let seen = end(alloc, route)?;
+    assert_eq!(rt; seen, Some(code(at)?), "{route:?}");
+    Ok(())
+}
+
+const ENDS: [(Route, At); 3] = [(FIRST, At::Beta), (SECOND, At::Alph), (THIRD, At::Beta)];
+
+#[test]
 fn where_chains_end(rt: HostRuntime) -> Result<(), Fail> {
-    for (route, at) in [(FIRST, At::Beta), (SECOND, At::Alph), (THIRD, At::Beta)] {
-        let chain = checked_or_empty(rt.alloc(), route)?;
-        assert_eq!(rt; dest(&chain), Some(code(at)?), "{route:?}");
+    for (route, at) in &ENDS {
+        assert_end(&rt, rt.alloc(), route, *at)?;
     }
     Ok(())
 }

@@ -3,9 +3,9 @@ use super::entries::SECOND;
 use super::making::{At, Bill, code, the_bill};
 use super::steps::begun;
 use bill_diary::Record;
-use canonical_json::write;
+use canonical_json::{Json, write};
 use document_checksum::checksum;
-use ebl_base::{ByteList, Chain, ChainLink, SignedText};
+use ebl_base::{ByteList, Chain, ChainLink, Checksum, Entry, SignedText};
 use envelope_manifest::{Body, Manifest, decode};
 use signed_envelope::verify_text;
 use std::alloc::Global;
@@ -13,20 +13,26 @@ use std::process::Abort;
 use std::test::Fail;
 use test_signer::KeyedRing;
 
-// Whether a link's name and entry are those of its text, which the entry's platform signed.
-fn is_its_text(alloc: Global, link: &ChainLink) -> Result<bool, Fail> {
+// What the text of a link says, which the entry's platform signed.
+fn said(alloc: Global, link: &ChainLink) -> Result<Entry, Fail> {
     let text = link.text.0.as_slice();
     let ring = KeyedRing::derived();
     let payload = verify_text(alloc, &ring, text, link.entry.platform, 16_384)?;
-    let entry = chain_entry::decode(alloc, &payload)?;
-    Ok(
-        link.name == checksum(text)
-            && entry.platform == link.entry.platform
-            && entry.bill == link.entry.bill
-            && entry.previous == link.entry.previous
-            && entry.attempt == link.entry.attempt
-            && entry.transactions.as_slice() == link.entry.transactions.as_slice(),
-    )
+    Ok(chain_entry::decode(alloc, &payload)?)
+}
+
+fn is_same(entry: &Entry, other: &Entry) -> bool {
+    entry.platform == other.platform
+        && entry.bill == other.bill
+        && entry.previous == other.previous
+        && entry.attempt == other.attempt
+        && entry.transactions.as_slice() == other.transactions.as_slice()
+}
+
+// Whether a link's name and entry are those of its text.
+fn is_its_text(alloc: Global, link: &ChainLink) -> Result<bool, Fail> {
+    let entry = said(alloc, link)?;
+    Ok(link.name == checksum(link.text.0.as_slice()) && is_same(&entry, &link.entry))
 }
 
 /// What a Begun holds beside its bill.
@@ -67,6 +73,18 @@ fn assert_body<R: Abort>(
     Ok(())
 }
 
+fn bill_and_last(alloc: Global, payload: &Json) -> Result<(Checksum, Checksum), Fail> {
+    let manifest = decode(alloc, payload)?;
+    Ok((manifest.bill, manifest.last))
+}
+
+// The bill and the last entry that a manifest's text names, which BETA signed.
+fn listed(alloc: Global, text: &SignedText) -> Result<(Checksum, Checksum), Fail> {
+    let ring = KeyedRing::derived();
+    let payload = verify_text(alloc, &ring, text.0.as_slice(), code(At::Beta)?, 16_384)?;
+    bill_and_last(alloc, &payload)
+}
+
 // The manifest's text is BETA's, and says what the manifest does.
 fn assert_manifest<R: Abort>(
     rt: &R,
@@ -74,10 +92,19 @@ fn assert_manifest<R: Abort>(
     text: &SignedText,
     manifest: &Manifest,
 ) -> Result<(), Fail> {
-    let ring = KeyedRing::derived();
-    let payload = verify_text(alloc, &ring, text.0.as_slice(), code(At::Beta)?, 16_384)?;
-    let listed = decode(alloc, &payload)?;
-    assert_eq!(rt; (listed.bill, listed.last), (manifest.bill, manifest.last));
+    let listed = listed(alloc, text)?;
+    assert_eq!(rt; listed, (manifest.bill, manifest.last));
+    Ok(())
+}
+
+fn assert_text<R: Abort>(
+    rt: &R,
+    alloc: Global,
+    text: &SignedText,
+    link: &ChainLink,
+) -> Result<(), Fail> {
+    assert_eq!(rt; text.0.as_slice(), link.text.0.as_slice());
+    assert!(rt; is_its_text(alloc, link)?);
     Ok(())
 }
 
@@ -90,8 +117,7 @@ fn assert_texts<R: Abort>(
 ) -> Result<(), Fail> {
     assert_eq!(rt; texts.len(), chain.len());
     for (text, link) in texts.iter().zip(chain) {
-        assert_eq!(rt; text.0.as_slice(), link.text.0.as_slice());
-        assert!(rt; is_its_text(alloc, link)?);
+        assert_text(rt, alloc, text, link)?;
     }
     Ok(())
 }

@@ -6,6 +6,7 @@ use chain_entry::EntryField;
 use ebl_base::TextList;
 use signed_envelope::BadSigned;
 use std::alloc::Global;
+use std::process::Abort;
 use std::test::Fail;
 use title_fold::FoldRefusal;
 use transfer_chain::ChainRefusal;
@@ -31,11 +32,22 @@ const LENGTHS: [(usize, Flaw, Result<usize, ChainRefusal>); 5] = [
     (65, Flaw::NotCompact, Err(ChainRefusal::TooLong)),
 ];
 
+fn assert_length<R: Abort>(
+    rt: &R,
+    alloc: Global,
+    count: usize,
+    flaw: Flaw,
+    want: Result<usize, ChainRefusal>,
+) -> Result<(), Fail> {
+    let seen = flawed(alloc, count, &one(0, flaw))?;
+    assert_eq!(rt; seen, want, "{count}, {flaw:?}");
+    Ok(())
+}
+
 #[test]
 fn lengths(rt: HostRuntime) -> Result<(), Fail> {
     for (count, flaw, want) in &LENGTHS {
-        let seen = flawed(rt.alloc(), *count, &one(0, *flaw))?;
-        assert_eq!(rt; seen, *want, "{count}, {flaw:?}");
+        assert_length(&rt, rt.alloc(), *count, *flaw, *want)?;
     }
     Ok(())
 }
@@ -78,11 +90,22 @@ const REFUSALS: [(usize, Flaw, ChainRefusal); 19] = [
     (1, Flaw::Stays, ChainRefusal::Move(1)),
 ];
 
+fn assert_refusal<R: Abort>(
+    rt: &R,
+    alloc: Global,
+    at: usize,
+    flaw: Flaw,
+    want: ChainRefusal,
+) -> Result<(), Fail> {
+    let seen = flawed(alloc, 3, &one(at, flaw))?;
+    assert_eq!(rt; seen, Err(want), "{flaw:?} at {at}");
+    Ok(())
+}
+
 #[test]
 fn each_refusal_at_the_first_entry_and_later(rt: HostRuntime) -> Result<(), Fail> {
     for (at, flaw, want) in &REFUSALS {
-        let seen = flawed(rt.alloc(), 3, &one(*at, *flaw))?;
-        assert_eq!(rt; seen, Err(*want), "{flaw:?} at {at}");
+        assert_refusal(&rt, rt.alloc(), *at, *flaw, *want)?;
     }
     Ok(())
 }
@@ -124,28 +147,51 @@ const PAIRS: [(Flaws, ChainRefusal); 9] = [
     ),
 ];
 
-#[test]
-fn the_first_of_two_refusals(rt: HostRuntime) -> Result<(), Fail> {
-    for (flaws, want) in &PAIRS {
-        let seen = flawed(rt.alloc(), 3, flaws)?;
-        assert_eq!(rt; seen, Err(*want), "{flaws:?}");
-    }
+fn assert_pair<R: Abort>(
+    rt: &R,
+    alloc: Global,
+    flaws: &Flaws,
+    want: ChainRefusal,
+) -> Result<(), Fail> {
+    let seen = flawed(alloc, 3, flaws)?;
+    assert_eq!(rt; seen, Err(want), "{flaws:?}");
     Ok(())
 }
 
 #[test]
-fn a_chain_without_its_middle(rt: HostRuntime) -> Result<(), Fail> {
-    let whole = texts(rt.alloc(), 3, &GOOD)?;
-    assert_eq!(rt; answer(rt.alloc(), &whole)?, Ok(3));
+fn the_first_of_two_refusals(rt: HostRuntime) -> Result<(), Fail> {
+    for (flaws, want) in &PAIRS {
+        assert_pair(&rt, rt.alloc(), flaws, *want)?;
+    }
+    Ok(())
+}
+
+fn assert_answer<R: Abort>(
+    rt: &R,
+    alloc: Global,
+    texts: &TextList,
+    want: Result<usize, ChainRefusal>,
+) -> Result<(), Fail> {
+    let seen = answer(alloc, texts)?;
+    assert_eq!(rt; seen, want);
+    Ok(())
+}
+
+// The first and the last of three texts.
+fn without_middle(whole: TextList) -> Result<TextList, Fail> {
     let mut texts = whole.into_vec();
     if texts.len() != 3 {
         return Err("three texts".into());
     }
     texts.remove(1);
-    let without = TextList::from_vec(texts);
-    assert_eq!(rt;
-        answer(rt.alloc(), &without)?,
-        Err(ChainRefusal::BrokenLink(1))
-    );
-    Ok(())
+    Ok(TextList::from_vec(texts))
+}
+
+#[test]
+fn a_chain_without_its_middle(rt: HostRuntime) -> Result<(), Fail> {
+    let whole = texts(rt.alloc(), 3, &GOOD)?;
+    assert_answer(&rt, rt.alloc(), &whole, Ok(3))?;
+    let without = without_middle(whole)?;
+    let want = Err(ChainRefusal::BrokenLink(1));
+    assert_answer(&rt, rt.alloc(), &without, want)
 }

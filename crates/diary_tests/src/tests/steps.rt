@@ -5,6 +5,7 @@ use bill_diary::{Diary, Frame, Record};
 use document_checksum::checksum;
 use ebl_base::{
     ByteList, CharList, Checksum, Code, Evidence, Items, Kind, PlatformCode, Reason, SignedText,
+    TextList,
 };
 use envelope_manifest::{Body, Manifest, Piece, encode as encode_manifest};
 use std::alloc::Global;
@@ -62,6 +63,14 @@ fn piece_of(alloc: Global, paper: Paper) -> Piece {
     }
 }
 
+fn pieces_of(alloc: Global, papers: &[Paper]) -> Result<Items<Piece>, Fail> {
+    let mut pieces = Items::new(alloc);
+    for paper in papers {
+        pieces.push(piece_of(alloc, *paper))?;
+    }
+    Ok(pieces)
+}
+
 /// The manifest of a chain that ends in this entry, with these documents.
 pub(crate) fn manifest(
     alloc: Global,
@@ -69,23 +78,43 @@ pub(crate) fn manifest(
     last: Checksum,
     papers: &[Paper],
 ) -> Result<Manifest, Fail> {
-    let mut documents = Items::new(alloc);
-    for paper in papers {
-        documents.push(piece_of(alloc, *paper))?;
-    }
     Ok(Manifest {
         bill,
         last,
-        documents,
+        documents: pieces_of(alloc, papers)?,
     })
 }
 
-fn manifest_text(
+/// The manifest of a chain of the bill, with these documents.
+pub(crate) fn manifest_of(
+    alloc: Global,
+    bill: Bill,
+    route: Route,
+    papers: &[Paper],
+) -> Result<Manifest, Fail> {
+    let last = name(alloc, bill, route)?;
+    manifest(alloc, bill.name, last, papers)
+}
+
+fn signed_manifest(
     alloc: Global,
     who: PlatformCode,
     manifest: &Manifest,
 ) -> Result<SignedText, Fail> {
-    signed(alloc, who, &encode_manifest(alloc, manifest)?)
+    let payload = encode_manifest(alloc, manifest)?;
+    signed(alloc, who, &payload)
+}
+
+// The platform whose entry is the last one of a chain.
+fn sender(alloc: Global, bill: Bill, route: Route) -> Result<PlatformCode, Fail> {
+    Ok(last(alloc, bill, route)?.entry.platform)
+}
+
+// The text of the manifest of a chain without documents, as the platform of its last entry signs it.
+fn manifest_text(alloc: Global, bill: Bill, route: Route) -> Result<SignedText, Fail> {
+    let who = sender(alloc, bill, route)?;
+    let manifest = manifest_of(alloc, bill, route, &[])?;
+    signed_manifest(alloc, who, &manifest)
 }
 
 // ---- records
@@ -106,10 +135,11 @@ fn acted(alloc: Global, bill: Bill, act: Act) -> Result<Record, Fail> {
 }
 
 fn attached(alloc: Global, bill: Bill, paper: Paper) -> Result<Record, Fail> {
+    let bytes = ByteList::from_slice(alloc, bytes_of(paper))?;
     Ok(Record::Attached {
         bill: bill.name,
         piece: piece_of(alloc, paper),
-        bytes: ByteList::from_slice(alloc, bytes_of(paper))?,
+        bytes,
     })
 }
 
@@ -123,9 +153,9 @@ fn stored(alloc: Global, bill: Bill, paper: Paper) -> Result<Record, Fail> {
 }
 
 fn parted(alloc: Global, bill: Bill, route: Route) -> Result<Record, Fail> {
+    let manifest_text = manifest_text(alloc, bill, route)?;
+    let manifest = manifest_of(alloc, bill, route, &[])?;
     let link = last(alloc, bill, route)?;
-    let manifest = manifest(alloc, bill.name, link.name, &[])?;
-    let manifest_text = manifest_text(alloc, link.entry.platform, &manifest)?;
     Ok(Record::Parted {
         bill: bill.name,
         link,
@@ -134,25 +164,41 @@ fn parted(alloc: Global, bill: Bill, route: Route) -> Result<Record, Fail> {
     })
 }
 
-// The body of an envelope with a chain that ends in an entry.
-fn body(alloc: Global, bill: Bill, route: Route, manifest: SignedText) -> Result<ByteList, Fail> {
-    let body = Body {
-        document: bill.json(alloc)?,
+fn texts_of(alloc: Global, bill: Bill, route: Route) -> Result<TextList, Fail> {
+    let chain = chain(alloc, bill, route)?;
+    texts(alloc, &chain)
+}
+
+fn parts(alloc: Global, bill: Bill, route: Route) -> Result<Body, Fail> {
+    let manifest = manifest_text(alloc, bill, route)?;
+    let chain = texts_of(alloc, bill, route)?;
+    let document = bill.json(alloc)?;
+    Ok(Body {
+        document,
         manifest,
-        chain: texts(alloc, &chain(alloc, bill, route)?)?,
-    };
+        chain,
+    })
+}
+
+fn written(alloc: Global, body: &Body) -> Result<ByteList, Fail> {
     Ok(body.write(alloc)?)
 }
 
+// The body of an envelope with a chain that ends in an entry.
+fn body(alloc: Global, bill: Bill, route: Route) -> Result<ByteList, Fail> {
+    let parts = parts(alloc, bill, route)?;
+    written(alloc, &parts)
+}
+
 pub(crate) fn begun(alloc: Global, bill: Bill, route: Route) -> Result<Record, Fail> {
-    let last = last(alloc, bill, route)?;
-    let manifest = manifest(alloc, bill.name, last.name, &[])?;
-    let text = manifest_text(alloc, last.entry.platform, &manifest)?;
+    let body = body(alloc, bill, route)?;
+    let manifest = manifest_of(alloc, bill, route, &[])?;
+    let chain = chain(alloc, bill, route)?;
     Ok(Record::Begun {
         bill: bill.name,
-        chain: chain(alloc, bill, route)?,
+        chain,
         manifest,
-        body: body(alloc, bill, route, text)?,
+        body,
     })
 }
 
