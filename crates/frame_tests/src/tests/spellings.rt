@@ -5,7 +5,7 @@ use super::frames::{
 };
 use bill_diary::{Frame, Record};
 use document_checksum::from_text;
-use ebl_base::{Checksum, Code, Kind, NoMemory, Reason};
+use ebl_base::{Checksum, Code, Evidence, Kind, NoMemory, Reason, Transaction};
 use hex::decode;
 use record_bytes::{FrameFault, frame_read, frame_write};
 use std::alloc::Global;
@@ -33,6 +33,11 @@ const FRAMES: [(&str, u8); 15] = [
 
 pub(crate) fn bytes_of(alloc: Global, digits: &str) -> Result<Vec<u8>, Fail> {
     Ok(decode(alloc, digits)?)
+}
+
+// How many bytes there are.
+fn length(alloc: Global, digits: &str) -> Result<usize, Fail> {
+    Ok(bytes_of(alloc, digits)?.len())
 }
 
 fn name(digits: &str) -> Option<Checksum> {
@@ -89,27 +94,50 @@ pub(crate) fn is_refused(alloc: Global, bytes: &[u8]) -> bool {
     matches!(frame_read(alloc, bytes), Err(FrameFault::NotAFrame))
 }
 
+fn is_written_as(alloc: Global, frame: &Frame, bytes: &[u8]) -> bool {
+    match written(alloc, frame) {
+        Some(again) => again.as_slice() == bytes,
+        None => false,
+    }
+}
+
 // Whether the bytes are no frame, or the frame that they are has these bytes.
 fn is_settled(alloc: Global, bytes: &[u8]) -> bool {
     match frame_read(alloc, bytes) {
-        Ok(frame) => match written(alloc, &frame) {
-            Some(again) => again.as_slice() == bytes,
-            None => false,
-        },
+        Ok(frame) => is_written_as(alloc, &frame, bytes),
         Err(fault) => fault == FrameFault::NotAFrame,
     }
 }
 
-fn assert_frame(rt: &impl Abort, alloc: Global, digits: &str, kind: u8) -> Result<(), Fail> {
+// The frame of these bytes, whose digits are told where they are none.
+fn read(rt: &impl Abort, alloc: Global, bytes: &[u8], digits: &str) -> Frame {
+    match frame_read(alloc, bytes) {
+        Ok(frame) => frame,
+        Err(_) => panic!(rt; "no frame: {digits}"),
+    }
+}
+
+fn frame_of(rt: &impl Abort, alloc: Global, digits: &str) -> Result<Frame, Fail> {
     let bytes = bytes_of(alloc, digits)?;
-    let Ok(frame) = frame_read(alloc, &bytes) else {
-        panic!(rt; "no frame: {digits}");
-    };
-    assert_eq!(rt; kind_of(kept(&frame)), kind, "{digits}");
-    let Some(again) = written(alloc, &frame) else {
+    Ok(read(rt, alloc, &bytes, digits))
+}
+
+fn assert_kind(rt: &impl Abort, frame: &Frame, digits: &str, kind: u8) {
+    assert_eq!(rt; kind_of(kept(frame)), kind, "{digits}");
+}
+
+fn assert_written(rt: &impl Abort, alloc: Global, frame: &Frame, bytes: &[u8], digits: &str) {
+    let Some(again) = written(alloc, frame) else {
         panic!(rt; "not written");
     };
-    assert_eq!(rt; again.as_slice(), bytes.as_slice(), "{digits}");
+    assert_eq!(rt; again.as_slice(), bytes, "{digits}");
+}
+
+fn assert_frame(rt: &impl Abort, alloc: Global, digits: &str, kind: u8) -> Result<(), Fail> {
+    let bytes = bytes_of(alloc, digits)?;
+    let frame = read(rt, alloc, &bytes, digits);
+    assert_kind(rt, &frame, digits, kind);
+    assert_written(rt, alloc, &frame, &bytes, digits);
     Ok(())
 }
 
@@ -121,103 +149,140 @@ fn each_frame_is_read_and_written(rt: HostRuntime) -> Result<(), Fail> {
     Ok(())
 }
 
-fn assert_names(
-    rt: &impl Abort,
-    alloc: Global,
-    digits: &str,
-    entry: Option<Checksum>,
-    is_taken: bool,
-) -> Result<(), Fail> {
-    let Ok(frame) = frame_read(alloc, &bytes_of(alloc, digits)?) else {
-        panic!(rt; "no frame: {digits}");
-    };
-    assert_eq!(rt; Some(kept(&frame).bill()), name(BILL), "{digits}");
-    assert_eq!(rt; entry_of(kept(&frame)), entry, "{digits}");
-    assert_eq!(rt; matches!(frame, Frame::BegunTaken(_)), is_taken, "{digits}");
+/// A frame's digits, the name of the entry that its record names, and whether it is a Begun with its Taken.
+type Named = (&'static str, Option<&'static str>, bool);
+
+const NAMES: [Named; 7] = [
+    (SIGNED, None, false),
+    (PARTED, Some(FIRST), false),
+    (SETTLED, Some(FIRST), false),
+    (BEGUN, Some(SECOND), false),
+    (BEGUN_TAKEN, Some(SECOND), true),
+    (STORED, Some(FIRST), false),
+    (DECLINED, Some(FIRST), false),
+];
+
+fn entry_named(digits: Option<&str>) -> Option<Checksum> {
+    name(digits?)
+}
+
+fn is_begun_taken(frame: &Frame) -> bool {
+    matches!(frame, Frame::BegunTaken(_))
+}
+
+fn assert_names(rt: &impl Abort, frame: &Frame, (digits, entry, is_taken): &Named) {
+    assert_eq!(rt; Some(kept(frame).bill()), name(BILL), "{digits}");
+    assert_eq!(rt; entry_of(kept(frame)), entry_named(*entry), "{digits}");
+    assert_eq!(rt; is_begun_taken(frame), *is_taken, "{digits}");
+}
+
+fn assert_named(rt: &impl Abort, alloc: Global, row: &Named) -> Result<(), Fail> {
+    let frame = frame_of(rt, alloc, row.0)?;
+    assert_names(rt, &frame, row);
     Ok(())
 }
 
 // Bills and entries have the names that Python's hashlib gives their texts.
 #[test]
 fn names_are_those_of_the_texts(rt: HostRuntime) -> Result<(), Fail> {
-    for (digits, entry, is_taken) in [
-        (SIGNED, None, false),
-        (PARTED, name(FIRST), false),
-        (SETTLED, name(FIRST), false),
-        (BEGUN, name(SECOND), false),
-        (BEGUN_TAKEN, name(SECOND), true),
-        (STORED, name(FIRST), false),
-        (DECLINED, name(FIRST), false),
-    ] {
-        assert_names(&rt, rt.alloc(), digits, entry, is_taken)?;
+    for row in &NAMES {
+        assert_named(&rt, rt.alloc(), row)?;
     }
     Ok(())
 }
 
-#[test]
-fn a_transaction_is_read(rt: HostRuntime) -> Result<(), Fail> {
-    let Ok(frame) = frame_read(rt.alloc(), &bytes_of(rt.alloc(), ACTED)?) else {
-        panic!(rt; "no frame");
-    };
-    let Record::Acted { transaction, .. } = kept(&frame) else {
-        panic!(rt; "another record");
-    };
+fn assert_transaction(rt: &impl Abort, transaction: &Transaction) {
     assert_eq!(rt; transaction.kind, Kind::Issue);
     assert_eq!(rt; transaction.recipient, Some(transaction.actor));
     assert_eq!(rt; transaction.time.number(), 1);
+}
+
+fn assert_acted(rt: &impl Abort, kept: &Record) {
+    match kept {
+        Record::Acted { transaction, .. } => assert_transaction(rt, transaction),
+        _ => panic!(rt; "another record"),
+    }
+}
+
+#[test]
+fn a_transaction_is_read(rt: HostRuntime) -> Result<(), Fail> {
+    let frame = frame_of(&rt, rt.alloc(), ACTED)?;
+    assert_acted(&rt, kept(&frame));
     Ok(())
+}
+
+fn assert_document(rt: &impl Abort, name: &str, size: u32, bytes: &[u8]) {
+    assert_eq!(rt; name, "a.txt");
+    assert_eq!(rt; size, 3);
+    assert_eq!(rt; bytes, b"abc".as_slice());
+}
+
+fn assert_attached(rt: &impl Abort, kept: &Record) {
+    match kept {
+        Record::Attached { piece, bytes, .. } => {
+            assert_document(rt, piece.name.as_str(), piece.size, bytes.as_slice())
+        }
+        _ => panic!(rt; "another record"),
+    }
 }
 
 #[test]
 fn a_listed_document_is_read(rt: HostRuntime) -> Result<(), Fail> {
-    let Ok(frame) = frame_read(rt.alloc(), &bytes_of(rt.alloc(), ATTACHED)?) else {
-        panic!(rt; "no frame");
-    };
-    let Record::Attached { piece, bytes, .. } = kept(&frame) else {
-        panic!(rt; "another record");
-    };
-    assert_eq!(rt; piece.name.as_str(), "a.txt");
-    assert_eq!(rt; piece.size, 3);
-    assert_eq!(rt; bytes.as_slice(), b"abc".as_slice());
+    let frame = frame_of(&rt, rt.alloc(), ATTACHED)?;
+    assert_attached(&rt, kept(&frame));
     Ok(())
 }
 
-fn assert_declined(
-    rt: &impl Abort,
-    alloc: Global,
-    digits: &str,
-    why: (Code, Reason),
-    texts: (bool, bool),
-) -> Result<(), Fail> {
-    let Ok(frame) = frame_read(alloc, &bytes_of(alloc, digits)?) else {
-        panic!(rt; "no frame: {digits}");
-    };
-    let Record::Declined {
-        code,
-        reason,
-        evidence,
-        ..
-    } = kept(&frame)
-    else {
-        panic!(rt; "another record: {digits}");
-    };
-    assert_eq!(rt; (*code, *reason), why, "{digits}");
-    assert_eq!(rt;
-        (evidence.own.is_some(), evidence.theirs.is_some()),
-        texts,
-        "{digits}"
-    );
+/// A Declined's digits, why the entry was declined, and whether there is own evidence, and theirs.
+type Refused = (&'static str, (Code, Reason), (bool, bool));
+
+const PARTS: (Code, Reason) = (Code::DisputedEnvelope, Reason::Parts);
+
+const NO_PARTY: (Code, Reason) = (Code::BadEnvelope, Reason::Party);
+
+const DECLINED_FRAMES: [Refused; 4] = [
+    (DECLINED, PARTS, (true, true)),
+    (OWN, PARTS, (true, false)),
+    (THEIRS, PARTS, (false, true)),
+    (PARTY, NO_PARTY, (false, false)),
+];
+
+fn assert_why(rt: &impl Abort, digits: &str, seen: (Code, Reason), why: (Code, Reason)) {
+    assert_eq!(rt; seen, why, "{digits}");
+}
+
+fn assert_evidence(rt: &impl Abort, digits: &str, evidence: &Evidence, texts: (bool, bool)) {
+    let seen = (evidence.own.is_some(), evidence.theirs.is_some());
+    assert_eq!(rt; seen, texts, "{digits}");
+}
+
+fn assert_refused(rt: &impl Abort, kept: &Record, (digits, why, texts): &Refused) {
+    match kept {
+        Record::Declined {
+            code,
+            reason,
+            evidence,
+            ..
+        } => {
+            assert_why(rt, digits, (*code, *reason), *why);
+            assert_evidence(rt, digits, evidence, *texts);
+        }
+        _ => panic!(rt; "another record: {digits}"),
+    }
+}
+
+fn assert_declined(rt: &impl Abort, alloc: Global, row: &Refused) -> Result<(), Fail> {
+    let frame = frame_of(rt, alloc, row.0)?;
+    assert_refused(rt, kept(&frame), row);
     Ok(())
 }
 
 #[test]
 fn causes_and_evidence(rt: HostRuntime) -> Result<(), Fail> {
-    let parts = (Code::DisputedEnvelope, Reason::Parts);
-    let party = (Code::BadEnvelope, Reason::Party);
-    assert_declined(&rt, rt.alloc(), DECLINED, parts, (true, true))?;
-    assert_declined(&rt, rt.alloc(), OWN, parts, (true, false))?;
-    assert_declined(&rt, rt.alloc(), THEIRS, parts, (false, true))?;
-    assert_declined(&rt, rt.alloc(), PARTY, party, (false, false))
+    for row in &DECLINED_FRAMES {
+        assert_declined(&rt, rt.alloc(), row)?;
+    }
+    Ok(())
 }
 
 #[test]
@@ -227,20 +292,28 @@ fn a_document_that_nests_127_deep(rt: HostRuntime) -> Result<(), Fail> {
     Ok(())
 }
 
+// Whether the bytes of a frame are none with one byte more.
+fn is_refused_longer(alloc: Global, digits: &str) -> Result<bool, Fail> {
+    let mut bytes = bytes_of(alloc, digits)?;
+    bytes.push(0)?;
+    Ok(is_refused(alloc, &bytes))
+}
+
+fn assert_longer(rt: &impl Abort, alloc: Global, digits: &str) -> Result<(), Fail> {
+    assert!(rt; is_refused_longer(alloc, digits)?, "{digits}");
+    Ok(())
+}
+
 // A Settled of 65 bytes with one byte more among them.
 #[test]
 fn one_byte_more(rt: HostRuntime) -> Result<(), Fail> {
     for (digits, _) in &FRAMES {
-        let mut bytes = bytes_of(rt.alloc(), digits)?;
-        bytes.push(0)?;
-        assert!(rt; is_refused(rt.alloc(), &bytes), "{digits}");
+        assert_longer(&rt, rt.alloc(), digits)?;
     }
     Ok(())
 }
 
-// A front of a frame is none, except for a Begun in front of its Taken.
-fn assert_fronts(rt: &impl Abort, alloc: Global, digits: &str, but: usize) -> Result<(), Fail> {
-    let bytes = bytes_of(alloc, digits)?;
+fn assert_each_front(rt: &impl Abort, alloc: Global, bytes: &[u8], digits: &str, but: usize) {
     for len in 0..bytes.len() {
         assert_eq!(rt;
             is_refused(alloc, &bytes[..len]),
@@ -248,26 +321,43 @@ fn assert_fronts(rt: &impl Abort, alloc: Global, digits: &str, but: usize) -> Re
             "{len} bytes of {digits}"
         );
     }
+}
+
+// A front of a frame is none, except for a Begun in front of its Taken.
+fn assert_fronts(rt: &impl Abort, alloc: Global, digits: &str, but: usize) -> Result<(), Fail> {
+    let bytes = bytes_of(alloc, digits)?;
+    assert_each_front(rt, alloc, &bytes, digits, but);
     Ok(())
 }
 
 #[test]
 fn every_front(rt: HostRuntime) -> Result<(), Fail> {
-    let alone = bytes_of(rt.alloc(), BEGUN)?.len();
+    let alone = length(rt.alloc(), BEGUN)?;
     assert_fronts(&rt, rt.alloc(), SETTLED, alone)?;
     assert_fronts(&rt, rt.alloc(), DECLINED, alone)?;
     assert_fronts(&rt, rt.alloc(), BEGUN_TAKEN, alone)
 }
 
+// The bytes with one of them changed.
+fn changed(alloc: Global, digits: &str, at: usize) -> Result<Vec<u8>, Fail> {
+    let mut bytes = bytes_of(alloc, digits)?;
+    if let Some(byte) = bytes.get_mut(at) {
+        *byte ^= 1;
+    }
+    Ok(bytes)
+}
+
+fn assert_change(rt: &impl Abort, alloc: Global, digits: &str, at: usize) -> Result<(), Fail> {
+    let changed = changed(alloc, digits, at)?;
+    assert!(rt; is_settled(alloc, &changed), "byte {at} of {digits}");
+    Ok(())
+}
+
 // Changes each byte from a place on.
 fn assert_changes(rt: &impl Abort, alloc: Global, digits: &str, from: usize) -> Result<(), Fail> {
-    let bytes = bytes_of(alloc, digits)?;
-    for at in from..bytes.len() {
-        let mut changed = bytes_of(alloc, digits)?;
-        if let Some(byte) = changed.get_mut(at) {
-            *byte ^= 1;
-        }
-        assert!(rt; is_settled(alloc, &changed), "byte {at} of {digits}");
+    let len = length(alloc, digits)?;
+    for at in from..len {
+        assert_change(rt, alloc, digits, at)?;
     }
     Ok(())
 }
@@ -275,7 +365,7 @@ fn assert_changes(rt: &impl Abort, alloc: Global, digits: &str, from: usize) -> 
 // Of the Begun with its Taken those behind the body, as the body has its own tests.
 #[test]
 fn every_changed_byte(rt: HostRuntime) -> Result<(), Fail> {
-    let alone = bytes_of(rt.alloc(), BEGUN)?.len();
+    let alone = length(rt.alloc(), BEGUN)?;
     assert_changes(&rt, rt.alloc(), SETTLED, 0)?;
     assert_changes(&rt, rt.alloc(), SIGNED, 0)?;
     assert_changes(&rt, rt.alloc(), OWN, 0)?;
