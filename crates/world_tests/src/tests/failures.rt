@@ -2,6 +2,8 @@
 //!
 //! The disk's calls 0, 1 and 2 open it; an append writes the frame, syncs, writes the gate, and syncs: calls 3 to 6.
 use super::worlds::{Failing, answers};
+use std::alloc::Global;
+use std::process::Abort;
 use std::test::Fail;
 
 // The bill's line once BETA has taken it.
@@ -35,17 +37,26 @@ const APPENDS: [(&[u64], &[u64], &str); 6] = [
     (&[6], &[], DUPLICATE_6),
 ];
 
+fn append_row(
+    rt: &(impl Abort + Alloc<A = Global>),
+    calls: &'static [u64],
+    written: &'static [u64],
+    again: &str,
+) -> Result<(), Fail> {
+    let failing = Failing {
+        place: BETA,
+        calls,
+        written,
+        signs: &[],
+    };
+    let events = [("{\"deliver\":1}", DISK_5), ("{\"deliver\":1}", again)];
+    answers(rt, failing, &events, AT_BETA)
+}
+
 #[test]
 fn each_call_of_a_taken_append_fails(rt: HostRuntime) -> Result<(), Fail> {
     for (calls, written, again) in &APPENDS {
-        let failing = Failing {
-            place: BETA,
-            calls,
-            written,
-            signs: &[],
-        };
-        let events = [("{\"deliver\":1}", DISK_5), ("{\"deliver\":1}", *again)];
-        answers(&rt, failing, &events, AT_BETA)?;
+        append_row(&rt, calls, written, again)?;
     }
     Ok(())
 }

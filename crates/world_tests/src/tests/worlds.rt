@@ -1,10 +1,12 @@
 //! Worlds on memory disks of which listed calls fail, and scripts with the answers that they are to have.
 ghost use Rattle.std.specs.Prelude.{◌≡◌, ◌+◌, ◌*◌, ◌<◌, ◌≤◌, [], length, IfOk, OnOk};
+ghost use Rattle.party_roster.specs.RosterForm.{IsRoster};
 ghost use Rattle.platform_world.specs.Opening.{AreBlank};
 
 use disk_model::{Disk, Failures, MemoryDisk};
 use ebl_base::{ByteList, CallList, NoMemory};
 use journaled_shard::{JournaledShard, Rack};
+use party_roster::Roster;
 use platform_world::{Machine, World, event_in, roster_in};
 use std::alloc::Global;
 use std::process::Abort;
@@ -67,24 +69,45 @@ const NONE: Failing = Failing {
     signs: &[],
 };
 
+fn failures(alloc: Global, failing: Failing) -> Result<Failures, NoMemory> {
+    Ok(Failures {
+        calls: CallList::from_slice(alloc, failing.calls)?,
+        written: CallList::from_slice(alloc, failing.written)?,
+    })
+}
+
+// A blank disk of which these calls fail.
+fn disk(alloc: Global, failing: Failing) -> Result<MemoryDisk, NoMemory>
+    ensures { IfOk result (λ disk. ⟦<MemoryDisk as Disk>⟧.seen disk ≡ []) }
+{
+    let failures = failures(alloc, failing)?;
+    MemoryDisk::new(alloc, ByteList::new(alloc), failures)
+}
+
 /// A rack with a blank disk.
-fn rack(alloc: Global, failing: Option<Failing>) -> Result<TestRack, NoMemory>
+fn rack(alloc: Global, failing: Failing) -> Result<TestRack, NoMemory>
     ensures { IfOk result (λ rack. ⟦<MemoryDisk as Disk>⟧.seen rack.disk ≡ []) }
 {
-    let Failing {
-        calls,
-        written,
-        signs,
-        ..
-    } = failing.unwrap_or(NONE);
-    let failures = Failures {
-        calls: CallList::from_slice(alloc, calls)?,
-        written: CallList::from_slice(alloc, written)?,
-    };
-    Ok(Rack {
-        disk: MemoryDisk::new(alloc, ByteList::new(alloc), failures)?,
-        ring: FailingRing::derived(CallList::from_slice(alloc, signs)?),
-    })
+    let disk = disk(alloc, failing)?;
+    match CallList::from_slice(alloc, failing.signs) {
+        Ok(signs) => Ok(Rack {
+            disk,
+            ring: FailingRing::derived(signs),
+        }),
+        Err(NoMemory) => {
+            drop(disk);
+            Err(NoMemory)
+        }
+    }
+}
+
+// What fails at a place.
+fn failing_at(place: usize, failing: Failing) -> Failing {
+    if place == failing.place {
+        failing
+    } else {
+        NONE
+    }
 }
 
 // So many racks with blank disks.
@@ -95,27 +118,46 @@ fn racks(alloc: Global, count: usize, failing: Failing) -> Result<Vec<TestRack>,
 {
     let mut racks = Vec::with_capacity(alloc, count)?;
     for place in 0..count {
-        let failing = if place == failing.place {
-            Some(failing)
-        } else {
-            None
-        };
-        racks.push(rack(alloc, failing)?)?;
+        racks.push(rack(alloc, failing_at(place, failing))?)?;
     }
     Ok(racks)
+}
+
+fn roster(alloc: Global) -> Result<Roster, Fail>
+    ensures { IfOk result (λ roster. IsRoster roster) }
+{
+    match roster_in(alloc, ROSTER)? {
+        Some(roster) => Ok(roster),
+        None => Err("a roster".into()),
+    }
 }
 
 // The roster's platforms, which have written nothing.
 fn world(alloc: Global, failing: Failing) -> Result<TestWorld, Fail>
     ensures { IfOk result (λ world. world.fates ≡ []) }
 {
-    let Some(roster) = roster_in(alloc, ROSTER)? else {
-        return Err("a roster".into());
-    };
-    let racks = racks(alloc, 16 * roster.platforms().len(), failing)?;
+    let roster = roster(alloc)?;
+    match racks(alloc, 16 * roster.platforms().len(), failing) {
+        Ok(racks) => opened(alloc, roster, racks),
+        Err(fault) => {
+            drop(roster);
+            Err(fault.into())
+        }
+    }
+}
+
+fn opened(alloc: Global, roster: Roster, racks: Vec<TestRack>) -> Result<TestWorld, Fail>
+    requires form { IsRoster roster }
+    requires count { length racks.items ≡ 16 * length roster.platforms }
+    requires blank { AreBlank ⟦<MemoryDisk as Disk>⟧.tells ⟦<MemoryDisk as Disk>⟧.seen racks.items }
+    ensures { IfOk result (λ world. world.fates ≡ []) }
+{
     match TestWorld::open(alloc, roster, racks) {
         Ok(world) => Ok(world),
-        Err(_) => Err("a world".into()),
+        Err(refused) => {
+            drop(refused);
+            Err("a world".into())
+        }
     }
 }
 
@@ -130,6 +172,26 @@ fn answer<M: Machine>(alloc: Global, world: &mut World<M>, line: &str) -> Result
     }
 }
 
+// A line's answer is as wanted.
+fn tell_answer<M: Machine>(
+    rt: &(impl Abort + Alloc<A = Global>),
+    world: &mut World<M>,
+    line: &str,
+    wanted: &str,
+) -> Result<(), Fail>
+    requires { length world.old.fates < 100 }
+    ensures { OnOk result (length world.new.fates ≡ length world.old.fates + 1) }
+{
+    let answer = answer(rt.alloc(), world, line)?;
+    tell_bytes(rt, answer.as_slice(), wanted);
+    drop(answer);
+    Ok(())
+}
+
+fn tell_bytes(rt: &impl Abort, bytes: &[u8], wanted: &str) {
+    assert_eq!(rt; bytes, wanted.as_bytes());
+}
+
 /// Takes lines, and compares each with its answer.
 fn take<M: Machine>(
     rt: &(impl Abort + Alloc<A = Global>),
@@ -139,10 +201,8 @@ fn take<M: Machine>(
     requires { length world.old.fates + length events.now < 100 }
     ensures { OnOk result (length world.new.fates ≡ length world.old.fates + length events.now) }
 {
-    let alloc = rt.alloc();
     for (line, wanted) in events {
-        let line = answer(alloc, world, line)?;
-        assert_eq!(rt; line.as_slice(), wanted.as_bytes());
+        tell_answer(rt, world, line, wanted)?;
     }
     Ok(())
 }
@@ -158,7 +218,9 @@ pub(crate) fn answers(
     requires { length events.now < 90 }
 {
     let mut world = world(rt.alloc(), failing)?;
-    tell(rt, &mut world, events, bills)
+    let told = tell(rt, &mut world, events, bills);
+    drop(world);
+    told
 }
 
 fn tell(
@@ -172,7 +234,16 @@ fn tell(
 {
     take(rt, world, &HANDED_OVER)?;
     take(rt, world, events)?;
+    tell_bills(rt, world, bills)
+}
+
+fn tell_bills(
+    rt: &(impl Abort + Alloc<A = Global>),
+    world: &TestWorld,
+    bills: &str,
+) -> Result<(), Fail> {
     let lines = world.bill_lines(rt.alloc())?;
-    assert_eq!(rt; lines.as_slice(), bills.as_bytes());
+    tell_bytes(rt, lines.as_slice(), bills);
+    drop(lines);
     Ok(())
 }
