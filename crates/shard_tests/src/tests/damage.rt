@@ -33,24 +33,31 @@ fn broken_journals(rt: HostRuntime) {
 
 // The journal after the scene's request.
 fn after(alloc: Global, scene: &Scene) -> Option<ByteList> {
-    Some(run_at(alloc, scene.place(), &[scene.ask()])?.bytes)
+    Some(run_at(alloc, scene.place(), &[scene.ask()])?.into_bytes())
 }
 
-// A journal whose last frame, which stands behind so many bytes, comes once more, and the place of its second gate.
-fn twice(alloc: Global, bytes: &[u8], before: usize) -> Option<(ByteList, usize)> {
-    let place = bytes.len().checked_sub(1)?;
+// A journal whose last frame, which stands behind so many bytes, comes once more at this place, that of its gate.
+fn twice(alloc: Global, bytes: &[u8], before: usize, place: usize) -> Option<ByteList> {
     let frame = bytes.get(before.checked_sub(1)?..)?;
-    let mut twice = ByteList::from_slice(alloc, bytes.get(..place)?).ok()?;
-    twice.extend_from_slice(frame).ok()?;
-    Some((twice, place))
+    both(alloc, bytes.get(..place)?, frame)
+}
+
+fn both(alloc: Global, bytes: &[u8], more: &[u8]) -> Option<ByteList> {
+    let mut both = ByteList::from_slice(alloc, bytes).ok()?;
+    both.extend_from_slice(more).ok()?;
+    Some(both)
 }
 
 // Whether a journal whose last frame comes once more is damaged where it does.
 fn is_damaged_by_its_last(alloc: Global, scene: &Scene) -> Option<bool> {
     let bytes = after(alloc, scene)?;
-    let (twice, place) = twice(alloc, bytes.as_slice(), scene.before.as_slice().len())?;
-    let found = damage(alloc, scene.at, twice.as_slice())?;
-    Some(found == place as u64)
+    is_damaged_twice(alloc, scene, bytes.as_slice())
+}
+
+fn is_damaged_twice(alloc: Global, scene: &Scene, bytes: &[u8]) -> Option<bool> {
+    let place = bytes.len().checked_sub(1)?;
+    let twice = twice(alloc, bytes, scene.before.len(), place)?;
+    Some(damage(alloc, scene.at, twice.as_slice())? == place as u64)
 }
 
 fn tell_twice<R: Abort>(rt: &R, alloc: Global, written: Written) -> Result<(), Fail> {
@@ -60,16 +67,18 @@ fn tell_twice<R: Abort>(rt: &R, alloc: Global, written: Written) -> Result<(), F
     Ok(())
 }
 
+const FRAMES: [Written; 5] = [
+    Written::Signed,
+    Written::Parted,
+    Written::Taken,
+    Written::Declined,
+    Written::Settled,
+];
+
 #[test]
 fn a_frame_comes_twice(rt: HostRuntime) -> Result<(), Fail> {
-    for written in [
-        Written::Signed,
-        Written::Parted,
-        Written::Taken,
-        Written::Declined,
-        Written::Settled,
-    ] {
-        tell_twice(&rt, rt.alloc(), written)?;
+    for written in &FRAMES {
+        tell_twice(&rt, rt.alloc(), *written)?;
     }
     Ok(())
 }

@@ -62,14 +62,21 @@ fn answer(
     next: Ask<'_>,
 ) -> Option<(&'static str, usize)> {
     let run = run_with(alloc, scene, &[call], leaves, &[scene.ask(), next])?;
-    let &[first, then] = run.seen.as_slice() else {
-        return None;
-    };
+    answer_in(alloc, scene, &run)
+}
+
+fn answer_in(alloc: Global, scene: &Scene, run: &Run) -> Option<(&'static str, usize)> {
     let found = frames_on(alloc, scene.at, run.bytes.as_slice())?;
-    if is_stopped(first) && !then.unread && then.frames == found {
-        Some((then.word, found))
-    } else {
-        None
+    Some((second_word(run.seen.as_slice(), found)?, found))
+}
+
+// The second answer, where the first request is stopped and so many frames are there then.
+fn second_word(seen: &[Seen], found: usize) -> Option<&'static str> {
+    match seen {
+        &[first, then] if is_stopped(first) && !then.unread && then.frames == found => {
+            Some(then.word)
+        }
+        _ => None,
     }
 }
 
@@ -83,15 +90,22 @@ fn tell_call<R: Abort>(
 ) {
     let after = before.saturating_add(1);
     let found = if stands { after } else { before };
-    for (next, word, count) in [
-        (scene.ask(), same, after),
-        (Ask::How, "DONE", found),
-        (Ask::Reopen, "OPENED", found),
-    ] {
-        let told = answer(alloc, scene, call, leaves, next);
-        let right = matches!(told, Some((told, many)) if told == word && many == count);
-        assert!(rt; right, "call {call}, {word}");
-    }
+    let call = (call, leaves);
+    tell_next(rt, alloc, scene, call, (scene.ask(), same, after));
+    tell_next(rt, alloc, scene, call, (Ask::How, "DONE", found));
+    tell_next(rt, alloc, scene, call, (Ask::Reopen, "OPENED", found));
+}
+
+fn tell_next<R: Abort>(
+    rt: &R,
+    alloc: Global,
+    scene: &Scene,
+    (call, leaves): (u64, bool),
+    (next, word, count): (Ask<'_>, &str, usize),
+) {
+    let told = answer(alloc, scene, call, leaves, next);
+    let right = matches!(told, Some((told, many)) if told == word && many == count);
+    assert!(rt; right, "call {call}, {word}");
 }
 
 fn tell_calls<R: Abort>(rt: &R, alloc: Global, scene: &Scene, first: &str, again: &str) {
@@ -117,13 +131,13 @@ fn each_call_of_an_append_fails(rt: HostRuntime) -> Result<(), Fail> {
 fn third(alloc: Global, scene: &Scene, fails: &[u64], leaves: bool) -> Option<&'static str> {
     let ask = scene.ask();
     let run = run_with(alloc, scene, fails, leaves, &[ask, ask, ask])?;
-    let &[first, second, third] = run.seen.as_slice() else {
-        return None;
-    };
-    if is_stopped(first) && is_stopped(second) {
-        Some(third.word)
-    } else {
-        None
+    third_word(run.seen.as_slice())
+}
+
+fn third_word(seen: &[Seen]) -> Option<&'static str> {
+    match seen {
+        &[first, second, third] if is_stopped(first) && is_stopped(second) => Some(third.word),
+        _ => None,
     }
 }
 
@@ -132,11 +146,21 @@ fn tell_readings<R: Abort>(rt: &R, alloc: Global, scene: &Scene, first: &str, ag
     for &(call, leaves, stands) in &CALLS {
         let wanted = if stands { again } else { first };
         for reading in 1..4 {
-            let told = third(alloc, scene, &[call, call.saturating_add(reading)], leaves);
-            let right = matches!(told, Some(told) if told == wanted);
-            assert!(rt; right, "call {call} and {reading} more");
+            tell_reading(rt, alloc, scene, (call, leaves, reading), wanted);
         }
     }
+}
+
+fn tell_reading<R: Abort>(
+    rt: &R,
+    alloc: Global,
+    scene: &Scene,
+    (call, leaves, reading): (u64, bool, u64),
+    wanted: &str,
+) {
+    let told = third(alloc, scene, &[call, call.saturating_add(reading)], leaves);
+    let right = matches!(told, Some(told) if told == wanted);
+    assert!(rt; right, "call {call} and {reading} more");
 }
 
 #[test]

@@ -1,10 +1,11 @@
 //! Runs of a shard of ALPH or BETA on a disk in memory: what is asked of it one after the other, and what is seen.
-ghost use Rattle.std.specs.Prelude.{◌≡◌, IfSome, List};
+ghost use Rattle.std.specs.Prelude.{◌≡◌, IfSome, List, false};
 ghost use Rattle.bill_diary.specs.declared.frame.Frame.{Frame};
 ghost use Rattle.disk_model.specs.Disk.{Only};
 ghost use Rattle.ebl_base.specs.declared.moment.Moment.{Moment};
 ghost use Rattle.holder_commands.specs.Command.{command_view};
 ghost use Rattle.holder_commands.specs.Form.{IsCommand};
+ghost use Rattle.holder_commands.specs.Reading.{begins_a_bill};
 ghost use Rattle.platform_machine.specs.Machine.{MayBeAsked};
 ghost use Rattle.platform_requests.specs.Request.{request_view};
 ghost use Rattle.transfer_judge.specs.PlannedTexts.{Nests};
@@ -14,7 +15,7 @@ use disk_model::{Disk, Failures, MemoryDisk};
 use ebl_base::{ByteList, CallList, Kind, Moment, Party, PlatformCode};
 use holder_commands::Command;
 use journaled_shard::JournaledShard;
-use platform_requests::{Message, MessageList, Outcome, Reply, Request};
+use platform_requests::{Message, Outcome, Reply, Request};
 use sample_bills::{acting, bill, roster, signing};
 use std::alloc::Global;
 use test_signer::KeyedRing;
@@ -93,6 +94,18 @@ pub(crate) struct Run {
     pub(crate) bytes: ByteList,
 }
 
+impl Run {
+    /// The text.
+    pub(crate) fn into_text(self) -> ByteList {
+        self.text
+    }
+
+    /// The bytes.
+    pub(crate) fn into_bytes(self) -> ByteList {
+        self.bytes
+    }
+}
+
 fn failures(alloc: Global, place: Place<'_>) -> Option<Failures> {
     let calls = CallList::from_slice(alloc, place.fails).ok()?;
     let written = CallList::from_slice(alloc, place.written).ok()?;
@@ -107,35 +120,32 @@ fn disk(alloc: Global, place: Place<'_>) -> Option<MemoryDisk>
     MemoryDisk::new(alloc, bytes, failures(alloc, place)?).ok()
 }
 
-fn open(alloc: Global, place: Place<'_>) -> Option<Result<Shard, OpenFault>> {
-    let disk = disk(alloc, place)?;
+// What comes of the opening of a shard.
+type Opening = Result<Shard, (MemoryDisk, KeyedRing, OpenFault)>;
+
+fn open(alloc: Global, place: Place<'_>) -> Option<Opening> {
     let me = PlatformCode::try_new(place.code.as_bytes())?;
-    match JournaledShard::open(alloc, me, roster(alloc)?, disk, KeyedRing::derived()) {
-        Ok(shard) => Some(Ok(shard)),
-        Err((_, _, fault)) => Some(Err(fault)),
+    let roster = roster(alloc)?;
+    match disk(alloc, place) {
+        Some(disk) => Some(JournaledShard::open(alloc, me, roster, disk, KeyedRing::derived())),
+        None => {
+            drop(roster);
+            None
+        }
     }
 }
 
 /// Why a shard isn't opened; none where it is.
 pub(crate) fn fault(alloc: Global, place: Place<'_>) -> Option<OpenFault> {
-    match open(alloc, place)? {
-        Ok(_) => None,
-        Err(fault) => Some(fault),
-    }
+    let opening = open(alloc, place);
+    let fault = fault_in(&opening);
+    drop(opening);
+    fault
 }
 
-// Who asks for a command, and the command; none where a message comes.
-fn command(alloc: Global, ask: Ask<'_>) -> Option<(&'static str, Command)>
-    ensures form { IfSome result (λ r. IsCommand (command_view r.1)) }
-    ensures nests { IfSome result (λ r. Nests (command_view r.1)) }
-{
-    match ask {
-        Ask::Sign(number) => Some(("ALPH/CARRIER", signing(alloc, number)?)),
-        Ask::Issue => Some((
-            "ALPH/CARRIER",
-            acting(bill(alloc, 1)?, Kind::Issue, "ALPH/EXPORT")?,
-        )),
-        Ask::HandOver(by, to) => Some((by, acting(bill(alloc, 1)?, Kind::Transfer, to)?)),
+fn fault_in(opening: &Option<Opening>) -> Option<OpenFault> {
+    match opening {
+        Some(Err((_, _, fault))) => Some(*fault),
         _ => None,
     }
 }
@@ -144,134 +154,189 @@ fn asks(alloc: Global, shard: &mut Shard, by: &str, command: Command) -> Option<
     requires form { IsCommand (command_view command) }
     requires nests { Nests (command_view command) }
 {
-    let (party, now) = (Party::from_text(by.as_bytes())?, Moment::try_new(1000)?);
+    let (Some(party), Some(now)) = (Party::from_text(by.as_bytes()), Moment::try_new(1000)) else {
+        drop(command);
+        return None;
+    };
     if !shard.has_attempts(&command) {
+        drop(command);
         return None;
     }
     Some(shard.take(alloc, now, Request::Command { party, command }))
 }
 
-// The request that holds no command.
-fn request(alloc: Global, ask: Ask<'_>) -> Option<Request>
-    ensures { IfSome result (λ r. (d : List Frame) (now : Moment) → MayBeAsked d now (request_view r)) }
+// A party asks for a transaction on the bill.
+fn acts(alloc: Global, shard: &mut Shard, by: &str, kind: Kind, to: &str) -> Option<Outcome>
+    requires { begins_a_bill kind ≡ false }
 {
-    match ask {
-        Ask::Start(body) => Some(Request::Start {
-            body: ByteList::from_slice(alloc, body).ok()?,
-        }),
-        Ask::Answer(bytes) => Some(Request::StartReply {
-            bill: bill(alloc, 1)?,
-            bytes: ByteList::from_slice(alloc, bytes).ok()?,
-        }),
-        _ => Some(Request::Ask {
-            bill: bill(alloc, 1)?,
-        }),
-    }
+    asks(alloc, shard, by, acting(bill(alloc, 1)?, kind, to)?)
 }
 
+// A request that holds no command comes.
 fn takes(alloc: Global, shard: &mut Shard, request: Request) -> Option<Outcome>
     requires { (d : List Frame) (now : Moment) → MayBeAsked d now (request_view request) }
 {
-    let now = Moment::try_new(1000)?;
-    Some(shard.take(alloc, now, request))
+    match Moment::try_new(1000) {
+        Some(now) => Some(shard.take(alloc, now, request)),
+        None => {
+            drop(request);
+            None
+        }
+    }
+}
+
+fn starts(alloc: Global, shard: &mut Shard, body: &[u8]) -> Option<Outcome> {
+    let body = ByteList::from_slice(alloc, body).ok()?;
+    takes(alloc, shard, Request::Start { body })
+}
+
+fn is_answered(alloc: Global, shard: &mut Shard, bytes: &[u8]) -> Option<Outcome> {
+    let bill = bill(alloc, 1)?;
+    let bytes = ByteList::from_slice(alloc, bytes).ok()?;
+    takes(alloc, shard, Request::StartReply { bill, bytes })
 }
 
 // What comes of a request.
 fn outcome(alloc: Global, shard: &mut Shard, ask: Ask<'_>) -> Option<Outcome> {
-    match command(alloc, ask) {
-        Some((by, command)) => asks(alloc, shard, by, command),
-        None => takes(alloc, shard, request(alloc, ask)?),
+    match ask {
+        Ask::Sign(number) => asks(alloc, shard, "ALPH/CARRIER", signing(alloc, number)?),
+        Ask::Issue => acts(alloc, shard, "ALPH/CARRIER", Kind::Issue, "ALPH/EXPORT"),
+        Ask::HandOver(by, to) => acts(alloc, shard, by, Kind::Transfer, to),
+        Ask::Start(body) => starts(alloc, shard, body),
+        Ask::Answer(bytes) => is_answered(alloc, shard, bytes),
+        _ => takes(
+            alloc,
+            shard,
+            Request::Ask {
+                bill: bill(alloc, 1)?,
+            },
+        ),
     }
 }
 
-fn body_in(messages: MessageList) -> Option<ByteList> {
-    let mut messages = messages.into_vec();
-    let Some(Message::Start { body, .. }) = messages.pop() else {
-        return None;
+// The text of the signed answer, or of the start that is sent last.
+fn text_in(outcome: &Outcome) -> Option<&[u8]> {
+    match &outcome.reply {
+        Reply::Answer { text, .. } => Some(text.0.as_slice()),
+        _ => match outcome.messages.as_slice().last() {
+            Some(Message::Start { body, .. }) => Some(body.as_slice()),
+            _ => None,
+        },
+    }
+}
+
+// The reply's word, and how many messages are sent; and the text, where one is given.
+fn given(alloc: Global, outcome: &Outcome, text: &mut ByteList) -> Option<(&'static str, usize)> {
+    if let Some(given) = text_in(outcome) {
+        *text = ByteList::from_slice(alloc, given).ok()?;
+    }
+    Some((outcome.reply.as_str(), outcome.messages.as_slice().len()))
+}
+
+// The same of a request.
+fn answers(
+    alloc: Global,
+    shard: &mut Shard,
+    ask: Ask<'_>,
+    text: &mut ByteList,
+) -> Option<(&'static str, usize)> {
+    let outcome = outcome(alloc, shard, ask);
+    let given = match &outcome {
+        Some(outcome) => given(alloc, outcome, text),
+        None => None,
     };
-    Some(body)
+    drop(outcome);
+    given
 }
 
-fn answer_in(alloc: Global, reply: &Reply) -> Option<ByteList> {
-    match reply {
-        Reply::Answer { text, .. } => ByteList::from_slice(alloc, text.0.as_slice()).ok(),
-        _ => None,
+fn reopens(alloc: Global, shard: &mut Shard) -> Option<(&'static str, usize)> {
+    match shard.reopen(alloc) {
+        Ok(()) => Some(("OPENED", 0)),
+        Err(_) => None,
     }
 }
 
-// The reply's word, how many messages are sent, and the text of the signed answer or of the last message.
-fn given(alloc: Global, outcome: Outcome) -> (&'static str, usize, Option<ByteList>) {
-    let Outcome { reply, messages } = outcome;
-    let (word, sent) = (reply.as_str(), messages.as_slice().len());
-    let answer = answer_in(alloc, &reply);
-    (word, sent, answer.or(body_in(messages)))
-}
-
-// The same of whatever is asked.
 fn serve(
     alloc: Global,
     shard: &mut Shard,
     ask: Ask<'_>,
-) -> Option<(&'static str, usize, Option<ByteList>)> {
+    text: &mut ByteList,
+) -> Option<(&'static str, usize)> {
     match ask {
-        Ask::Reopen => {
-            shard.reopen(alloc).ok()?;
-            Some(("OPENED", 0, None))
-        }
-        _ => Some(given(alloc, outcome(alloc, shard, ask)?)),
+        Ask::Reopen => reopens(alloc, shard),
+        _ => answers(alloc, shard, ask, text),
     }
+}
+
+fn frames(shard: &Shard) -> usize {
+    shard.diary().as_slice().len()
 }
 
 fn look(alloc: Global, shard: &Shard, word: &'static str, sent: usize) -> Option<Seen> {
     Some(Seen {
         word,
         sent,
-        frames: shard.diary().as_slice().len(),
+        frames: frames(shard),
         unread: shard.is_unread(),
         may_act: shard.may_act(bill(alloc, 1)?),
     })
 }
 
-// Asks one thing more.
-fn goes_on(
+fn see(
     alloc: Global,
-    shard: &mut Shard,
-    ask: Ask<'_>,
-    all: &mut Vec<Seen>,
-    text: ByteList,
-) -> Option<ByteList> {
-    let (word, sent, given) = serve(alloc, shard, ask)?;
-    all.push(look(alloc, shard, word, sent)?).ok()?;
-    Some(given.unwrap_or(text))
+    shard: &Shard,
+    (word, sent): (&'static str, usize),
+    seen: &mut Vec<Seen>,
+) -> Option<()> {
+    seen.push(look(alloc, shard, word, sent)?).ok()
 }
 
-// Asks all, and gives what was seen, and the last text.
-fn serve_all(alloc: Global, shard: &mut Shard, asks: &[Ask<'_>]) -> Option<(Vec<Seen>, ByteList)> {
-    let mut seen = Vec::new(alloc);
-    let mut text = ByteList::new(alloc);
-    for &ask in asks {
-        text = goes_on(alloc, shard, ask, &mut seen, text)?;
+// Asks one thing more.
+fn goes_on(alloc: Global, shard: &mut Shard, ask: Ask<'_>, run: &mut Run) -> Option<()> {
+    let given = serve(alloc, shard, ask, &mut run.text)?;
+    see(alloc, shard, given, &mut run.seen)
+}
+
+fn serve_all(alloc: Global, shard: &mut Shard, asks: &[Ask<'_>], run: &mut Run) -> Option<()> {
+    run.opened = frames(shard);
+    for ask in asks {
+        goes_on(alloc, shard, *ask, run)?;
     }
-    Some((seen, text))
+    Some(())
 }
 
 fn bytes_of(alloc: Global, shard: Shard) -> Option<ByteList> {
-    let (disk, _) = shard.close();
-    ByteList::from_slice(alloc, disk.bytes()).ok()
+    let closed = shard.close();
+    let bytes = ByteList::from_slice(alloc, closed.0.bytes()).ok();
+    drop(closed);
+    bytes
+}
+
+// Asks all of a shard, and closes it.
+fn runs_on(alloc: Global, mut shard: Shard, asks: &[Ask<'_>], run: &mut Run) -> Option<()> {
+    let served = serve_all(alloc, &mut shard, asks, run);
+    run.bytes = bytes_of(alloc, shard)?;
+    served
+}
+
+fn runs(alloc: Global, place: Place<'_>, asks: &[Ask<'_>], run: &mut Run) -> Option<()> {
+    match open(alloc, place) {
+        Some(Ok(shard)) => runs_on(alloc, shard, asks, run),
+        refused => {
+            drop(refused);
+            None
+        }
+    }
 }
 
 /// Opens a shard and asks all of this. None comes where it isn't opened or read again.
 pub(crate) fn run_at(alloc: Global, place: Place<'_>, asks: &[Ask<'_>]) -> Option<Run> {
-    let Ok(mut shard) = open(alloc, place)? else {
-        return None;
+    let mut run = Run {
+        opened: 0,
+        seen: Vec::new(alloc),
+        text: ByteList::new(alloc),
+        bytes: ByteList::new(alloc),
     };
-    let opened = shard.diary().as_slice().len();
-    let (seen, text) = serve_all(alloc, &mut shard, asks)?;
-    let bytes = bytes_of(alloc, shard)?;
-    Some(Run {
-        opened,
-        seen,
-        text,
-        bytes,
-    })
+    runs(alloc, place, asks, &mut run)?;
+    Some(run)
 }

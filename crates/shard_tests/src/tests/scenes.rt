@@ -60,19 +60,19 @@ fn parted(alloc: Global, to: &'static str) -> Option<Run> {
 
 /// The body of the start with which it is handed over.
 pub(crate) fn body(alloc: Global, to: &'static str) -> Option<ByteList> {
-    Some(parted(alloc, to)?.text)
+    Some(parted(alloc, to)?.into_text())
 }
 
 // BETA's answer to that start.
 fn answer(alloc: Global) -> Option<ByteList> {
     let body = body(alloc, "BETA/IMPORT")?;
-    Some(first_run(alloc, "BETA", &[Ask::Start(body.as_slice())])?.text)
+    Some(first_run(alloc, "BETA", &[Ask::Start(body.as_slice())])?.into_text())
 }
 
 fn before(alloc: Global, written: Written) -> Option<ByteList> {
     match written {
-        Written::Parted => Some(issued(alloc)?.bytes),
-        Written::Settled => Some(parted(alloc, "BETA/IMPORT")?.bytes),
+        Written::Parted => Some(issued(alloc)?.into_bytes()),
+        Written::Settled => Some(parted(alloc, "BETA/IMPORT")?.into_bytes()),
         _ => ByteList::from_slice(alloc, NO_FRAMES).ok(),
     }
 }
@@ -86,17 +86,20 @@ fn text(alloc: Global, written: Written) -> Option<ByteList> {
     }
 }
 
-/// The scene of a frame that is to be written.
-pub(crate) fn scene_of(alloc: Global, written: Written) -> Option<Scene> {
-    let at = match written {
+fn at(written: Written) -> &'static str {
+    match written {
         Written::Taken | Written::Declined => "BETA",
         _ => "ALPH",
-    };
+    }
+}
+
+/// The scene of a frame that is to be written.
+pub(crate) fn scene_of(alloc: Global, written: Written) -> Option<Scene> {
     let before = before(alloc, written)?;
     let text = text(alloc, written)?;
     Some(Scene {
         written,
-        at,
+        at: at(written),
         before,
         text,
     })
