@@ -9,13 +9,14 @@ ghost use Rattle.transfer_judge.specs.PlannedTexts.{Nests};
 
 use canonical_json::read;
 use document_checksum::checksum;
-use ebl_base::{ByteList, Moment, Party, PlatformCode, Reference};
+use ebl_base::{ByteList, Copied, Moment, Party, PlatformCode, Reference};
 use envelope_manifest::Body;
 use holder_commands::Command;
 use party_roster::Roster;
 use platform_requests::{Message, Outcome, Request};
 use signed_envelope::KeyRing;
 use std::alloc::Global;
+use std::fmt::Debug;
 use std::process::Abort;
 use std::test::Fail;
 use test_signer::KeyedRing;
@@ -83,6 +84,13 @@ fn signing(alloc: Global) -> Result<Command, Fail>
     Ok(Command::Sign { document })
 }
 
+fn command(alloc: Global, text: &[u8]) -> Result<Command, Fail>
+    ensures { IfOk result (λ c. IsCommand (command_view c)) }
+{
+    let json = read(alloc, text)?;
+    Ok(Command::read(alloc, &json)?)
+}
+
 // The act of this kind on the bill, for a recipient.
 fn act_for(alloc: Global, word: &str, to: &str) -> Result<Command, Fail>
     ensures form { IfOk result (λ c. IsCommand (command_view c)) }
@@ -91,8 +99,16 @@ fn act_for(alloc: Global, word: &str, to: &str) -> Result<Command, Fail>
     let text = format!(in alloc;
         "{{\"bill\":\"{BILL}\",\"do\":\"{word}\",\"recipient\":\"{to}\"}}"
     )?;
-    let json = read(alloc, text.as_bytes())?;
-    match Command::read(alloc, &json)? {
+    act_of(command(alloc, text.as_bytes())?)
+}
+
+// A command that is an act.
+fn act_of(command: Command) -> Result<Command, Fail>
+    requires { IsCommand (command_view command) }
+    ensures form { IfOk result (λ c. IsCommand (command_view c)) }
+    ensures nests { IfOk result (λ c. Nests (command_view c)) }
+{
+    match command {
         Command::Act {
             bill,
             kind,
@@ -102,7 +118,10 @@ fn act_for(alloc: Global, word: &str, to: &str) -> Result<Command, Fail>
             kind,
             recipient,
         }),
-        _ => Err("an act".into()),
+        other => {
+            drop(other);
+            Err("an act".into())
+        }
     }
 }
 
@@ -114,8 +133,16 @@ fn attachment(alloc: Global) -> Result<Command, Fail>
     let text = format!(in alloc;
         "{{\"bill\":\"{BILL}\",\"bytes\":\"YWJj\",\"do\":\"ATTACH\",\"media\":\"text/plain\",\"name\":\"list\"}}"
     )?;
-    let json = read(alloc, text.as_bytes())?;
-    match Command::read(alloc, &json)? {
+    attachment_of(command(alloc, text.as_bytes())?)
+}
+
+// A command that is an attachment.
+fn attachment_of(command: Command) -> Result<Command, Fail>
+    requires { IsCommand (command_view command) }
+    ensures form { IfOk result (λ c. IsCommand (command_view c)) }
+    ensures nests { IfOk result (λ c. Nests (command_view c)) }
+{
+    match command {
         Command::Attach {
             bill,
             name,
@@ -127,8 +154,19 @@ fn attachment(alloc: Global) -> Result<Command, Fail>
             media,
             bytes,
         }),
-        _ => Err("an attachment".into()),
+        other => {
+            drop(other);
+            Err("an attachment".into())
+        }
     }
+}
+
+// A party that asks, and when.
+fn asking(by: &str) -> Result<(Party, Moment), Fail>
+    ensures party { IfOk result (λ r. IsParty r.0) }
+    ensures moment { IfOk result (λ r. IsMoment r.1) }
+{
+    Ok((party(by)?, moment(1000)?))
 }
 
 // A party asks a shard of its platform.
@@ -141,8 +179,15 @@ fn asks<G: KeyRing>(
     requires form { IsCommand (command_view command) }
     requires nests { Nests (command_view command) }
 {
-    let (party, now) = (party(by)?, moment(1000)?);
+    let (party, now) = match asking(by) {
+        Ok(asking) => asking,
+        Err(fail) => {
+            drop(command);
+            return Err(fail);
+        }
+    };
     if !shard.has_attempts(&command) {
+        drop(command);
         return Err("too many attempts".into());
     }
     Ok(shard.take(alloc, now, Request::Command { party, command }))
@@ -172,7 +217,7 @@ pub(crate) fn acts<G: KeyRing>(
 
 /// The carrier signs the bill.
 pub(crate) fn sign<G: KeyRing>(alloc: Global, shard: &mut Shard<G>) -> Result<(), Fail> {
-    asks(shard, alloc, "ALPH/CARRIER", signing(alloc)?)?;
+    drop(asks(shard, alloc, "ALPH/CARRIER", signing(alloc)?)?);
     Ok(())
 }
 
@@ -207,11 +252,18 @@ pub(crate) fn puts<G: KeyRing>(
 }
 
 // The body of the start that was sent, and nothing else.
-fn body_of(outcome: Outcome) -> Result<ByteList, Fail> {
-    match outcome.messages.into_vec().pop() {
-        Some(Message::Start { body, .. }) => Ok(body),
+fn body_of(alloc: Global, outcome: &Outcome) -> Result<ByteList, Fail> {
+    match outcome.messages.as_slice().last() {
+        Some(Message::Start { body, .. }) => Ok(body.copy(alloc)?),
         _ => Err("a start".into()),
     }
+}
+
+fn sends<G: KeyRing>(alloc: Global, shard: &mut Shard<G>) -> Result<ByteList, Fail> {
+    let outcome = acts(alloc, shard, SEND)?;
+    let body = body_of(alloc, &outcome);
+    drop(outcome);
+    body
 }
 
 /// A shard of a platform, with the test signer's keys.
@@ -233,9 +285,9 @@ fn sends_after(
 ) -> Result<ByteList, Fail> {
     sign(alloc, shard)?;
     for act in before {
-        acts(alloc, shard, *act)?;
+        drop(acts(alloc, shard, *act)?);
     }
-    body_of(acts(alloc, shard, SEND)?)
+    sends(alloc, shard)
 }
 
 /// The same where the three bytes `abc` are attached.
@@ -246,19 +298,31 @@ pub(crate) fn sent_with_document(alloc: Global) -> Result<ByteList, Fail> {
 
 fn sends_with_document(alloc: Global, shard: &mut Shard<KeyedRing>) -> Result<ByteList, Fail> {
     sign(alloc, shard)?;
-    acts(alloc, shard, ISSUE)?;
-    asks(shard, alloc, "ALPH/EXPORT", attachment(alloc)?)?;
-    body_of(acts(alloc, shard, SEND)?)
+    drop(acts(alloc, shard, ISSUE)?);
+    attaches(alloc, shard)?;
+    sends(alloc, shard)
+}
+
+fn attaches(alloc: Global, shard: &mut Shard<KeyedRing>) -> Result<(), Fail> {
+    drop(asks(shard, alloc, "ALPH/EXPORT", attachment(alloc)?)?);
+    Ok(())
+}
+
+// What was seen is what was expected.
+fn same<R: Abort, T: Copy + Debug + PartialEq>(rt: &R, seen: T, expected: T) {
+    assert_eq!(rt; seen, expected);
 }
 
 /// Asserts the reply, how many messages are sent, and how many frames stand in the diary.
 pub(crate) fn comes_to<R: Abort, G: KeyRing>(
     rt: &R,
     shard: &Shard<G>,
-    outcome: &Outcome,
+    outcome: Outcome,
     (reply, messages, frames): (&str, usize, usize),
 ) {
-    assert_eq!(rt; outcome.reply.as_str(), reply);
-    assert_eq!(rt; outcome.messages.as_slice().len(), messages);
-    assert_eq!(rt; shard.diary().as_slice().len(), frames);
+    let (word, sent) = (outcome.reply.as_str(), outcome.messages.as_slice().len());
+    drop(outcome);
+    same(rt, word, reply);
+    same(rt, sent, messages);
+    same(rt, shard.diary().as_slice().len(), frames);
 }

@@ -18,29 +18,44 @@ fn tell_starts<R: Abort>(
     shard: &mut Shard<KeyedRing>,
     rows: &[(&[u8], [&str; 2], usize)],
 ) -> Result<(), Fail> {
-    for (body, replies, frames) in rows {
-        for reply in replies {
-            let outcome = starts(alloc, shard, body)?;
-            comes_to(rt, shard, &outcome, (reply, 0, *frames));
-        }
+    for (body, [first, then], frames) in rows {
+        tell_start(rt, alloc, shard, (body, first, *frames))?;
+        tell_start(rt, alloc, shard, (body, then, *frames))?;
     }
+    Ok(())
+}
+
+fn tell_start<R: Abort>(
+    rt: &R,
+    alloc: Global,
+    shard: &mut Shard<KeyedRing>,
+    (body, reply, frames): (&[u8], &str, usize),
+) -> Result<(), Fail> {
+    let outcome = starts(alloc, shard, body)?;
+    comes_to(rt, shard, outcome, (reply, 0, frames));
     Ok(())
 }
 
 // The other chain isn't endorsed.
 #[test]
 fn frames_of_starts(rt: HostRuntime) -> Result<(), Fail> {
-    let (one, other) = (
-        sent_after(rt.alloc(), &[ISSUE, ENDORSE])?,
-        sent_after(rt.alloc(), &[ISSUE])?,
-    );
-    let mut shard = keyed(rt.alloc(), "BETA")?;
+    let one = sent_after(rt.alloc(), &[ISSUE, ENDORSE])?;
+    let other = sent_after(rt.alloc(), &[ISSUE])?;
     let rows = [
         (b"{}".as_slice(), ["BENV", "BENV"], 0),
         (one.as_slice(), ["RECE", "DUPE"], 1),
         (other.as_slice(), ["DISE", "DISE"], 2),
     ];
-    tell_starts(&rt, rt.alloc(), &mut shard, &rows)
+    tell_rows(&rt, rt.alloc(), &rows)
+}
+
+fn tell_rows<R: Abort>(
+    rt: &R,
+    alloc: Global,
+    rows: &[(&[u8], [&str; 2], usize)],
+) -> Result<(), Fail> {
+    let mut shard = keyed(alloc, "BETA")?;
+    tell_starts(rt, alloc, &mut shard, rows)
 }
 
 fn reference_of(outcome: &Outcome) -> Result<Reference, Fail> {
@@ -58,11 +73,20 @@ fn tell_document<R: Abort>(
     body: &[u8],
 ) -> Result<(), Fail> {
     let started = starts(alloc, shard, body)?;
-    comes_to(rt, shard, &started, ("STARTED", 0, 1));
-    let reference = reference_of(&started)?;
+    let reference = reference_of(&started);
+    comes_to(rt, shard, started, ("STARTED", 0, 1));
+    tell_puts(rt, alloc, shard, reference?)
+}
+
+fn tell_puts<R: Abort>(
+    rt: &R,
+    alloc: Global,
+    shard: &mut Shard<KeyedRing>,
+    reference: Reference,
+) -> Result<(), Fail> {
     for _ in 0..2 {
         let outcome = puts(alloc, shard, reference, b"abc")?;
-        comes_to(rt, shard, &outcome, ("STORED", 0, 2));
+        comes_to(rt, shard, outcome, ("STORED", 0, 2));
     }
     Ok(())
 }
