@@ -1,5 +1,5 @@
 //! The body of a reply.
-ghost use Rattle.std.specs.Prelude.{◌≡◌, IfOk};
+ghost use Rattle.std.specs.Prelude.{◌≡◌, IfOk, MatchResult};
 ghost use Rattle.canonical_json.specs.Canon.{canon};
 ghost use Rattle.canonical_json.specs.View.{view};
 ghost use Rattle.reply_forms.specs.Body.{body_of};
@@ -35,19 +35,19 @@ pub fn reply_body(alloc: Global, reply: Reply) -> Result<ReplyBody, NoMemory>
     ensures { IfOk result (λ body. body ≡ body_of reply) }
 {
     match reply {
-        Reply::Done(v) => json_body(alloc, view_json(alloc, v)?),
+        Reply::Done(v) => json_body(alloc, view_json(alloc, v)),
         Reply::Started { reference, missing } => started_body(alloc, reference, missing),
         Reply::Answer { text, .. } => Ok(ReplyBody::Signed(text)),
-        Reply::NotOurs => json_body(alloc, word_json(alloc, "NOT_OURS")?),
+        Reply::NotOurs => json_body(alloc, word_json(alloc, "NOT_OURS")),
         Reply::Document(fault) => document_body(alloc, fault),
-        Reply::NotCarrier => json_body(alloc, word_json(alloc, "NOT_CARRIER")?),
-        Reply::KnownBill => json_body(alloc, word_json(alloc, "KNOWN_BILL")?),
-        Reply::NotHere(place) => json_body(alloc, place_json(alloc, "NOT_HERE", place)?),
-        Reply::NoParty(party) => json_body(alloc, no_party_json(alloc, party)?),
-        Reply::NotAllowed(rule) => json_body(alloc, not_allowed_json(alloc, rule)?),
-        Reply::Limit(which) => json_body(alloc, limit_json(alloc, which)?),
-        Reply::Ignored(reason) => json_body(alloc, ignored_json(alloc, reason)?),
-        Reply::NotParting(place) => json_body(alloc, place_json(alloc, "NOT_PARTING", place)?),
+        Reply::NotCarrier => json_body(alloc, word_json(alloc, "NOT_CARRIER")),
+        Reply::KnownBill => json_body(alloc, word_json(alloc, "KNOWN_BILL")),
+        Reply::NotHere(place) => json_body(alloc, place_json(alloc, "NOT_HERE", place)),
+        Reply::NoParty(party) => json_body(alloc, no_party_json(alloc, party)),
+        Reply::NotAllowed(rule) => json_body(alloc, not_allowed_json(alloc, rule)),
+        Reply::Limit(which) => json_body(alloc, limit_json(alloc, which)),
+        Reply::Ignored(reason) => json_body(alloc, ignored_json(alloc, reason)),
+        Reply::NotParting(place) => json_body(alloc, place_json(alloc, "NOT_PARTING", place)),
         Reply::Stored
         | Reply::UnknownReference
         | Reply::Sign
@@ -58,9 +58,12 @@ pub fn reply_body(alloc: Global, reply: Reply) -> Result<ReplyBody, NoMemory>
     }
 }
 
-fn json_body(alloc: Global, json: Json) -> Result<ReplyBody, NoMemory>
-    ensures { IfOk result (λ body. body ≡ ReplyBody.Json (canon (view json))) }
+// The text of a value, where it could be made.
+fn json_body(alloc: Global, made: Result<Json, NoMemory>) -> Result<ReplyBody, NoMemory>
+    ensures { IfOk result (λ body. MatchResult made
+        (λ json. body ≡ ReplyBody.Json (canon (view json))) (λ refused. ⊥)) }
 {
+    let json = made?;
     Ok(ReplyBody::Json(write(alloc, &json)?))
 }
 
@@ -79,7 +82,7 @@ fn document_body(alloc: Global, fault: DocumentFault) -> Result<ReplyBody, NoMem
     ensures { IfOk result (λ body. body ≡ body_of (Reply.Document fault)) }
 {
     match document_json(alloc, fault)? {
-        Some(json) => json_body(alloc, json),
+        Some(json) => json_body(alloc, Ok(json)),
         None => Ok(ReplyBody::Nothing),
     }
 }

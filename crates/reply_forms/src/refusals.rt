@@ -1,11 +1,11 @@
 //! Refusals as JSON, without the number of an event and the messages sent.
-ghost use Rattle.std.specs.Prelude.{◌≡◌, IfOk, option_map};
+ghost use Rattle.std.specs.Prelude.{◌≡◌, [], IfOk, OnOk, option_map};
 ghost use Rattle.canonical_json.specs.Value.{text, object, member as member_of, no_members};
-ghost use Rattle.canonical_json.specs.View.{view};
+ghost use Rattle.canonical_json.specs.View.{members_view, view};
 ghost use Rattle.reply_forms.specs.Body.{document_value, fault_value, form_value, ignored_value, limit_value, no_party_value, not_allowed_value, place_value, word_value};
 
 use crate::words::{field_name, limit_text, place_text};
-use canonical_json::Json;
+use canonical_json::{Json, Member};
 use ebl_base::{LimitKind, NoMemory, Party, PlaceTag};
 use json_forms::{object_json, party_member, text_member};
 use platform_requests::IgnoreReason;
@@ -95,10 +95,17 @@ fn fault_json(alloc: Global, fault: &str) -> Result<Json, NoMemory>
 fn form_json(alloc: Global, field: DocumentField) -> Result<Json, NoMemory>
     ensures { IfOk result (λ json. view json ≡ form_value field) }
 {
-    let members = vec![in alloc;
-        text_member(alloc, "fault", "FORM")?,
-        text_member(alloc, "field", field_name(field))?,
-        text_member(alloc, "reply", "DOCUMENT")?,
-    ]?;
+    let mut members = Vec::with_capacity(alloc, 3)?;
+    put_form(alloc, &mut members, field)?;
     Ok(object_json(members))
+}
+
+fn put_form(alloc: Global, members: &mut Vec<Member>, field: DocumentField) -> Result<(), NoMemory>
+    requires empty { members.old.items ≡ [] }
+    ensures { OnOk result (object (members_view members.new.items) ≡ form_value field) }
+{
+    members.push(text_member(alloc, "fault", "FORM")?)?;
+    members.push(text_member(alloc, "field", field_name(field))?)?;
+    members.push(text_member(alloc, "reply", "DOCUMENT")?)?;
+    Ok(())
 }
