@@ -1,5 +1,5 @@
 //! The paths of the six routes.
-ghost use Rattle.std.specs.Prelude.{◌≡◌, OnOk, IfOk};
+ghost use Rattle.std.specs.Prelude.{◌≡◌, [], OnOk, IfOk};
 ghost use Rattle.std.specs.Str.{IsUtf8};
 ghost use Rattle.http_heads.specs.Route.{with_path, endpoint_of, route_of, route_at, paths};
 
@@ -27,21 +27,29 @@ pub(crate) fn router(alloc: Global) -> Result<Router<Endpoint>, NoMemory>
     ensures { IfOk result (λ table. table ≡ paths) }
 {
     let mut router = Router::new(alloc);
-    add(&mut router, "/v3/envelopes", Endpoint::Start)?;
+    add_paths(&mut router)?;
+    Ok(router)
+}
+
+fn add_paths(router: &mut Router<Endpoint>) -> Result<(), NoMemory>
+    requires { router.old ≡ [] }
+    ensures { OnOk result (router.new ≡ paths) }
+{
+    add(router, "/v3/envelopes", Endpoint::Start)?;
     add(
-        &mut router,
+        router,
         "/v3/envelopes/{reference}/additional-documents/{checksum}",
         Endpoint::Document,
     )?;
     add(
-        &mut router,
+        router,
         "/v3/envelopes/{reference}/finish-transfer",
         Endpoint::Finish,
     )?;
-    add(&mut router, "/v3/receiver-validation", Endpoint::Validation)?;
-    add(&mut router, "/v3/holder-commands", Endpoint::Command)?;
-    add(&mut router, "/v3/bills/{bill}", Endpoint::Bill)?;
-    Ok(router)
+    add(router, "/v3/receiver-validation", Endpoint::Validation)?;
+    add(router, "/v3/holder-commands", Endpoint::Command)?;
+    add(router, "/v3/bills/{bill}", Endpoint::Bill)?;
+    Ok(())
 }
 
 fn add(router: &mut Router<Endpoint>, path: &str, endpoint: Endpoint) -> Result<(), NoMemory>
