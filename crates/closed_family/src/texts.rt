@@ -1,5 +1,5 @@
 //! The texts of a family, each with its name.
-ghost use Rattle.std.specs.Prelude.{◌≡◌, [], ◌∷◌, ◌++◌, map, option_map, IfOk, OnOk};
+ghost use Rattle.std.specs.Prelude.{◌≡◌, [], ◌∷◌, ◌++◌, map, option_map, IfOk, OnOk, Some};
 ghost use Rattle.std.specs.List.{flat_map};
 ghost use Rattle.envelope_manifest.specs.Body.{body_view};
 ghost use Rattle.bill_diary.specs.History.{records_of};
@@ -10,7 +10,7 @@ use crate::family::{Family, Member};
 use bill_diary::{Diary, Frame, Record};
 use canonical_json::write;
 use document_checksum::checksum;
-use ebl_base::{ByteList, Chain, Checksum, NoMemory, SharedBytes};
+use ebl_base::{ByteList, Chain, Checksum, Copied, NoMemory, SharedBytes};
 use envelope_manifest::{Body, BodyFault};
 use std::alloc::Global;
 use std::marker::Model;
@@ -189,13 +189,25 @@ fn push_body(
     ensures { OnOk result (texts.new.items
         ≡ texts.old.items ++ map named (texts_of_body (body_in bytes.now))) }
 {
-    let Some(body) = body_in(alloc, bytes)? else {
-        return Ok(());
-    };
+    match body_in(alloc, bytes)? {
+        Some(body) => push_parts(alloc, texts, &body),
+        None => Ok(()),
+    }
+}
+
+fn push_parts(alloc: Global, texts: &mut Vec<NamedText<'_>>, body: &Body) -> Result<(), NoMemory>
+    ensures { OnOk result (texts.new.items
+        ≡ texts.old.items ++ map named (texts_of_body (Some (body_view body.now)))) }
+{
     let document = write(alloc, &body.document)?;
-    let document = SharedBytes::from_vec(alloc, document.into_vec())?;
-    texts.push(NamedText::of(Text::Made(document)))?;
-    texts.push(NamedText::of(Text::Made(body.manifest.0)))?;
+    push_made(texts, SharedBytes::from_vec(alloc, document.into_vec())?)?;
+    push_made(texts, body.manifest.0.copy(alloc)?)
+}
+
+fn push_made(texts: &mut Vec<NamedText<'_>>, bytes: SharedBytes) -> Result<(), NoMemory>
+    ensures { OnOk result (texts.new.items ≡ texts.old.items ++ named bytes ∷ []) }
+{
+    texts.push(NamedText::of(Text::Made(bytes)))?;
     Ok(())
 }
 
