@@ -1,6 +1,7 @@
 //! A desk in memory, for tests of what is generic over a desk.
-ghost use Rattle.std.specs.Prelude.{◌≡◌, ◌∷◌, [], Some, None, map, MatchOption};
+ghost use Rattle.std.specs.Prelude.{◌≡◌, ◌∷◌, [], Some, None, IfOk, map, MatchOption};
 ghost use Rattle.platform_requests.specs.Desk.{MayAsk, MayGive, NamesMissing};
+ghost use Rattle.platform_requests.specs.MemoryDesk.{call_view};
 ghost use Rattle.platform_requests.specs.Request.{request_view};
 
 use crate::desk::Desk;
@@ -10,7 +11,7 @@ use crate::outcome::Outcome;
 use crate::reply::Reply;
 use crate::request::Request;
 use crate::suiting::suits;
-use ebl_base::{Copied, Moment, Party};
+use ebl_base::{Copied, Moment, NoMemory, Party};
 use std::alloc::Global;
 
 /// A desk in memory: it gives the outcomes that it was made with, one a call, and keeps every call.
@@ -27,7 +28,7 @@ pub struct MemoryDesk {
 }
 
 impl MemoryDesk {
-    ghost use Rattle.platform_requests.specs.MemoryDesk.{Keeps, call_view, kept_calls, known_parties};
+    ghost use Rattle.platform_requests.specs.MemoryDesk.{Keeps, kept_calls, known_parties};
 
     /// A desk that gives these outcomes, the last one first, and knows these parties.
     pub fn new(alloc: Global, outcomes: Vec<Outcome>, parties: Vec<Party>) -> MemoryDesk
@@ -74,17 +75,41 @@ impl MemoryDesk {
             (record { now = now; request = request_view request; outcome = outcome.now } ∷ []) (kept_calls self.new) }
         ensures parties { known_parties self.new ≡ known_parties self.old }
     {
-        let Ok(outcome) = outcome.copy(alloc) else {
+        match call(alloc, now, request, outcome) {
+            Ok(call) => self.add(call),
+            Err(NoMemory) => self.tells = false,
+        }
+    }
+
+    fn add(&mut self, call: KeptCall)
+        ensures kept { Keeps (kept_calls self.old) (call_view call ∷ []) (kept_calls self.new) }
+        ensures parties { known_parties self.new ≡ known_parties self.old }
+    {
+        if self.kept.push(call).is_err() {
             self.tells = false;
-            return;
-        };
-        let call = KeptCall {
+        }
+    }
+}
+
+// A call, with a copy of its outcome.
+fn call(
+    alloc: Global,
+    now: Moment,
+    request: Request,
+    outcome: &Outcome,
+) -> Result<KeptCall, NoMemory>
+    ensures { IfOk result (λ call. call_view call
+        ≡ record { now = now; request = request_view request; outcome = outcome.now }) }
+{
+    match outcome.copy(alloc) {
+        Ok(outcome) => Ok(KeptCall {
             now,
             request,
             outcome,
-        };
-        if self.kept.push(call).is_err() {
-            self.tells = false;
+        }),
+        Err(refused) => {
+            drop(request);
+            Err(refused)
         }
     }
 }
