@@ -325,24 +325,25 @@ impl Register {
         ensures diary { self.new.diary ≡ self.old.diary ++ frame ∷ [] }
         ensures room { self.new.room ≡ None }
     {
-        if let Some(reserved) = self.reserved.take() {
-            let Reserved { mut frames, room } = reserved;
-            let Room {
-                bill,
-                change,
-                kept,
-                came,
-                taken,
-            } = room;
-            let alloc = *frames.allocator();
-            let number = frames.len();
-            frames.push_reserved(frame);
-            self.diary = Items::from_vec(frames);
-            self.numbers.put(kept, number);
-            self.numbers.put(came, number);
-            self.numbers.put(taken, number);
-            put(alloc, &mut self.bills, bill, change);
-        }
+        let Some(reserved) = self.reserved.take() else {
+            unreachable!()
+        };
+        let Reserved { mut frames, room } = reserved;
+        let Room {
+            bill,
+            change,
+            kept,
+            came,
+            taken,
+        } = room;
+        let alloc = *frames.allocator();
+        let number = frames.len();
+        frames.push_reserved(frame);
+        self.diary = Items::from_vec(frames);
+        self.numbers.put(kept, number);
+        self.numbers.put(came, number);
+        self.numbers.put(taken, number);
+        put(alloc, &mut self.bills, bill, change);
     }
 }
 
@@ -408,7 +409,8 @@ fn put(
     ensures { (other : Checksum) → state_in bills.new other ≡ (if checksum_eq bill other
         then state_with change (state_in bills.old bill) else state_in bills.old other) }
 {
-    if let Ok(Some(state)) = bills.insert(bill, BillState::unknown(alloc)) {
-        let _ = bills.insert(bill, state.changed(change));
-    }
+    let Ok(Some(state)) = bills.insert(bill, BillState::unknown(alloc)) else {
+        unreachable!()
+    };
+    drop(bills.insert(bill, state.changed(change)));
 }

@@ -30,15 +30,15 @@ invariant_of-self c =
     sym (ap (frames_in c.from_vec.result) c.take.ensures.after ∙ c.from_vec.ensures ∙ c.push_reserved.ensures.items) in
     record {
       states = λ q.
-          states_more diary frame c.self.inside.bills c.put-in-Some-3.new.bills room
+          states_more diary frame c.self.inside.bills c.put-4.new.bills room
           (λ b. c.self.invariant.states b ∙ ap (λ (d : List Frame). state_of (history b d)) diary_is) is_for
-          c.put-in-Some-3.ensures q
+          c.put-4.ensures q
           ∙ ap (λ (d : List Frame). state_of (history q d)) more;
       numbers_are = λ k.
-          numbers_put diary frame room c.self.inside.numbers c.put.new.self c.put-in-Some.new.self
-          c.put-in-Some-2.new.self c.len-number.result number_is
+          numbers_put diary frame room c.self.inside.numbers c.put.new.self c.put-2.new.self
+          c.put-3.new.self c.len-number.result number_is
           (λ q. c.self.invariant.numbers_are q ∙ ap (λ (d : List Frame). number_of q d) diary_is) is_for
-          c.put.ensures.numbers c.put-in-Some.ensures.numbers c.put-in-Some-2.ensures.numbers k
+          c.put.ensures.numbers c.put-2.ensures.numbers c.put-3.ensures.numbers k
           ∙ ap (λ (d : List Frame). number_of k d) more;
       bill_room = rw c.take.ensures.after tt;
       kept_room = rw c.take.ensures.after tt;
