@@ -1,15 +1,17 @@
 //! The events that the generator makes, one by one. Each costs the draws for it; for a party that acts, the line of one
 //! bill is looked up, and none is written.
-ghost use Rattle.std.specs.Prelude.{◌≡◌, ◌≤◌, ◌<◌, find, length, IfOk};
+ghost use Rattle.std.specs.Prelude.{◌≡◌, ◌≤◌, ◌<◌, [], ◌++◌, codes, find, length, IfOk, OnOk};
+ghost use Rattle.std.specs.Fmt.{decimal};
 ghost use Rattle.ebl_base.specs.Party.{party_eq};
-ghost use Rattle.canonical_json.specs.View.{view};
+ghost use Rattle.canonical_json.specs.Value.{object, text};
+ghost use Rattle.canonical_json.specs.View.{member_view, members_view, view};
 ghost use Rattle.world_script.specs.Event.{deed_view, event_view};
 ghost use Rattle.platform_world.specs.State.{world_of};
 ghost use Rattle.rehearsal.specs.Roster.{made_roster, one, alph, party_at, platform_at};
 ghost use Rattle.rehearsal.specs.Events.{acting, asking, deed_at, delivering, document, event_of, first_moment, happening, issuing, listed_or_carrier, made, possessor_in, resending, restarting, signing};
 
 use crate::draws::Draws;
-use canonical_json::Json;
+use canonical_json::{Json, Member};
 use ebl_base::{Kind, Moment, NoMemory, Party, PlatformCode};
 use json_forms::{member, object_json, text_member};
 use party_roster::Roster;
@@ -37,14 +39,30 @@ pub(crate) fn sign(alloc: Global, roster: &Roster, number: u64) -> Result<Event,
 fn document(alloc: Global, number: u64) -> Result<Json, NoMemory>
     ensures { IfOk result (λ json. view json ≡ document number) }
 {
+    let mut members = Vec::with_capacity(alloc, 5)?;
+    put_document(alloc, &mut members, number)?;
+    Ok(object_json(members))
+}
+
+#[tactic(auto, unfolding(crate::specs::Events::document))]
+fn put_document(alloc: Global, members: &mut Vec<Member>, number: u64) -> Result<(), NoMemory>
+    requires empty { members.old.items ≡ [] }
+    ensures { OnOk result (object (members_view members.new.items) ≡ document number) }
+{
+    members.push(text_member(alloc, "carrierCode", "OCNL")?)?;
+    members.push(text_member(alloc, "carrierCodeListProvider", "NMFTA")?)?;
+    members.push(member(alloc, "isToOrder", Json::Flag(true))?)?;
+    members.push(reference_member(alloc, number)?)?;
+    members.push(text_member(alloc, "transportDocumentTypeCode", "BOL")?)?;
+    Ok(())
+}
+
+fn reference_member(alloc: Global, number: u64) -> Result<Member, NoMemory>
+    ensures { IfOk result (λ m. member_view m
+        ≡ (codes "transportDocumentReference", text (codes "R" ++ decimal number))) }
+{
     let reference = format!(in alloc; "R{number}")?;
-    Ok(object_json(vec![in alloc;
-        text_member(alloc, "carrierCode", "OCNL")?,
-        text_member(alloc, "carrierCodeListProvider", "NMFTA")?,
-        member(alloc, "isToOrder", Json::Flag(true))?,
-        text_member(alloc, "transportDocumentReference", reference.as_str())?,
-        text_member(alloc, "transportDocumentTypeCode", "BOL")?,
-    ]?))
+    text_member(alloc, "transportDocumentReference", reference.as_str())
 }
 
 /// The carrier issues the bill of this number to some party.

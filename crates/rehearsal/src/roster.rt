@@ -1,7 +1,7 @@
 //! The roster of a rehearsal.
-ghost use Rattle.std.specs.Prelude.{◌≡◌, codes, IfOk};
-ghost use Rattle.canonical_json.specs.Value.{list};
-ghost use Rattle.canonical_json.specs.View.{view, member_view};
+ghost use Rattle.std.specs.Prelude.{◌≡◌, [], codes, IfOk, OnOk};
+ghost use Rattle.canonical_json.specs.Value.{list, object};
+ghost use Rattle.canonical_json.specs.View.{view, items_view, member_view, members_view};
 ghost use Rattle.json_forms.specs.Writing.{each_written, party_value, platform_value};
 ghost use Rattle.party_roster.specs.RosterForm.{IsRoster};
 ghost use Rattle.party_roster.specs.Writing.{carrier_value, roster_value};
@@ -30,11 +30,19 @@ pub fn made_roster(alloc: Global) -> Result<Roster, NoMemory>
 fn roster_json(alloc: Global) -> Result<Json, NoMemory>
     ensures { IfOk result (λ json. view json ≡ roster_value made_roster) }
 {
-    Ok(object_json(vec![in alloc;
-        member(alloc, "carriers", carriers_json(alloc)?)?,
-        member(alloc, "parties", parties_json(alloc)?)?,
-        member(alloc, "platforms", platforms_json(alloc)?)?,
-    ]?))
+    let mut members = Vec::with_capacity(alloc, 3)?;
+    put_roster(alloc, &mut members)?;
+    Ok(object_json(members))
+}
+
+fn put_roster(alloc: Global, members: &mut Vec<Member>) -> Result<(), NoMemory>
+    requires empty { members.old.items ≡ [] }
+    ensures { OnOk result (object (members_view members.new.items) ≡ roster_value made_roster) }
+{
+    members.push(member(alloc, "carriers", carriers_json(alloc)?)?)?;
+    members.push(member(alloc, "parties", parties_json(alloc)?)?)?;
+    members.push(member(alloc, "platforms", platforms_json(alloc)?)?)?;
+    Ok(())
 }
 
 #[tactic(auto, unfolding(crate::specs::Roster::made_roster))]
@@ -47,34 +55,60 @@ fn carriers_json(alloc: Global) -> Result<Json, NoMemory>
 fn carrier_json(alloc: Global) -> Result<Json, NoMemory>
     ensures { IfOk result (λ json. view json ≡ carrier_value carrier) }
 {
-    Ok(object_json(vec![in alloc;
-        text_member(alloc, "code", "OCNL")?,
-        text_member(alloc, "party", "ALPH/ONE")?,
-        text_member(alloc, "provider", "NMFTA")?,
-    ]?))
+    let mut members = Vec::with_capacity(alloc, 3)?;
+    put_carrier(alloc, &mut members)?;
+    Ok(object_json(members))
+}
+
+fn put_carrier(alloc: Global, members: &mut Vec<Member>) -> Result<(), NoMemory>
+    requires empty { members.old.items ≡ [] }
+    ensures { OnOk result (object (members_view members.new.items) ≡ carrier_value carrier) }
+{
+    members.push(text_member(alloc, "code", "OCNL")?)?;
+    members.push(text_member(alloc, "party", "ALPH/ONE")?)?;
+    members.push(text_member(alloc, "provider", "NMFTA")?)?;
+    Ok(())
 }
 
 #[tactic(auto, unfolding(crate::specs::Roster::made_roster))]
 fn parties_json(alloc: Global) -> Result<Json, NoMemory>
     ensures { IfOk result (λ json. view json ≡ list (each_written party_value made_roster.parties)) }
 {
-    Ok(list_json(vec![in alloc;
-        text_json(alloc, "ALPH/ONE")?,
-        text_json(alloc, "ALPH/TWO")?,
-        text_json(alloc, "BETA/ONE")?,
-        text_json(alloc, "BETA/TWO")?,
-        text_json(alloc, "GAMM/ONE")?,
-        text_json(alloc, "GAMM/TWO")?,
-    ]?))
+    let mut items = Vec::with_capacity(alloc, 6)?;
+    put_parties(alloc, &mut items)?;
+    Ok(list_json(items))
+}
+
+#[tactic(auto, unfolding(crate::specs::Roster::made_roster))]
+fn put_parties(alloc: Global, items: &mut Vec<Json>) -> Result<(), NoMemory>
+    requires empty { items.old.items ≡ [] }
+    ensures { OnOk result (items_view items.new.items ≡ each_written party_value made_roster.parties) }
+{
+    items.push(text_json(alloc, "ALPH/ONE")?)?;
+    items.push(text_json(alloc, "ALPH/TWO")?)?;
+    items.push(text_json(alloc, "BETA/ONE")?)?;
+    items.push(text_json(alloc, "BETA/TWO")?)?;
+    items.push(text_json(alloc, "GAMM/ONE")?)?;
+    items.push(text_json(alloc, "GAMM/TWO")?)?;
+    Ok(())
 }
 
 #[tactic(auto, unfolding(crate::specs::Roster::made_roster))]
 fn platforms_json(alloc: Global) -> Result<Json, NoMemory>
     ensures { IfOk result (λ json. view json ≡ list (each_written platform_value made_roster.platforms)) }
 {
-    Ok(list_json(vec![in alloc;
-        text_json(alloc, "ALPH")?,
-        text_json(alloc, "BETA")?,
-        text_json(alloc, "GAMM")?,
-    ]?))
+    let mut items = Vec::with_capacity(alloc, 3)?;
+    put_platforms(alloc, &mut items)?;
+    Ok(list_json(items))
+}
+
+#[tactic(auto, unfolding(crate::specs::Roster::made_roster))]
+fn put_platforms(alloc: Global, items: &mut Vec<Json>) -> Result<(), NoMemory>
+    requires empty { items.old.items ≡ [] }
+    ensures { OnOk result (items_view items.new.items ≡ each_written platform_value made_roster.platforms) }
+{
+    items.push(text_json(alloc, "ALPH")?)?;
+    items.push(text_json(alloc, "BETA")?)?;
+    items.push(text_json(alloc, "GAMM")?)?;
+    Ok(())
 }
