@@ -1,8 +1,8 @@
 //! Entries and transactions as they are written: without further members, the names in order.
-ghost use Rattle.std.specs.Prelude.{◌≡◌, IfOk, codes};
+ghost use Rattle.std.specs.Prelude.{◌≡◌, [], IfOk, OnOk, codes};
 ghost use Rattle.canonical_json.specs.Lawful.{IsLawful};
-ghost use Rattle.canonical_json.specs.Value.{list};
-ghost use Rattle.canonical_json.specs.View.{view, member_view};
+ghost use Rattle.canonical_json.specs.Value.{list, object};
+ghost use Rattle.canonical_json.specs.View.{view, member_view, members_view};
 ghost use Rattle.json_forms.specs.Writing.{each_written};
 ghost use Rattle.chain_entry.specs.Writing.{transaction_value, entry_value};
 
@@ -20,17 +20,24 @@ pub fn encode(alloc: Global, entry: &Entry) -> Result<Json, NoMemory>
     ensures value { IfOk result (λ json. view json ≡ entry_value entry.now) }
     ensures lawful { IfOk result (λ json. IsLawful (view json)) }
 {
-    let attempt = number_member(alloc, "attempt", u64::from(entry.attempt))?;
-    let bill = checksum_member(alloc, "bill", entry.bill)?;
-    let platform = platform_member(alloc, "platform", entry.platform)?;
-    let transactions = transactions_member(alloc, entry.transactions.as_slice())?;
-    match entry.previous {
-        None => Ok(object_json(vec![in alloc; attempt, bill, platform, transactions]?)),
-        Some(previous) => {
-            let previous = checksum_member(alloc, "previous", previous)?;
-            Ok(object_json(vec![in alloc; attempt, bill, platform, previous, transactions]?))
-        }
+    let mut members = Vec::with_capacity(alloc, 5)?;
+    put_entry(alloc, &mut members, entry)?;
+    Ok(object_json(members))
+}
+
+// Puts the members of an entry into a list that has none.
+fn put_entry(alloc: Global, members: &mut Vec<Member>, entry: &Entry) -> Result<(), NoMemory>
+    requires empty { members.old.items ≡ [] }
+    ensures { OnOk result (object (members_view members.new.items) ≡ entry_value entry.now) }
+{
+    members.push(number_member(alloc, "attempt", u64::from(entry.attempt))?)?;
+    members.push(checksum_member(alloc, "bill", entry.bill)?)?;
+    members.push(platform_member(alloc, "platform", entry.platform)?)?;
+    if let Some(previous) = entry.previous {
+        members.push(checksum_member(alloc, "previous", previous)?)?;
     }
+    members.push(transactions_member(alloc, entry.transactions.as_slice())?)?;
+    Ok(())
 }
 
 /// The written form of a transaction: an object with `actor`, `kind`, `recipient` where there is one, and `time`.
@@ -39,16 +46,27 @@ pub fn encode_transaction(alloc: Global, transaction: &Transaction) -> Result<Js
     ensures value { IfOk result (λ json. view json ≡ transaction_value transaction.now) }
     ensures lawful { IfOk result (λ json. IsLawful (view json)) }
 {
-    let actor = party_member(alloc, "actor", transaction.actor)?;
-    let kind = text_member(alloc, "kind", transaction.kind.as_str())?;
-    let time = number_member(alloc, "time", transaction.time.number())?;
-    match transaction.recipient {
-        None => Ok(object_json(vec![in alloc; actor, kind, time]?)),
-        Some(recipient) => {
-            let recipient = party_member(alloc, "recipient", recipient)?;
-            Ok(object_json(vec![in alloc; actor, kind, recipient, time]?))
-        }
+    let mut members = Vec::with_capacity(alloc, 4)?;
+    put_transaction(alloc, &mut members, transaction)?;
+    Ok(object_json(members))
+}
+
+// Puts the members of a transaction into a list that has none.
+fn put_transaction(
+    alloc: Global,
+    members: &mut Vec<Member>,
+    transaction: &Transaction,
+) -> Result<(), NoMemory>
+    requires empty { members.old.items ≡ [] }
+    ensures { OnOk result (object (members_view members.new.items) ≡ transaction_value transaction.now) }
+{
+    members.push(party_member(alloc, "actor", transaction.actor)?)?;
+    members.push(text_member(alloc, "kind", transaction.kind.as_str())?)?;
+    if let Some(recipient) = transaction.recipient {
+        members.push(party_member(alloc, "recipient", recipient)?)?;
     }
+    members.push(number_member(alloc, "time", transaction.time.number())?)?;
+    Ok(())
 }
 
 fn transactions_member(alloc: Global, transactions: &[Transaction]) -> Result<Member, NoMemory>

@@ -5,12 +5,7 @@ use Rattle.chain_entry.specs.Writing.{entry_value}
 use Rattle.chain_entry.proofs.CanonicalForms.{entry-lawful}
 use Rattle.chain_entry.proofs.writing.encode.Goals as goal
 
-pub returns-in_ok-vec-in-None-clause-lawful : goal.returns-in_ok-vec-in-None-clause-lawful
-returns-in_ok-vec-in-None-clause-lawful c =
+pub returns-clause-lawful : goal.returns-clause-lawful
+returns-clause-lawful c =
     let value : view c.object_json.result ≡ entry_value c.args.entry.now = search rules in
-    subst IsLawful (sym value) (entry-lawful c.args.entry.now)
-
-pub returns-in_ok-vec-in-Some-clause-lawful : goal.returns-in_ok-vec-in-Some-clause-lawful
-returns-in_ok-vec-in-Some-clause-lawful c =
-    let value : view c.object_json-in-Some.result ≡ entry_value c.args.entry.now = search rules in
     subst IsLawful (sym value) (entry-lawful c.args.entry.now)
