@@ -1,11 +1,12 @@
 //! Commands as they are written: without further members, the names in order.
-ghost use Rattle.std.specs.Prelude.{◌≡◌, IfOk};
-ghost use Rattle.canonical_json.specs.View.{view};
+ghost use Rattle.std.specs.Prelude.{◌≡◌, [], IfOk, OnOk};
+ghost use Rattle.canonical_json.specs.Value.{object};
+ghost use Rattle.canonical_json.specs.View.{view, members_view};
 ghost use Rattle.holder_commands.specs.Command.{command_view, signs, acts, attaches};
 ghost use Rattle.holder_commands.specs.Writing.{command_value};
 
 use crate::command::Command;
-use canonical_json::Json;
+use canonical_json::{Json, Member};
 use ebl_base::{ByteList, CharList, Checksum, Kind, NoMemory, Party};
 use json_forms::{bytes_member, checksum_member, member, object_json, party_member, text_member};
 use std::alloc::Global;
@@ -35,9 +36,18 @@ impl Command {
 fn signing_json(alloc: Global, document: &Json) -> Result<Json, NoMemory>
     ensures { IfOk result (λ json. view json ≡ command_value (signs (view document.now))) }
 {
-    let word = text_member(alloc, "do", "SIGN")?;
-    let document = member(alloc, "document", document.copy(alloc)?)?;
-    Ok(object_json(vec![in alloc; word, document]?))
+    let mut members = Vec::with_capacity(alloc, 2)?;
+    put_signing(alloc, &mut members, document)?;
+    Ok(object_json(members))
+}
+
+fn put_signing(alloc: Global, members: &mut Vec<Member>, document: &Json) -> Result<(), NoMemory>
+    requires empty { members.old.items ≡ [] }
+    ensures { OnOk result (object (members_view members.new.items) ≡ command_value (signs (view document.now))) }
+{
+    members.push(text_member(alloc, "do", "SIGN")?)?;
+    members.push(member(alloc, "document", document.copy(alloc)?)?)?;
+    Ok(())
 }
 
 fn act_json(
@@ -48,15 +58,27 @@ fn act_json(
 ) -> Result<Json, NoMemory>
     ensures { IfOk result (λ json. view json ≡ command_value (acts bill kind recipient)) }
 {
-    let bill = checksum_member(alloc, "bill", bill)?;
-    let word = text_member(alloc, "do", kind.as_str())?;
-    match recipient {
-        None => Ok(object_json(vec![in alloc; bill, word]?)),
-        Some(recipient) => {
-            let recipient = party_member(alloc, "recipient", recipient)?;
-            Ok(object_json(vec![in alloc; bill, word, recipient]?))
-        }
+    let mut members = Vec::with_capacity(alloc, 3)?;
+    put_act(alloc, &mut members, bill, kind, recipient)?;
+    Ok(object_json(members))
+}
+
+fn put_act(
+    alloc: Global,
+    members: &mut Vec<Member>,
+    bill: Checksum,
+    kind: Kind,
+    recipient: Option<Party>,
+) -> Result<(), NoMemory>
+    requires empty { members.old.items ≡ [] }
+    ensures { OnOk result (object (members_view members.new.items) ≡ command_value (acts bill kind recipient)) }
+{
+    members.push(checksum_member(alloc, "bill", bill)?)?;
+    members.push(text_member(alloc, "do", kind.as_str())?)?;
+    if let Some(recipient) = recipient {
+        members.push(party_member(alloc, "recipient", recipient)?)?;
     }
+    Ok(())
 }
 
 fn attachment_json(
@@ -68,10 +90,27 @@ fn attachment_json(
 ) -> Result<Json, NoMemory>
     ensures { IfOk result (λ json. view json ≡ command_value (attaches bill name.now media.now bytes.now)) }
 {
-    let bill = checksum_member(alloc, "bill", bill)?;
-    let bytes = bytes_member(alloc, "bytes", bytes.as_slice())?;
-    let word = text_member(alloc, "do", "ATTACH")?;
-    let media = text_member(alloc, "media", media.as_str())?;
-    let name = text_member(alloc, "name", name.as_str())?;
-    Ok(object_json(vec![in alloc; bill, bytes, word, media, name]?))
+    let mut members = Vec::with_capacity(alloc, 5)?;
+    put_attachment(alloc, &mut members, bill, name, media, bytes)?;
+    Ok(object_json(members))
+}
+
+fn put_attachment(
+    alloc: Global,
+    members: &mut Vec<Member>,
+    bill: Checksum,
+    name: &CharList,
+    media: &CharList,
+    bytes: &ByteList,
+) -> Result<(), NoMemory>
+    requires empty { members.old.items ≡ [] }
+    ensures { OnOk result (object (members_view members.new.items)
+        ≡ command_value (attaches bill name.now media.now bytes.now)) }
+{
+    members.push(checksum_member(alloc, "bill", bill)?)?;
+    members.push(bytes_member(alloc, "bytes", bytes.as_slice())?)?;
+    members.push(text_member(alloc, "do", "ATTACH")?)?;
+    members.push(text_member(alloc, "media", media.as_str())?)?;
+    members.push(text_member(alloc, "name", name.as_str())?)?;
+    Ok(())
 }
