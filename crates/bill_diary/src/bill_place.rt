@@ -1,6 +1,7 @@
 //! Where a bill stands on a platform.
 ghost use Rattle.std.specs.Prelude.{◌≡◌, IfOk, Some, false, option_copied};
 ghost use Rattle.std.specs.Option.{option_map_or};
+ghost use Rattle.bill_diary.specs.declared.bill_place.BillPlace.TheVariants.{Parting};
 ghost use Rattle.bill_diary.specs.History.{history};
 ghost use Rattle.bill_diary.specs.Known.{known};
 ghost use Rattle.bill_diary.specs.Place.{is_settled, known_at, place_of, tag_of};
@@ -91,10 +92,7 @@ fn place_with(alloc: Global, h: History, chain: Chain) -> Result<BillPlace, NoMe
     ensures { IfOk result (λ place. place ≡ place_of h.entry) }
 {
     if let Some(link) = parting(h.restart()) {
-        return Ok(BillPlace::Parting {
-            known: chain,
-            entry: link.copy(alloc)?,
-        });
+        return parting_with(alloc, chain, link);
     }
     if is_left(last_link(chain.as_slice()), h.restart()) {
         return Ok(BillPlace::Gone { known: chain });
@@ -102,6 +100,16 @@ fn place_with(alloc: Global, h: History, chain: Chain) -> Result<BillPlace, NoMe
     Ok(BillPlace::Held {
         known: chain,
         since: since(alloc, h)?,
+    })
+}
+
+// The place of a bill that parts with an entry.
+fn parting_with(alloc: Global, chain: Chain, entry: &ChainLink) -> Result<BillPlace, NoMemory>
+    ensures { IfOk result (λ place. place ≡ Parting chain entry.now) }
+{
+    Ok(BillPlace::Parting {
+        known: chain,
+        entry: entry.copy(alloc)?,
     })
 }
 
@@ -123,10 +131,7 @@ impl Copied for BillPlace {
                 known: known.copy(alloc)?,
                 since: since.copy(alloc)?,
             }),
-            BillPlace::Parting { known, entry } => Ok(BillPlace::Parting {
-                known: known.copy(alloc)?,
-                entry: entry.copy(alloc)?,
-            }),
+            BillPlace::Parting { known, entry } => parting_with(alloc, known.copy(alloc)?, entry),
             BillPlace::Gone { known } => Ok(BillPlace::Gone {
                 known: known.copy(alloc)?,
             }),

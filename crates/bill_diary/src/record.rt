@@ -1,5 +1,6 @@
 //! Records: each is one thing that happened to one bill on one platform.
-ghost use Rattle.std.specs.Prelude.{◌≡◌};
+ghost use Rattle.std.specs.Prelude.{◌≡◌, IfOk};
+ghost use Rattle.bill_diary.specs.declared.record.Record.TheVariants.{Signed, Attached, Parted, Begun, Stored, Declined};
 ghost use Rattle.bill_diary.specs.History.{bill_of};
 
 use ebl_base::{
@@ -99,83 +100,160 @@ impl Record {
 
 impl Copied for Record {
     fn copy(&self, alloc: Global) -> Result<Self, NoMemory> {
+        let bill = self.bill();
         match self {
             Record::Signed {
-                bill,
                 document,
                 transaction,
-            } => Ok(Record::Signed {
-                bill: *bill,
-                document: document.copy(alloc)?,
-                transaction: *transaction,
-            }),
-            Record::Acted { bill, transaction } => Ok(Record::Acted {
-                bill: *bill,
-                transaction: *transaction,
-            }),
-            Record::Attached { bill, piece, bytes } => Ok(Record::Attached {
-                bill: *bill,
-                piece: piece.copy(alloc)?,
-                bytes: bytes.copy(alloc)?,
-            }),
-            Record::Parted {
+                ..
+            } => copy_signed(alloc, bill, document, *transaction),
+            Record::Acted { transaction, .. } => Ok(Record::Acted {
                 bill,
+                transaction: *transaction,
+            }),
+            Record::Attached { piece, bytes, .. } => copy_attached(alloc, bill, piece, bytes),
+            Record::Parted {
                 link,
                 manifest,
                 manifest_text,
-            } => Ok(Record::Parted {
-                bill: *bill,
-                link: link.copy(alloc)?,
-                manifest: manifest.copy(alloc)?,
-                manifest_text: manifest_text.copy(alloc)?,
-            }),
-            Record::Settled { bill, entry } => Ok(Record::Settled {
-                bill: *bill,
+                ..
+            } => copy_parted(alloc, bill, link, manifest, manifest_text),
+            Record::Settled { entry, .. } => Ok(Record::Settled {
+                bill,
                 entry: *entry,
             }),
-            Record::Regained { bill, entry } => Ok(Record::Regained {
-                bill: *bill,
+            Record::Regained { entry, .. } => Ok(Record::Regained {
+                bill,
                 entry: *entry,
             }),
             Record::Begun {
-                bill,
                 chain,
                 manifest,
                 body,
-            } => Ok(Record::Begun {
-                bill: *bill,
-                chain: chain.copy(alloc)?,
-                manifest: manifest.copy(alloc)?,
-                body: body.copy(alloc)?,
-            }),
+                ..
+            } => copy_begun(alloc, bill, chain, manifest, body),
             Record::Stored {
-                bill,
                 entry,
                 checksum,
                 bytes,
-            } => Ok(Record::Stored {
-                bill: *bill,
-                entry: *entry,
-                checksum: *checksum,
-                bytes: bytes.copy(alloc)?,
-            }),
-            Record::Taken { bill, entry } => Ok(Record::Taken {
-                bill: *bill,
+                ..
+            } => copy_stored(alloc, bill, *entry, *checksum, bytes),
+            Record::Taken { entry, .. } => Ok(Record::Taken {
+                bill,
                 entry: *entry,
             }),
             Record::Declined {
-                bill,
                 entry,
                 code,
                 reason,
                 evidence,
-            } => Ok(Record::Declined {
-                bill: *bill,
-                entry: *entry,
-                code: *code,
-                reason: *reason,
-                evidence: evidence.copy(alloc)?,
-            }),
+                ..
+            } => copy_declined(alloc, bill, *entry, *code, *reason, evidence),
         }
     }
+}
+
+fn copy_signed(
+    alloc: Global,
+    bill: Checksum,
+    document: &ByteList,
+    transaction: Transaction,
+) -> Result<Record, NoMemory>
+    ensures { IfOk result (λ c. c ≡ Signed bill document.now transaction) }
+{
+    Ok(Record::Signed {
+        bill,
+        document: document.copy(alloc)?,
+        transaction,
+    })
+}
+
+fn copy_attached(
+    alloc: Global,
+    bill: Checksum,
+    piece: &Piece,
+    bytes: &ByteList,
+) -> Result<Record, NoMemory>
+    ensures { IfOk result (λ c. c ≡ Attached bill piece.now bytes.now) }
+{
+    let bytes = bytes.copy(alloc)?;
+    Ok(Record::Attached {
+        bill,
+        piece: piece.copy(alloc)?,
+        bytes,
+    })
+}
+
+fn copy_parted(
+    alloc: Global,
+    bill: Checksum,
+    link: &ChainLink,
+    manifest: &Manifest,
+    manifest_text: &SignedText,
+) -> Result<Record, NoMemory>
+    ensures { IfOk result (λ c. c ≡ Parted bill link.now manifest.now manifest_text.now) }
+{
+    let manifest_text = manifest_text.copy(alloc)?;
+    let manifest = manifest.copy(alloc)?;
+    Ok(Record::Parted {
+        bill,
+        link: link.copy(alloc)?,
+        manifest,
+        manifest_text,
+    })
+}
+
+fn copy_begun(
+    alloc: Global,
+    bill: Checksum,
+    chain: &Chain,
+    manifest: &Manifest,
+    body: &ByteList,
+) -> Result<Record, NoMemory>
+    ensures { IfOk result (λ c. c ≡ Begun bill chain.now manifest.now body.now) }
+{
+    let body = body.copy(alloc)?;
+    let chain = chain.copy(alloc)?;
+    Ok(Record::Begun {
+        bill,
+        chain,
+        manifest: manifest.copy(alloc)?,
+        body,
+    })
+}
+
+fn copy_stored(
+    alloc: Global,
+    bill: Checksum,
+    entry: Checksum,
+    checksum: Checksum,
+    bytes: &ByteList,
+) -> Result<Record, NoMemory>
+    ensures { IfOk result (λ c. c ≡ Stored bill entry checksum bytes.now) }
+{
+    Ok(Record::Stored {
+        bill,
+        entry,
+        checksum,
+        bytes: bytes.copy(alloc)?,
+    })
+}
+
+fn copy_declined(
+    alloc: Global,
+    bill: Checksum,
+    entry: Checksum,
+    code: Code,
+    reason: Reason,
+    evidence: &Evidence,
+) -> Result<Record, NoMemory>
+    ensures { IfOk result (λ c. c ≡ Declined bill entry code reason evidence.now) }
+{
+    Ok(Record::Declined {
+        bill,
+        entry,
+        code,
+        reason,
+        evidence: evidence.copy(alloc)?,
+    })
 }
