@@ -1,11 +1,11 @@
 //! The value that a response is written as.
-ghost use Rattle.std.specs.Prelude.{◌≡◌, IfOk, OnOk, codes, map, option_and_then};
-ghost use Rattle.canonical_json.specs.Value.{Members, flag as flag_value, member};
+ghost use Rattle.std.specs.Prelude.{◌≡◌, All, IfOk, OnOk, codes, map, option_and_then};
+ghost use Rattle.canonical_json.specs.Value.{Members, flag as flag_value, member, text};
 ghost use Rattle.canonical_json.specs.View.{member_view, view};
 ghost use Rattle.ebl_base.specs.Reason.{reason_index};
-ghost use Rattle.json_forms.specs.Writing.{checksum_value, optional_member};
+ghost use Rattle.json_forms.specs.Writing.{HasDigits, checksum_value, checksums_value, optional_member};
 ghost use Rattle.pint_responses.specs.Response.{HasOptionalDigits, HaveDigits, IsEvidence, IsOptionalEvidence};
-ghost use Rattle.pint_responses.specs.Writing.{evidence_value, in_front, place_value, reason_value, response_value};
+ghost use Rattle.pint_responses.specs.Writing.{code_value, evidence_value, in_front, place_value, reason_value, response_value};
 
 use crate::response::Response;
 use canonical_json::{Json, Member};
@@ -21,26 +21,42 @@ pub(crate) fn response_json(alloc: Global, r: &Response) -> Result<Json, NoMemor
     ensures digits { IfOk result (λ json. HaveDigits r.now) }
 {
     let mut members = Vec::with_capacity(alloc, 9)?;
-    push_optional_checksum(alloc, &mut members, "bill", r.bill)?;
-    push_optional_place(alloc, &mut members, r.reason)?;
-    push_optional_checksum(alloc, &mut members, "last", r.last)?;
-    push(
-        alloc,
-        &mut members,
-        "missing",
-        checksums_json(alloc, r.missing.as_slice())?,
-    )?;
-    push_optional_evidence(alloc, &mut members, "own", &r.evidence.own)?;
-    push_optional_reason(alloc, &mut members, r.reason)?;
-    push(
-        alloc,
-        &mut members,
-        "responseCode",
-        text_json(alloc, r.code.as_str())?,
-    )?;
-    push(alloc, &mut members, "standing", flag_json(r.standing))?;
-    push_optional_evidence(alloc, &mut members, "theirs", &r.evidence.theirs)?;
+    push_front(alloc, &mut members, r)?;
+    push_back(alloc, &mut members, r)?;
     Ok(object_json(members))
+}
+
+fn push_front(alloc: Global, members: &mut Vec<Member>, r: &Response) -> Result<(), NoMemory>
+    ensures digits { OnOk result (HaveDigits r.now) }
+    ensures members { OnOk result ((rest : Members) → in_front (map member_view members.new.items) rest
+        ≡ in_front (map member_view members.old.items)
+        (optional_member (codes "bill") checksum_value r.now.bill
+        (optional_member (codes "index") place_value (option_and_then reason_index r.now.reason)
+        (optional_member (codes "last") checksum_value r.now.last
+        (member (codes "missing") (checksums_value r.now.missing) rest))))) }
+{
+    push_optional_checksum(alloc, members, "bill", r.bill)?;
+    push_optional_place(alloc, members, r.reason)?;
+    push_optional_checksum(alloc, members, "last", r.last)?;
+    push_checksums(alloc, members, "missing", r.missing.as_slice())
+}
+
+fn push_back(alloc: Global, members: &mut Vec<Member>, r: &Response) -> Result<(), NoMemory>
+    requires own { IsOptionalEvidence r.now.evidence.own }
+    requires theirs { IsOptionalEvidence r.now.evidence.theirs }
+    ensures { OnOk result ((rest : Members) → in_front (map member_view members.new.items) rest
+        ≡ in_front (map member_view members.old.items)
+        (optional_member (codes "own") evidence_value r.now.evidence.own
+        (optional_member (codes "reason") reason_value r.now.reason
+        (member (codes "responseCode") (code_value r.now.code)
+        (member (codes "standing") (flag_value r.now.standing)
+        (optional_member (codes "theirs") evidence_value r.now.evidence.theirs rest)))))) }
+{
+    push_optional_evidence(alloc, members, "own", &r.evidence.own)?;
+    push_optional_reason(alloc, members, r.reason)?;
+    push_text(alloc, members, "responseCode", r.code.as_str())?;
+    push(alloc, members, "standing", flag_json(r.standing))?;
+    push_optional_evidence(alloc, members, "theirs", &r.evidence.theirs)
 }
 
 fn push(alloc: Global, members: &mut Vec<Member>, name: &str, value: Json) -> Result<(), NoMemory>
@@ -56,6 +72,31 @@ fn flag_json(flag: bool) -> Json
     ensures { view result ≡ flag_value flag }
 {
     Json::Flag(flag)
+}
+
+fn push_text(
+    alloc: Global,
+    members: &mut Vec<Member>,
+    name: &str,
+    chars: &str,
+) -> Result<(), NoMemory>
+    ensures { OnOk result ((rest : Members) → in_front (map member_view members.new.items) rest
+        ≡ in_front (map member_view members.old.items) (member name.now (text chars.now) rest)) }
+{
+    push(alloc, members, name, text_json(alloc, chars)?)
+}
+
+fn push_checksums(
+    alloc: Global,
+    members: &mut Vec<Member>,
+    name: &str,
+    checksums: &[Checksum],
+) -> Result<(), NoMemory>
+    ensures digits { OnOk result (All HasDigits checksums.now) }
+    ensures members { OnOk result ((rest : Members) → in_front (map member_view members.new.items) rest
+        ≡ in_front (map member_view members.old.items) (member name.now (checksums_value checksums.now) rest)) }
+{
+    push(alloc, members, name, checksums_json(alloc, checksums)?)
 }
 
 fn push_optional_checksum(
@@ -110,7 +151,7 @@ fn push_optional_reason(
         ≡ in_front (map member_view members.old.items) (optional_member (codes "reason") reason_value reason rest)) }
 {
     match reason {
-        Some(reason) => push(alloc, members, "reason", text_json(alloc, reason.as_str())?),
+        Some(reason) => push_text(alloc, members, "reason", reason.as_str()),
         None => Ok(()),
     }
 }
@@ -126,12 +167,7 @@ fn push_optional_evidence(
         ≡ in_front (map member_view members.old.items) (optional_member name.now evidence_value evidence.now rest)) }
 {
     match evidence {
-        Some(evidence) => push(
-            alloc,
-            members,
-            name,
-            text_json(alloc, evidence_str(evidence))?,
-        ),
+        Some(evidence) => push_text(alloc, members, name, evidence_str(evidence)),
         None => Ok(()),
     }
 }
