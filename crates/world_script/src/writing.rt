@@ -1,8 +1,10 @@
 //! Events as they are written: without further members, the names in order.
-ghost use Rattle.std.specs.Prelude.{◌≡◌, IfOk, codes};
-ghost use Rattle.canonical_json.specs.View.{member_view, view};
-ghost use Rattle.world_script.specs.Event.{deed_view, event_view, foreign_view, acts, attaches, delivers, signs, puts};
-ghost use Rattle.world_script.specs.Writing.{bill_value, command_value, event_value, foreign_value, reference_value, reply_value};
+ghost use Rattle.std.specs.Prelude.{◌≡◌, [], ◌∷◌, ◌++◌, IfOk, OnOk, codes, map};
+ghost use Rattle.canonical_json.specs.Value.{object, text};
+ghost use Rattle.canonical_json.specs.View.{member_view, members_view, view};
+ghost use Rattle.json_forms.specs.Writing.{capped_value, party_value, platform_value};
+ghost use Rattle.world_script.specs.Event.{deed_view, event_view, foreign_view, acts, asks, attaches, delivers, finishes, puts, resends, signs, starts};
+ghost use Rattle.world_script.specs.Writing.{bill_value, command_value, event_value, foreign_value, moment_value, reference_value, reply_value};
 
 use crate::deed::{BillName, Deed};
 use crate::event::Event;
@@ -12,8 +14,7 @@ use ebl_base::{
     ByteList, CharList, Checksum, Kind, Moment, NoMemory, Party, PlatformCode, Reference,
 };
 use json_forms::{
-    bytes_member, checksum_member, member, number_member, object_json, party_member,
-    platform_member, text_member,
+    bytes_member, checksum_member, member, number_member, object_json, party_member, text_member,
 };
 use std::alloc::Global;
 use uuid::Uuid;
@@ -24,50 +25,339 @@ impl Event {
     pub fn write(&self, alloc: Global) -> Result<Json, NoMemory>
         ensures { IfOk result (λ json. view json ≡ event_value (event_view self.now)) }
     {
-        match self {
-            Event::Command {
-                at,
-                party,
-                now,
-                deed,
-            } => command_json(alloc, *at, *party, *now, deed),
-            Event::Deliver { number, at } => delivery_json(alloc, *number, *at),
-            Event::Restart { at } => {
-                let restart = platform_member(alloc, "restart", *at)?;
-                Ok(object_json(vec![in alloc; restart]?))
-            }
-            Event::Resend { at, bill } => {
-                let at = platform_member(alloc, "at", *at)?;
-                let bill = bill_member(alloc, *bill)?;
-                let resend = member(alloc, "resend", Json::Flag(true))?;
-                Ok(object_json(vec![in alloc; at, bill, resend]?))
-            }
-            Event::Ask { at, bill } => {
-                let ask = member(alloc, "ask", Json::Flag(true))?;
-                let at = platform_member(alloc, "at", *at)?;
-                let bill = bill_member(alloc, *bill)?;
-                Ok(object_json(vec![in alloc; ask, at, bill]?))
-            }
-            Event::Foreign { at, bytes } => foreign_json(alloc, *at, bytes),
-            Event::Show { number } => {
-                let show = number_member(alloc, "show", *number)?;
-                Ok(object_json(vec![in alloc; show]?))
-            }
-        }
+        let mut members = Vec::new(alloc);
+        put_event(alloc, &mut members, self)?;
+        Ok(object_json(members))
     }
 }
 
-fn delivery_json(alloc: Global, number: u64, at: Option<PlatformCode>) -> Result<Json, NoMemory>
-    ensures { IfOk result (λ json. view json ≡ event_value (delivers number at)) }
+// Each `put_` of a form below puts all members of its object into a list that is empty.
+
+fn put_event(alloc: Global, members: &mut Vec<Member>, event: &Event) -> Result<(), NoMemory>
+    requires empty { members.old.items ≡ [] }
+    ensures { OnOk result (object (members_view members.new.items) ≡ event_value (event_view event.now)) }
 {
-    let deliver = number_member(alloc, "deliver", number)?;
-    match at {
-        None => Ok(object_json(vec![in alloc; deliver]?)),
-        Some(at) => {
-            let at = platform_member(alloc, "at", at)?;
-            Ok(object_json(vec![in alloc; at, deliver]?))
-        }
+    match event {
+        Event::Command {
+            at,
+            party,
+            now,
+            deed,
+        } => put_command(alloc, members, *at, *party, *now, deed),
+        Event::Deliver { number, at } => put_delivery(alloc, members, *number, *at),
+        Event::Restart { at } => put_platform(alloc, members, "restart", *at),
+        Event::Resend { at, bill } => put_resend(alloc, members, *at, *bill),
+        Event::Ask { at, bill } => put_question(alloc, members, *at, *bill),
+        Event::Foreign { at, bytes } => put_foreign(alloc, members, *at, bytes),
+        Event::Show { number } => put_number(alloc, members, "show", *number),
     }
+}
+
+fn put_delivery(
+    alloc: Global,
+    members: &mut Vec<Member>,
+    number: u64,
+    at: Option<PlatformCode>,
+) -> Result<(), NoMemory>
+    requires empty { members.old.items ≡ [] }
+    ensures { OnOk result (object (members_view members.new.items) ≡ event_value (delivers number at)) }
+{
+    if let Some(at) = at {
+        put_platform(alloc, members, "at", at)?;
+    }
+    put_number(alloc, members, "deliver", number)
+}
+
+fn put_resend(
+    alloc: Global,
+    members: &mut Vec<Member>,
+    at: PlatformCode,
+    bill: BillName,
+) -> Result<(), NoMemory>
+    requires empty { members.old.items ≡ [] }
+    ensures { OnOk result (object (members_view members.new.items) ≡ event_value (resends at bill)) }
+{
+    put_at_bill(alloc, members, at, bill)?;
+    members.push(member(alloc, "resend", Json::Flag(true))?)?;
+    Ok(())
+}
+
+fn put_question(
+    alloc: Global,
+    members: &mut Vec<Member>,
+    at: PlatformCode,
+    bill: BillName,
+) -> Result<(), NoMemory>
+    requires empty { members.old.items ≡ [] }
+    ensures { OnOk result (object (members_view members.new.items) ≡ event_value (asks at bill)) }
+{
+    members.push(member(alloc, "ask", Json::Flag(true))?)?;
+    put_at_bill(alloc, members, at, bill)
+}
+
+// ---- commands
+
+fn put_command(
+    alloc: Global,
+    members: &mut Vec<Member>,
+    at: PlatformCode,
+    party: Party,
+    now: Moment,
+    deed: &Deed,
+) -> Result<(), NoMemory>
+    requires empty { members.old.items ≡ [] }
+    ensures { OnOk result (object (members_view members.new.items)
+        ≡ command_value at party now (deed_view deed.now)) }
+{
+    match deed {
+        Deed::Sign { document } => put_signing(alloc, members, at, party, now, document),
+        Deed::Act {
+            bill,
+            kind,
+            recipient,
+        } => put_act(alloc, members, at, party, now, *bill, *kind, *recipient),
+        Deed::Attach {
+            bill,
+            name,
+            media,
+            bytes,
+        } => put_attachment(alloc, members, at, party, now, *bill, name, media, bytes),
+    }
+}
+
+fn put_signing(
+    alloc: Global,
+    members: &mut Vec<Member>,
+    at: PlatformCode,
+    party: Party,
+    now: Moment,
+    document: &Json,
+) -> Result<(), NoMemory>
+    requires empty { members.old.items ≡ [] }
+    ensures { OnOk result (object (members_view members.new.items)
+        ≡ command_value at party now (signs (view document.now))) }
+{
+    put_platform(alloc, members, "at", at)?;
+    put_text(alloc, members, "do", "SIGN")?;
+    members.push(member(alloc, "document", document.copy(alloc)?)?)?;
+    put_now_party(alloc, members, now, party)
+}
+
+fn put_act(
+    alloc: Global,
+    members: &mut Vec<Member>,
+    at: PlatformCode,
+    party: Party,
+    now: Moment,
+    bill: BillName,
+    kind: Kind,
+    recipient: Option<Party>,
+) -> Result<(), NoMemory>
+    requires empty { members.old.items ≡ [] }
+    ensures { OnOk result (object (members_view members.new.items)
+        ≡ command_value at party now (acts bill kind recipient)) }
+{
+    put_at_bill(alloc, members, at, bill)?;
+    put_text(alloc, members, "do", kind.as_str())?;
+    put_now_party(alloc, members, now, party)?;
+    if let Some(recipient) = recipient {
+        members.push(party_member(alloc, "recipient", recipient)?)?;
+    }
+    Ok(())
+}
+
+fn put_attachment(
+    alloc: Global,
+    members: &mut Vec<Member>,
+    at: PlatformCode,
+    party: Party,
+    now: Moment,
+    bill: BillName,
+    name: &CharList,
+    media: &CharList,
+    bytes: &ByteList,
+) -> Result<(), NoMemory>
+    requires empty { members.old.items ≡ [] }
+    ensures { OnOk result (object (members_view members.new.items)
+        ≡ command_value at party now (attaches bill name.now media.now bytes.now)) }
+{
+    put_at_bill(alloc, members, at, bill)?;
+    members.push(bytes_member(alloc, "bytes", bytes.as_slice())?)?;
+    put_text(alloc, members, "do", "ATTACH")?;
+    put_text(alloc, members, "media", media.as_str())?;
+    put_text(alloc, members, "name", name.as_str())?;
+    put_now_party(alloc, members, now, party)
+}
+
+// ---- bytes from outside
+
+fn put_foreign(
+    alloc: Global,
+    members: &mut Vec<Member>,
+    at: PlatformCode,
+    bytes: &Foreign,
+) -> Result<(), NoMemory>
+    requires empty { members.old.items ≡ [] }
+    ensures { OnOk result (object (members_view members.new.items) ≡ foreign_value at (foreign_view bytes.now)) }
+{
+    match bytes {
+        Foreign::Start { body } => put_start(alloc, members, at, body),
+        Foreign::Put {
+            reference,
+            checksum,
+            bytes,
+        } => put_document(alloc, members, at, *reference, *checksum, bytes),
+        Foreign::Finish { reference } => put_finish(alloc, members, at, *reference),
+        Foreign::StartReply { bill, text } => put_reply(
+            alloc,
+            members,
+            at,
+            "START_REPLY",
+            *bill,
+            text,
+        ),
+        Foreign::FinishReply { bill, text } => put_reply(
+            alloc,
+            members,
+            at,
+            "FINISH_REPLY",
+            *bill,
+            text,
+        ),
+    }
+}
+
+fn put_start(
+    alloc: Global,
+    members: &mut Vec<Member>,
+    at: PlatformCode,
+    body: &CharList,
+) -> Result<(), NoMemory>
+    requires empty { members.old.items ≡ [] }
+    ensures { OnOk result (object (members_view members.new.items) ≡ foreign_value at (starts body.now)) }
+{
+    put_platform(alloc, members, "at", at)?;
+    put_text(alloc, members, "body", body.as_str())?;
+    put_text(alloc, members, "foreign", "START")
+}
+
+fn put_document(
+    alloc: Global,
+    members: &mut Vec<Member>,
+    at: PlatformCode,
+    reference: Reference,
+    checksum: Checksum,
+    bytes: &ByteList,
+) -> Result<(), NoMemory>
+    requires empty { members.old.items ≡ [] }
+    ensures { OnOk result (object (members_view members.new.items)
+        ≡ foreign_value at (puts reference checksum bytes.now)) }
+{
+    put_platform(alloc, members, "at", at)?;
+    members.push(bytes_member(alloc, "bytes", bytes.as_slice())?)?;
+    members.push(checksum_member(alloc, "checksum", checksum)?)?;
+    put_text(alloc, members, "foreign", "PUT")?;
+    members.push(reference_member(alloc, reference)?)?;
+    Ok(())
+}
+
+fn put_finish(
+    alloc: Global,
+    members: &mut Vec<Member>,
+    at: PlatformCode,
+    reference: Reference,
+) -> Result<(), NoMemory>
+    requires empty { members.old.items ≡ [] }
+    ensures { OnOk result (object (members_view members.new.items) ≡ foreign_value at (finishes reference)) }
+{
+    put_platform(alloc, members, "at", at)?;
+    put_text(alloc, members, "foreign", "FINISH")?;
+    members.push(reference_member(alloc, reference)?)?;
+    Ok(())
+}
+
+fn put_reply(
+    alloc: Global,
+    members: &mut Vec<Member>,
+    at: PlatformCode,
+    word: &str,
+    bill: BillName,
+    text: &CharList,
+) -> Result<(), NoMemory>
+    requires empty { members.old.items ≡ [] }
+    ensures { OnOk result (object (members_view members.new.items) ≡ reply_value at word.now bill text.now) }
+{
+    put_at_bill(alloc, members, at, bill)?;
+    put_text(alloc, members, "foreign", word)?;
+    put_text(alloc, members, "text", text.as_str())
+}
+
+// ---- members behind what is there
+
+fn put_text(
+    alloc: Global,
+    members: &mut Vec<Member>,
+    name: &str,
+    chars: &str,
+) -> Result<(), NoMemory>
+    ensures { OnOk result (map member_view members.new.items
+        ≡ map member_view members.old.items ++ (name.now, text chars.now) ∷ []) }
+{
+    members.push(text_member(alloc, name, chars)?)?;
+    Ok(())
+}
+
+fn put_number(
+    alloc: Global,
+    members: &mut Vec<Member>,
+    name: &str,
+    number: u64,
+) -> Result<(), NoMemory>
+    ensures { OnOk result (map member_view members.new.items
+        ≡ map member_view members.old.items ++ (name.now, capped_value number) ∷ []) }
+{
+    members.push(number_member(alloc, name, number)?)?;
+    Ok(())
+}
+
+fn put_platform(
+    alloc: Global,
+    members: &mut Vec<Member>,
+    name: &str,
+    platform: PlatformCode,
+) -> Result<(), NoMemory>
+    ensures { OnOk result (map member_view members.new.items
+        ≡ map member_view members.old.items ++ (name.now, platform_value platform) ∷ []) }
+{
+    put_text(alloc, members, name, platform.as_str())
+}
+
+fn put_at_bill(
+    alloc: Global,
+    members: &mut Vec<Member>,
+    at: PlatformCode,
+    bill: BillName,
+) -> Result<(), NoMemory>
+    ensures { OnOk result (map member_view members.new.items
+        ≡ map member_view members.old.items ++ (codes "at", platform_value at) ∷ (codes "bill", bill_value bill) ∷ []) }
+{
+    put_platform(alloc, members, "at", at)?;
+    members.push(bill_member(alloc, bill)?)?;
+    Ok(())
+}
+
+fn put_now_party(
+    alloc: Global,
+    members: &mut Vec<Member>,
+    now: Moment,
+    party: Party,
+) -> Result<(), NoMemory>
+    ensures { OnOk result (map member_view members.new.items
+        ≡ map member_view members.old.items ++ (codes "now", moment_value now) ∷ (codes "party", party_value party) ∷ []) }
+{
+    put_number(alloc, members, "now", now.number())?;
+    members.push(party_member(alloc, "party", party)?)?;
+    Ok(())
 }
 
 fn bill_member(alloc: Global, bill: BillName) -> Result<Member, NoMemory>
@@ -87,158 +377,4 @@ fn reference_member(alloc: Global, reference: Reference) -> Result<Member, NoMem
         .hyphenated()
         .encode_lower(&mut buffer);
     text_member(alloc, "reference", chars)
-}
-
-// ---- commands
-
-fn command_json(
-    alloc: Global,
-    at: PlatformCode,
-    party: Party,
-    now: Moment,
-    deed: &Deed,
-) -> Result<Json, NoMemory>
-    ensures { IfOk result (λ json. view json ≡ command_value at party now (deed_view deed.now)) }
-{
-    match deed {
-        Deed::Sign { document } => signing_json(alloc, at, party, now, document),
-        Deed::Act {
-            bill,
-            kind,
-            recipient,
-        } => act_json(alloc, at, party, now, *bill, *kind, *recipient),
-        Deed::Attach {
-            bill,
-            name,
-            media,
-            bytes,
-        } => attachment_json(alloc, at, party, now, *bill, name, media, bytes),
-    }
-}
-
-fn signing_json(
-    alloc: Global,
-    at: PlatformCode,
-    party: Party,
-    now: Moment,
-    document: &Json,
-) -> Result<Json, NoMemory>
-    ensures { IfOk result (λ json. view json ≡ command_value at party now (signs (view document.now))) }
-{
-    let at = platform_member(alloc, "at", at)?;
-    let word = text_member(alloc, "do", "SIGN")?;
-    let document = member(alloc, "document", document.copy(alloc)?)?;
-    let now = number_member(alloc, "now", now.number())?;
-    let party = party_member(alloc, "party", party)?;
-    Ok(object_json(vec![in alloc; at, word, document, now, party]?))
-}
-
-fn act_json(
-    alloc: Global,
-    at: PlatformCode,
-    party: Party,
-    now: Moment,
-    bill: BillName,
-    kind: Kind,
-    recipient: Option<Party>,
-) -> Result<Json, NoMemory>
-    ensures { IfOk result (λ json. view json ≡ command_value at party now (acts bill kind recipient)) }
-{
-    let at = platform_member(alloc, "at", at)?;
-    let bill = bill_member(alloc, bill)?;
-    let word = text_member(alloc, "do", kind.as_str())?;
-    let now = number_member(alloc, "now", now.number())?;
-    let party = party_member(alloc, "party", party)?;
-    match recipient {
-        None => Ok(object_json(vec![in alloc; at, bill, word, now, party]?)),
-        Some(recipient) => {
-            let recipient = party_member(alloc, "recipient", recipient)?;
-            Ok(object_json(vec![in alloc; at, bill, word, now, party, recipient]?))
-        }
-    }
-}
-
-fn attachment_json(
-    alloc: Global,
-    at: PlatformCode,
-    party: Party,
-    now: Moment,
-    bill: BillName,
-    name: &CharList,
-    media: &CharList,
-    bytes: &ByteList,
-) -> Result<Json, NoMemory>
-    ensures { IfOk result (λ json. view json
-        ≡ command_value at party now (attaches bill name.now media.now bytes.now)) }
-{
-    let at = platform_member(alloc, "at", at)?;
-    let bill = bill_member(alloc, bill)?;
-    let bytes = bytes_member(alloc, "bytes", bytes.as_slice())?;
-    let word = text_member(alloc, "do", "ATTACH")?;
-    let media = text_member(alloc, "media", media.as_str())?;
-    let name = text_member(alloc, "name", name.as_str())?;
-    let now = number_member(alloc, "now", now.number())?;
-    let party = party_member(alloc, "party", party)?;
-    Ok(object_json(vec![in alloc; at, bill, bytes, word, media, name, now, party]?))
-}
-
-// ---- bytes from outside
-
-fn foreign_json(alloc: Global, at: PlatformCode, bytes: &Foreign) -> Result<Json, NoMemory>
-    ensures { IfOk result (λ json. view json ≡ foreign_value at (foreign_view bytes.now)) }
-{
-    match bytes {
-        Foreign::Start { body } => {
-            let at = platform_member(alloc, "at", at)?;
-            let body = text_member(alloc, "body", body.as_str())?;
-            let word = text_member(alloc, "foreign", "START")?;
-            Ok(object_json(vec![in alloc; at, body, word]?))
-        }
-        Foreign::Put {
-            reference,
-            checksum,
-            bytes,
-        } => put_json(alloc, at, *reference, *checksum, bytes),
-        Foreign::Finish { reference } => {
-            let at = platform_member(alloc, "at", at)?;
-            let word = text_member(alloc, "foreign", "FINISH")?;
-            let reference = reference_member(alloc, *reference)?;
-            Ok(object_json(vec![in alloc; at, word, reference]?))
-        }
-        Foreign::StartReply { bill, text } => reply_json(alloc, at, "START_REPLY", *bill, text),
-        Foreign::FinishReply { bill, text } => reply_json(alloc, at, "FINISH_REPLY", *bill, text),
-    }
-}
-
-fn put_json(
-    alloc: Global,
-    at: PlatformCode,
-    reference: Reference,
-    checksum: Checksum,
-    bytes: &ByteList,
-) -> Result<Json, NoMemory>
-    ensures { IfOk result (λ json. view json ≡ foreign_value at (puts reference checksum bytes.now)) }
-{
-    let at = platform_member(alloc, "at", at)?;
-    let bytes = bytes_member(alloc, "bytes", bytes.as_slice())?;
-    let checksum = checksum_member(alloc, "checksum", checksum)?;
-    let word = text_member(alloc, "foreign", "PUT")?;
-    let reference = reference_member(alloc, reference)?;
-    Ok(object_json(vec![in alloc; at, bytes, checksum, word, reference]?))
-}
-
-fn reply_json(
-    alloc: Global,
-    at: PlatformCode,
-    word: &str,
-    bill: BillName,
-    text: &CharList,
-) -> Result<Json, NoMemory>
-    ensures { IfOk result (λ json. view json ≡ reply_value at word.now bill text.now) }
-{
-    let at = platform_member(alloc, "at", at)?;
-    let bill = bill_member(alloc, bill)?;
-    let word = text_member(alloc, "foreign", word)?;
-    let text = text_member(alloc, "text", text.as_str())?;
-    Ok(object_json(vec![in alloc; at, bill, word, text]?))
 }
