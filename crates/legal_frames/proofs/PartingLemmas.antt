@@ -3,6 +3,7 @@ use Rattle.std.proofs.Common.{◌≡◌, ℕ, ◌+◌, Bool, true, List, ◌++�
 use Rattle.std.specs.Prelude.{count_by}
 use Rattle.std.proofs.lemmas.Bool.{and_parts, and_from}
 use Rattle.ebl_base.specs.declared.chain.ChainLink.{ChainLink}
+use Rattle.ebl_base.specs.declared.entry.Entry.{Entry}
 use Rattle.ebl_base.specs.declared.checksum.Checksum.{Checksum}
 use Rattle.ebl_base.specs.declared.platform_code.PlatformCode.{PlatformCode}
 use Rattle.ebl_base.specs.declared.signed_text.SignedText.{SignedText}
@@ -155,9 +156,9 @@ parts_by roster keys me h bill link manifest text may = record {
 
 -- the test of an entry decides, at the bill's place and its attempts
 pub next_at : (roster : RosterRecord) (me : PlatformCode) (h : List Record) (bill : Checksum) (parted : ℕ)
-    (link : ChainLink) (p : BillPlace) (b : Bool) → parted ≡ count_by is_parted h → p ≡ place_of h
-    → (IsTrue b ↔ IsNextAt roster me bill parted link.entry p)
-    → (IsTrue b ↔ IsNextAt roster me bill (count_by is_parted h) link.entry (place_of h))
-next_at roster me h bill parted link p b counted found decides =
-    subst (λ (n : ℕ). IsTrue b ↔ IsNextAt roster me bill n link.entry (place_of h)) counted
-    (subst (λ (x : BillPlace). IsTrue b ↔ IsNextAt roster me bill parted link.entry x) found decides)
+    (entry : Entry) (p : BillPlace) (b : Bool) → parted ≡ count_by is_parted h → p ≡ place_of h
+    → (IsTrue b ↔ IsNextAt roster me bill parted entry p)
+    → (IsTrue b ↔ IsNextAt roster me bill (count_by is_parted h) entry (place_of h))
+next_at roster me h bill parted entry p b counted found decides =
+    subst (λ (n : ℕ). IsTrue b ↔ IsNextAt roster me bill n entry (place_of h)) counted
+    (subst (λ (x : BillPlace). IsTrue b ↔ IsNextAt roster me bill parted entry x) found decides)

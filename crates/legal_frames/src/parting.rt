@@ -1,9 +1,11 @@
 //! Records of a bill that is parted with: a Parted, a Settled, a Regained.
-ghost use Rattle.std.specs.Prelude.{◌≡◌, ◌≢◌, ◌+◌, ◌++◌, ◌∷◌, [], ◌↔◌, IfNone, IfOk, IfSome, IsTrue};
+ghost use Rattle.std.specs.Prelude.{◌≡◌, ◌≢◌, ◌+◌, ◌++◌, ◌∷◌, [], ◌↔◌, count_by, IfNone, IfOk, IfSome, IsTrue};
 ghost use Rattle.ebl_base.specs.declared.transaction.Transaction.{Transaction};
 ghost use Rattle.bill_chain.specs.Chain.{last_name};
 ghost use Rattle.bill_diary.specs.History.{history};
-ghost use Rattle.bill_diary.specs.Sound.{IsParting};
+ghost use Rattle.bill_diary.specs.Pieces.{pieces_of};
+ghost use Rattle.bill_diary.specs.Place.{place_of};
+ghost use Rattle.bill_diary.specs.Sound.{IsParting, is_parted};
 ghost use Rattle.record_bytes.specs.Forms.{IsParted};
 ghost use Rattle.transfer_judge.specs.Legal.{PartsLegally};
 ghost use Rattle.legal_frames.specs.Rows.{IsNextAt, IsNextEntry, MovesOut, is_parting_with, leaves_on};
@@ -38,20 +40,12 @@ pub(crate) fn may_part<G: KeyRing>(
         (history parted.entry.bill d.now) parted.entry.bill parted.entry.link.now parted.entry.manifest.now
         parted.entry.manifest_text.now) }
 {
-    let place = place(alloc, d, parted.bill)?;
-    let attempts = count_parted(d, parted.bill);
-    if !is_next_at(
-        roster,
-        me,
-        parted.bill,
-        attempts,
-        &parted.link.entry,
-        &place,
-    ) {
+    let next = is_next_after(alloc, roster, me, d, parted.bill, &parted.link.entry)?;
+    if !next {
         return Ok(false);
     }
-    let listed = pieces(alloc, d, parted.bill)?;
-    if !are_listed(parted.manifest, &listed) {
+    let listed = lists_pieces(alloc, d, parted.bill, parted.manifest)?;
+    if !listed {
         return Ok(false);
     }
     let signed = is_signed_by(alloc, ring, me, &parted.link.text)?;
@@ -67,6 +61,35 @@ pub(crate) fn may_part<G: KeyRing>(
         parted.manifest,
         parted.manifest_text,
     )
+}
+
+// Whether an entry is the next that parts with a bill, where it is.
+fn is_next_after(
+    alloc: Global,
+    roster: &Roster,
+    me: PlatformCode,
+    d: &Diary,
+    bill: Checksum,
+    entry: &Entry,
+) -> Result<bool, NoMemory>
+    ensures { IfOk result (λ is. IsTrue is ↔ IsNextAt roster.now me bill
+        (count_by is_parted (history bill d.now)) entry.now (place_of (history bill d.now))) }
+{
+    let place = place(alloc, d, bill)?;
+    Ok(is_next_at(roster, me, bill, count_parted(d, bill), entry, &place))
+}
+
+// Whether a manifest lists the documents of a bill.
+fn lists_pieces(
+    alloc: Global,
+    d: &Diary,
+    bill: Checksum,
+    manifest: &Manifest,
+) -> Result<bool, NoMemory>
+    ensures { IfOk result (λ lists. IsTrue lists ↔ (manifest.now.documents ≡ pieces_of (history bill d.now))) }
+{
+    let listed = pieces(alloc, d, bill)?;
+    Ok(are_listed(manifest, &listed))
 }
 
 fn is_next_at(
