@@ -91,15 +91,20 @@ fn next_frame<G: KeyRing>(
         (λ frame. Spells content.now frame × FollowsDiaryLegally roster.now (G.keys ring.now) me diary.now frame)) }
 {
     legal_diary_is_sound();
-    let frame = match frame_read(alloc, content) {
-        Ok(frame) => frame,
-        Err(FrameFault::NotAFrame) => return Ok(None),
-        Err(FrameFault::NoMemory) => return Err(NoMemory),
-    };
-    if may_follow(alloc, roster, ring, me, diary, &frame)? {
-        Ok(Some(frame))
-    } else {
-        Ok(None)
+    match frame_read(alloc, content) {
+        Ok(frame) => match may_follow(alloc, roster, ring, me, diary, &frame) {
+            Ok(true) => Ok(Some(frame)),
+            Ok(false) => {
+                drop(frame);
+                Ok(None)
+            }
+            Err(refused) => {
+                drop(frame);
+                Err(refused)
+            }
+        },
+        Err(FrameFault::NotAFrame) => Ok(None),
+        Err(FrameFault::NoMemory) => Err(NoMemory),
     }
 }
 
