@@ -21,12 +21,13 @@ pub(crate) fn response_json(alloc: Global, r: &Response) -> Result<Json, NoMemor
     ensures digits { IfOk result (λ json. HaveDigits r.now) }
 {
     let mut members = Vec::with_capacity(alloc, 9)?;
-    push_front(alloc, &mut members, r)?;
-    push_back(alloc, &mut members, r)?;
+    push_subject(alloc, &mut members, r)?;
+    push_verdict(alloc, &mut members, r)?;
     Ok(object_json(members))
 }
 
-fn push_front(alloc: Global, members: &mut Vec<Member>, r: &Response) -> Result<(), NoMemory>
+// What the response is about: the bill, the places and the documents that it names.
+fn push_subject(alloc: Global, members: &mut Vec<Member>, r: &Response) -> Result<(), NoMemory>
     ensures digits { OnOk result (HaveDigits r.now) }
     ensures members { OnOk result ((rest : Members) → in_front (map member_view members.new.items) rest
         ≡ in_front (map member_view members.old.items)
@@ -41,7 +42,8 @@ fn push_front(alloc: Global, members: &mut Vec<Member>, r: &Response) -> Result<
     push_checksums(alloc, members, "missing", r.missing.as_slice())
 }
 
-fn push_back(alloc: Global, members: &mut Vec<Member>, r: &Response) -> Result<(), NoMemory>
+// What it says: the evidence, the code and why.
+fn push_verdict(alloc: Global, members: &mut Vec<Member>, r: &Response) -> Result<(), NoMemory>
     requires own { IsOptionalEvidence r.now.evidence.own }
     requires theirs { IsOptionalEvidence r.now.evidence.theirs }
     ensures { OnOk result ((rest : Members) → in_front (map member_view members.new.items) rest

@@ -1,6 +1,6 @@
 use Rattle.std.proofs.Common.{◌∙◌}
 use Rattle.std.proofs.lemmas.Result.{on_ok_weaker}
-use Rattle.pint_responses.proofs.writing.push_back.Goals as goal
+use Rattle.pint_responses.proofs.writing.push_verdict.Goals as goal
 
 pub returns : goal.returns
 returns c =
