@@ -9,6 +9,9 @@ import time
 
 HERE = os.path.dirname(os.path.abspath(__file__))
 TOP = os.path.dirname(HERE)
+sys.path.insert(0, os.path.join(TOP, "tools"))
+import program  # noqa: E402
+
 REGISTRY = "/usr/share/cargo/registry"
 # callgrind counts `rep stosb` and `rep movsb` once a byte, which the processor does many at a time.
 TUNABLES = "glibc.cpu.x86_rep_stosb_threshold=2000000000:glibc.cpu.x86_rep_movsb_threshold=2000000000"
@@ -16,20 +19,18 @@ TUNABLES = "glibc.cpu.x86_rep_stosb_threshold=2000000000:glibc.cpu.x86_rep_movsb
 
 def product():
     """The proved program, which has to be there and newer than its sources."""
-    sys.path.insert(0, os.path.join(TOP, "tools"))
-    import program
     if not program.is_built():
         sys.exit("no proved program of these sources: run make program first")
     return program.PROGRAM
 
 
 def proved(crate, words):
-    """A proved program for measuring, built by a first run with these words, which has to end with 0."""
-    ended = subprocess.run(["rt", "run", "--", *words], cwd=os.path.join(TOP, "crates", crate),
-                           stdin=subprocess.DEVNULL, stdout=subprocess.PIPE, stderr=subprocess.STDOUT)
+    """A proved program for measuring, built first where it isn't here; a run with these words has to end with 0."""
+    made = program.proved(crate)
+    ended = subprocess.run([made, *words], stdin=subprocess.DEVNULL, stdout=subprocess.PIPE, stderr=subprocess.STDOUT)
     if ended.returncode:
-        sys.exit("%s isn't built (%d):\n%s" % (crate, ended.returncode, ended.stdout.decode(errors="replace")[-2000:]))
-    return os.path.join(TOP, "crates", crate, "out", crate)
+        sys.exit("%s ends with %d:\n%s" % (crate, ended.returncode, ended.stdout.decode(errors="replace")[-2000:]))
+    return made
 
 
 def peer(name, folder):

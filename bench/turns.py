@@ -1,9 +1,9 @@
 #!/usr/bin/env python3
 """How many turns a second 1, 2 and 4 threads take at one value and at 16, beside std's Mutex in stock Rust.
 
-Builds turns_bench (the product's turns) and turns_peer.rs (a Mutex for each value), runs both in turn with the same
-words, and prints turns a second and the ratio of the two in one round (median, least and greatest). A run with few
-turns is taken off one with more, so that starts don't count.
+Runs turns_bench (the product's turns, proved) and turns_peer.rs (a Mutex for each value) in turn with the same words,
+and prints turns a second and the ratio of the two in one round (median, least and greatest). A run with few turns is
+taken off one with more, so that starts don't count.
 """
 import os
 import shutil
@@ -13,9 +13,8 @@ import sys
 import tempfile
 import time
 
-HERE = os.path.dirname(os.path.abspath(__file__))
-CRATE = os.path.join(HERE, "..", "crates", "turns_bench")
-PROGRAM = os.path.join(CRATE, "out", "turns_bench")
+from measure import HERE, proved
+
 ROUNDS = 5
 TURNS = int(sys.argv[1]) if len(sys.argv) > 1 else 1_000_000
 
@@ -37,9 +36,7 @@ def rate(program, levels, values):
 
 
 def main():
-    subprocess.run(["rt", "run"], cwd=CRATE, stdout=subprocess.DEVNULL, stderr=subprocess.DEVNULL)
-    if not os.path.exists(PROGRAM):
-        sys.exit("turns_bench is not built")
+    program = proved("turns_bench", ["0", "1", "1"])
     folder = tempfile.mkdtemp()
     try:
         peer = os.path.join(folder, "turns_peer")
@@ -48,7 +45,7 @@ def main():
         print("|---|---|---|---|---|")
         for values in (1, 16):
             for levels in (0, 1, 2):
-                pairs = [(rate(PROGRAM, levels, values), rate(peer, levels, values)) for _ in range(ROUNDS)]
+                pairs = [(rate(program, levels, values), rate(peer, levels, values)) for _ in range(ROUNDS)]
                 ratios = [ours / theirs for ours, theirs in pairs]
                 print("| %d | %d | %.0f | %.0f | %.2f (%.2f to %.2f) |" % (
                     1 << levels, values,

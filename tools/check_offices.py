@@ -11,10 +11,7 @@ import subprocess
 import sys
 import tempfile
 
-from program import TOP, words_of
-
-CRATE = os.path.join(TOP, "crates", "office_bench")
-PROGRAM = os.path.join(CRATE, "out", "office_bench")
+from program import proved, words_of
 
 LINE = re.compile(r"(\d+) done, (\d+) refused, (\d+) failed; (\d+) frames; ([a-z ]+)\n")
 
@@ -55,10 +52,8 @@ def checks(program):
 
 def main():
     words = words_of(__doc__)
-    words.add_argument("program", nargs="?", default=PROGRAM)
-    program = words.parse_args().program
-    if program == PROGRAM and not os.path.exists(PROGRAM):
-        subprocess.run(["rt", "run", "--", "0", "0"], cwd=CRATE, stdout=subprocess.DEVNULL, check=True)
+    words.add_argument("program", nargs="?")
+    program = words.parse_args().program or proved("office_bench")
     ends = list(checks(program))
     for what, is_well in ends:
         if not is_well:

@@ -1,12 +1,15 @@
 #!/usr/bin/env python3
-"""Proves and builds the program, a line for each crate that is done; the provers' own output goes to out/program.log.
+"""Proves and builds a program, a line for each crate that is done, with the seconds since the start; the provers' own
+output goes to out/program.log.
 
-    tools/make_program.py [--jobs N]   N provers at a time; otherwise as many as there are processors
+    tools/make_program.py [CRATE]   the program of that crate, of ebl_cli (the one to deploy) otherwise
 
-What was proved before and hasn't changed isn't proved again. Ends with 0, or with 1 where a crate isn't proved.
+The gate's command goes over a copy of the crates that the program is built from, without the edits that must fail, so
+as many crates are proved side by side as there are processors and memory. What was proved before on this machine and
+hasn't changed isn't proved again, neither here nor by the gate. Ends with 0, or with 1 where a crate isn't proved.
 """
-import contextlib
 import os
+import re
 import shutil
 import signal
 import subprocess
@@ -14,71 +17,84 @@ import sys
 import tempfile
 import time
 
-from program import PROGRAM, TOP, commit, crates_below, need_toolchain, words_of
+from program import PRODUCT, TOP, commit, crates_below, need_toolchain, program_of, words_of
 
 LOG = os.path.join(TOP, "out", "program.log")
-# The prover that runs, the leader of a group, so that none is left behind when this script is stopped.
-PROVERS = set()
 
 
-def stop(number, _):
-    for prover in PROVERS:
-        with contextlib.suppress(ProcessLookupError):
+def copied(crates, top):
+    """Copies the crates to a folder, as a repository of its own that has no others."""
+    os.mkdir(os.path.join(top, ".git"))
+    shutil.copy(os.path.join(TOP, "HANDLES"), top)
+    with open(os.path.join(TOP, "crates.txt"), encoding="utf-8") as file:
+        rows = [line for line in file if re.split(r"[\s:]", line)[0] in crates]
+    with open(os.path.join(top, "crates.txt"), "w", encoding="utf-8") as file:
+        file.writelines(rows)
+    for crate in crates:
+        shutil.copytree(os.path.join(TOP, "crates", crate), os.path.join(top, "crates", crate),
+                        ignore=shutil.ignore_patterns("out", "must-fail"))
+
+
+def prove(top, crates, begun, log):
+    """Whether the crates in a folder are all proved: a line for each that is."""
+    prover = subprocess.Popen(["rt", "ci"], cwd=top, stdin=subprocess.DEVNULL, stdout=subprocess.PIPE,
+                              stderr=subprocess.STDOUT, start_new_session=True)
+    done = 0
+    try:
+        for line in prover.stdout:
+            log.write(line)
+            log.flush()
+            proved = re.match(rb"rt: (\w+) (proved|is kept)", line)
+            if proved:
+                done += 1
+                print("%d of %d  %-20s %5.0f s" % (done, len(crates), proved.group(1).decode(),
+                                                   time.monotonic() - begun), flush=True)
+        return prover.wait() == 0
+    finally:
+        if prover.poll() is None:
             os.killpg(prover.pid, signal.SIGKILL)
-    os._exit(128 + number)
 
 
-def prove(crate, jobs):
-    """(the prover's status, what it printed) of one crate; the last one is linked as the program."""
-    words = ["rt", "lib", "--jobs", str(jobs)]
-    if crate == "ebl_cli":
-        words = ["rt", "run", "--jobs", str(jobs), "--", "--version"]
-    folder = os.path.join(TOP, "crates", crate)
-    kept = os.path.join(folder, "out", "incremental")
-    was_kept = os.path.exists(kept)
-    with tempfile.TemporaryFile() as said:
-        prover = subprocess.Popen(words, cwd=folder, stdin=subprocess.DEVNULL, stdout=said, stderr=subprocess.STDOUT,
-                                  start_new_session=True)
-        PROVERS.add(prover)
-        status = prover.wait()
-        PROVERS.discard(prover)
-        # what the crate's next check would begin with takes more room than its library, and no other crate reads it
-        if not status and not was_kept:
-            shutil.rmtree(kept, ignore_errors=True)
-        said.seek(0)
-        return status, said.read()
+def put(made, program):
+    """Puts a program in its place, whole or not at all."""
+    os.makedirs(os.path.dirname(program), exist_ok=True)
+    shutil.copy(made, program + ".new")
+    os.replace(program + ".new", program)
 
 
-def prove_all(crates, jobs, log):
-    """Whether all are proved. In turn, since rt locks the libraries of its crate, and all have one in common."""
-    for at, crate in enumerate(crates, 1):
-        begun = time.monotonic()
-        status, said = prove(crate, jobs)
-        log.write(b"== %s\n%s" % (crate.encode(), said))
-        log.flush()
-        if status:
-            print("%s isn't proved (%d); the end of %s:" % (crate, status, os.path.relpath(LOG)))
-            sys.stdout.write("".join(said.decode(errors="replace").splitlines(keepends=True)[-8:]))
+def build(crate, log):
+    """Proves and builds the program of a crate; whether that was done."""
+    begun, origin, crates = time.monotonic(), commit(), crates_below(crate)
+    with tempfile.TemporaryDirectory(prefix="ebl-program-") as top:
+        copied(crates, top)
+        if not prove(top, crates, begun, log):
             return False
-        print("%d of %d  %-20s %5.0f s" % (at, len(crates), crate, time.monotonic() - begun), flush=True)
+        put(os.path.join(top, "crates", crate, "out", crate), program_of(crate))
+    print("proved and built in %.0f s: %s%s" % (time.monotonic() - begun, os.path.relpath(program_of(crate)),
+                                                origin and ", from commit " + origin))
     return True
+
+
+def end_of_log():
+    with open(LOG, encoding="utf-8", errors="replace") as file:
+        return "".join(file.readlines()[-12:])
 
 
 def main():
     words = words_of(__doc__)
-    words.add_argument("--jobs", type=int, default=len(os.sched_getaffinity(0)))
-    jobs = max(1, words.parse_args().jobs)
+    words.add_argument("crate", nargs="?", default=PRODUCT, help="a crate of crates.txt that has a program")
+    crate = words.parse_args().crate
+    if not os.path.exists(os.path.join(TOP, "crates", crate, "src", "main.rt")):
+        words.error("no crate %s with a program" % crate)
     need_toolchain()
     os.makedirs(os.path.dirname(LOG), exist_ok=True)
-    for number in (signal.SIGINT, signal.SIGTERM, signal.SIGHUP):
-        signal.signal(number, stop)
-    begun, origin = time.monotonic(), commit()
+    for number in (signal.SIGTERM, signal.SIGHUP):
+        signal.signal(number, lambda number, _: sys.exit(128 + number))
     with open(LOG, "wb") as log:
-        if not prove_all(crates_below("ebl_cli"), jobs, log):
-            return 1
-    print("proved and built in %.0f s: %s%s" % (time.monotonic() - begun, os.path.relpath(PROGRAM),
-                                                origin and ", from commit " + origin))
-    return 0
+        if build(crate, log):
+            return 0
+    print("%s isn't proved; the end of %s:\n%s" % (crate, os.path.relpath(LOG), end_of_log()), end="")
+    return 1
 
 
 if __name__ == "__main__":

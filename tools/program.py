@@ -6,8 +6,10 @@ import subprocess
 import sys
 
 TOP = os.path.dirname(os.path.dirname(os.path.abspath(__file__)))
-CRATE = os.path.join(TOP, "crates", "ebl_cli")
-PROGRAM = os.path.join(CRATE, "out", "ebl_cli")
+# The crate of the program to deploy.
+PRODUCT = "ebl_cli"
+CRATE = os.path.join(TOP, "crates", PRODUCT)
+PROGRAM = os.path.join(CRATE, "out", PRODUCT)
 NO_TOOLCHAIN = ("ebl: the Rattle toolchain isn't here: no command rt on the PATH. README.md says which kit it is;"
                 " the kit's guide is its file START-HERE.md.")
 
@@ -46,12 +48,27 @@ def sources(crate):
                 yield os.path.join(folder, name)
 
 
-def is_built():
-    """Whether a proved program is here that is newer than each file that it is made from."""
-    if not os.path.exists(PROGRAM):
+def program_of(crate):
+    """Where the proved program of a crate lies, once it is built."""
+    return os.path.join(TOP, "crates", crate, "out", crate)
+
+
+def is_built(crate=PRODUCT):
+    """Whether a crate's proved program is here and newer than each file that it is made from."""
+    if not os.path.exists(program_of(crate)):
         return False
-    made = os.path.getmtime(PROGRAM)
-    return all(os.path.getmtime(file) <= made for crate in crates_below("ebl_cli") for file in sources(crate))
+    made = os.path.getmtime(program_of(crate))
+    return all(os.path.getmtime(file) <= made for it in crates_below(crate) for file in sources(it))
+
+
+def proved(crate):
+    """A crate's proved program, which is built first where it isn't here; the script ends where it can't be."""
+    if not is_built(crate):
+        maker = os.path.join(TOP, "tools", "make_program.py")
+        ended = subprocess.run([sys.executable, maker, crate], stdin=subprocess.DEVNULL, stdout=sys.stderr)
+        if ended.returncode:
+            sys.exit("%s isn't built" % crate)
+    return program_of(crate)
 
 
 def commit():
