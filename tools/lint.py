@@ -7,6 +7,7 @@
 - a crate of crates.txt without a row in the map or in the README's table, a folder of crates/ that it doesn't name
 - a library in a crate's line of crates.txt that nothing of the crate names
 - a lemma that nothing cites
+- an edit that can't be applied: a text to be changed that doesn't stand exactly once in its file
 """
 import os
 import re
@@ -80,6 +81,31 @@ def libraries_named(texts):
         for library in names.split():
             if not re.search(r"\b%s\b" % library, code):
                 yield "crates.txt", "names %s for %s, which doesn't" % (library, crate)
+
+
+EDIT = re.compile(r"(?:crates/(\w+)/must-fail|edits/(\w+))/[^/]+\.edit")
+
+
+def edits_apply(texts):
+    for name, text in texts.items():
+        crate = EDIT.fullmatch(name)
+        if not crate:
+            continue
+        path, old, changed = "", "", {}
+        for line in text.split("\n"):
+            word, _, said = line.partition(":")
+            said = said[1:]
+            if word == "file":
+                path = "crates/%s/%s" % (crate.group(1) or crate.group(2), said)
+            elif word == "old":
+                old = said
+            elif word == "new":
+                now = changed.get(path, texts.get(path, ""))
+                if now.count(old) != 1:
+                    yield name, "changes what stands %d times in %s: %s" % (now.count(old), path, old.strip())
+                changed[path] = now.replace(old, said)
+        if not changed:
+            yield name, "changes nothing"
 
 
 # ---- lemmas
@@ -194,7 +220,7 @@ def missing_in(page, quoted, paths, known):
 def main():
     words_of(__doc__).parse_args()
     texts, found = files(), 0
-    for check in (names_in_pages, heads, widths, crates_named, libraries_named, uncited):
+    for check in (names_in_pages, heads, widths, crates_named, libraries_named, edits_apply, uncited):
         for where, what in check(texts):
             print("%s %s" % (where, what))
             found += 1

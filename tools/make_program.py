@@ -11,48 +11,30 @@ hasn't changed isn't proved again, neither here nor by the gate. Ends with 0, or
 import os
 import re
 import shutil
-import signal
-import subprocess
 import sys
 import tempfile
 import time
 
-from program import PRODUCT, TOP, commit, crates_below, need_toolchain, program_of, words_of
+from program import (PRODUCT, TOP, commit, copied, crates_below, end_on_signals, gate, need_toolchain, program_of,
+                     words_of)
 
 LOG = os.path.join(TOP, "out", "program.log")
 
 
-def copied(crates, top):
-    """Copies the crates to a folder, as a repository of its own that has no others."""
-    os.mkdir(os.path.join(top, ".git"))
-    shutil.copy(os.path.join(TOP, "HANDLES"), top)
-    with open(os.path.join(TOP, "crates.txt"), encoding="utf-8") as file:
-        rows = [line for line in file if re.split(r"[\s:]", line)[0] in crates]
-    with open(os.path.join(top, "crates.txt"), "w", encoding="utf-8") as file:
-        file.writelines(rows)
-    for crate in crates:
-        shutil.copytree(os.path.join(TOP, "crates", crate), os.path.join(top, "crates", crate),
-                        ignore=shutil.ignore_patterns("out", "must-fail"))
-
-
 def prove(top, crates, begun, log):
     """Whether the crates in a folder are all proved: a line for each that is."""
-    prover = subprocess.Popen(["rt", "ci"], cwd=top, stdin=subprocess.DEVNULL, stdout=subprocess.PIPE,
-                              stderr=subprocess.STDOUT, start_new_session=True)
-    done = 0
-    try:
-        for line in prover.stdout:
-            log.write(line)
-            log.flush()
-            proved = re.match(rb"rt: (\w+) (proved|is kept)", line)
-            if proved:
-                done += 1
-                print("%d of %d  %-20s %5.0f s" % (done, len(crates), proved.group(1).decode(),
-                                                   time.monotonic() - begun), flush=True)
-        return prover.wait() == 0
-    finally:
-        if prover.poll() is None:
-            os.killpg(prover.pid, signal.SIGKILL)
+    done, status = 0, 1
+    for line in gate(top):
+        if isinstance(line, int):
+            status = line
+            continue
+        log.write(line)
+        log.flush()
+        proved = re.match(r"rt: (\w+) (proved|is kept)", line)
+        if proved:
+            done += 1
+            print("%d of %d  %-20s %5.0f s" % (done, len(crates), proved.group(1), time.monotonic() - begun), flush=True)
+    return status == 0
 
 
 def put(made, program):
@@ -88,9 +70,8 @@ def main():
         words.error("no crate %s with a program" % crate)
     need_toolchain()
     os.makedirs(os.path.dirname(LOG), exist_ok=True)
-    for number in (signal.SIGTERM, signal.SIGHUP):
-        signal.signal(number, lambda number, _: sys.exit(128 + number))
-    with open(LOG, "wb") as log:
+    end_on_signals()
+    with open(LOG, "w", encoding="utf-8") as log:
         if build(crate, log):
             return 0
     print("%s isn't proved; the end of %s:\n%s" % (crate, os.path.relpath(LOG), end_of_log()), end="")

@@ -1,7 +1,9 @@
 """The program and the crates that it is built from, for the scripts of this folder."""
 import argparse
 import os
+import re
 import shutil
+import signal
 import subprocess
 import sys
 
@@ -27,8 +29,8 @@ def libraries():
     return {crate: [it for it in below if it in named] for crate, below in named.items()}
 
 
-def crates_below(crate):
-    """The crate and those that it is built from, each behind its own libraries."""
+def crates_below(*crates):
+    """The crates and those that they are built from, each behind its own libraries."""
     named, found = libraries(), []
 
     def add(it):
@@ -37,8 +39,40 @@ def crates_below(crate):
         if it not in found:
             found.append(it)
 
-    add(crate)
+    for crate in crates:
+        add(crate)
     return found
+
+
+def copied(crates, top):
+    """Copies crates to an empty folder, as a repository of its own that has no others: without edits that must fail."""
+    os.mkdir(os.path.join(top, ".git"))
+    shutil.copy(os.path.join(TOP, "HANDLES"), top)
+    with open(os.path.join(TOP, "crates.txt"), encoding="utf-8") as file:
+        rows = [line for line in file if re.split(r"[\s:]", line)[0] in crates]
+    with open(os.path.join(top, "crates.txt"), "w", encoding="utf-8") as file:
+        file.writelines(rows)
+    for crate in crates:
+        shutil.copytree(os.path.join(TOP, "crates", crate), os.path.join(top, "crates", crate),
+                        ignore=shutil.ignore_patterns("out", "must-fail"))
+
+
+def gate(top):
+    """The lines that the gate's command prints in a folder; the last one is its status, a number."""
+    prover = subprocess.Popen(["rt", "ci"], cwd=top, stdin=subprocess.DEVNULL, stdout=subprocess.PIPE,
+                              stderr=subprocess.STDOUT, start_new_session=True, text=True, errors="replace")
+    try:
+        yield from prover.stdout
+        yield prover.wait()
+    finally:
+        if prover.poll() is None:
+            os.killpg(prover.pid, signal.SIGKILL)
+
+
+def end_on_signals():
+    """Lets a stopped script clean up: it removes its copies and ends its provers."""
+    for number in (signal.SIGTERM, signal.SIGHUP):
+        signal.signal(number, lambda number, _: sys.exit(128 + number))
 
 
 def sources(crate):
