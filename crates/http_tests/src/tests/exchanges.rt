@@ -1,9 +1,11 @@
 //! Exchanges over links in memory: the bytes of each request, replies and what is none, every cut, the limits.
-use ebl_base::{ByteList, CallList, Checksum, NoMemory, PlatformCode, Reference};
-use ebl_edge::{MemoryLink, PieceList};
+use crate::tests::making::{cells, link_of, same};
+use ebl_base::{ByteList, Checksum, PlatformCode, Reference};
+use ebl_edge::MemoryLink;
 use pint_client::{ClientFault, Incoming, exchange};
 use platform_requests::Message;
 use std::alloc::{AllocError, Global};
+use std::fmt::Debug;
 use std::process::Abort;
 use std::test::Fail;
 
@@ -41,297 +43,180 @@ fn finish() -> Result<Message, Fail> {
     })
 }
 
+fn message_of(alloc: Global, name: &str, body: &[u8]) -> Result<Message, Fail> {
+    match name {
+        "start" => start(alloc, body),
+        "put" => put(alloc, body),
+        _ => finish(),
+    }
+}
+
+// ---- what an exchange gives
+
+// The status of a reply and its body, or why there is none.
+fn told(alloc: Global, answer: &Result<Incoming, ClientFault>) -> Result<String, AllocError> {
+    match answer {
+        Ok(incoming) => reply_told(alloc, incoming),
+        Err(fault) => format!(in alloc; "{fault:?}"),
+    }
+}
+
+fn reply_told(alloc: Global, incoming: &Incoming) -> Result<String, AllocError> {
+    let status = incoming.status;
+    let body = str::from_utf8(incoming.body.as_slice()).unwrap_or("no text");
+    format!(in alloc; "{status} {body}")
+}
+
+// What an exchange of the message over this link gives.
+fn answer(alloc: Global, link: &mut MemoryLink, out: &Message) -> Result<String, AllocError> {
+    let answer = exchange(alloc, link, out);
+    let told = told(alloc, &answer);
+    drop(answer);
+    told
+}
+
+// What an exchange of a finish does.
+fn finished(alloc: Global, link: &mut MemoryLink) -> Result<String, Fail> {
+    let out = finish()?;
+    let told = answer(alloc, link, &out);
+    drop(out);
+    Ok(told?)
+}
+
+// What one gives if these bytes come in pieces of these sizes.
+fn came(alloc: Global, bytes: &[u8], pieces: &[usize]) -> Result<String, Fail> {
+    let mut link = link_of(alloc, bytes, pieces, &[])?;
+    let told = finished(alloc, &mut link);
+    drop(link);
+    told
+}
+
 // ---- what is written
 
-fn link_of(alloc: Global, came: &[u8]) -> Result<MemoryLink, NoMemory> {
-    let bytes = ByteList::from_slice(alloc, came)?;
-    Ok(MemoryLink::new(alloc, bytes, CallList::new(alloc)))
-}
+const NO_CONTENT: &[u8] = b"HTTP/1.1 204 No Content\r\n\r\n";
 
-fn is_answered(alloc: Global, link: &mut MemoryLink, out: &Message) -> bool {
-    exchange(alloc, link, out).is_ok()
-}
+// Whose message it is, its body, and the bytes of its request.
+const REQUESTS: &str =
+    "start|{\"a\":1}|POST /v3/envelopes HTTP/1.1\r\nhost: pint\r\ncontent-length: 7\r\n\r\n{\"a\":1}~\
+    put|abcdefghij|PUT /v3/envelopes/00010203-0405-0607-0809-0a0b0c0d0eff/additional-documents/\
+        abababababababababababababababababababababababababababababababab HTTP/1.1\r\nhost: pint\r\n\
+        content-length: 10\r\n\r\nabcdefghij~\
+    put|abc|PUT /v3/envelopes/00010203-0405-0607-0809-0a0b0c0d0eff/additional-documents/\
+        abababababababababababababababababababababababababababababababab HTTP/1.1\r\nhost: pint\r\n\
+        content-length: 3\r\n\r\nabc~\
+    finish||PUT /v3/envelopes/00010203-0405-0607-0809-0a0b0c0d0eff/finish-transfer HTTP/1.1\r\nhost: pint\r\n\
+        content-length: 0\r\n\r\n";
 
-// Asserts which bytes one exchange of the message writes to this link.
-fn assert_writes<R: Abort>(
-    rt: &R,
-    alloc: Global,
-    link: &mut MemoryLink,
-    out: &Message,
-    text: &[u8],
-) {
-    assert!(rt; is_answered(alloc, link, out));
-    assert_eq!(rt; link.written(), text);
-}
-
-fn writes<R: Abort>(rt: &R, alloc: Global, out: &Message, text: &[u8]) -> Result<(), Fail> {
-    let mut link = link_of(alloc, b"HTTP/1.1 204 No Content\r\n\r\n")?;
-    assert_writes(rt, alloc, &mut link, out, text);
+// Asserts which bytes one exchange of the message writes.
+fn assert_written<R: Abort>(rt: &R, alloc: Global, out: &Message, text: &str) -> Result<(), Fail> {
+    let mut link = link_of(alloc, NO_CONTENT, &[], &[])?;
+    let told = answer(alloc, &mut link, out);
+    same(rt, &text, link.written(), text.as_bytes());
     drop(link);
+    same(rt, &text, told?.as_str(), "204 ");
     Ok(())
 }
 
-const START: &[u8] =
-    b"POST /v3/envelopes HTTP/1.1\r\nhost: pint\r\ncontent-length: 7\r\n\r\n{\"a\":1}";
-
-const PUT: &[u8] =
-    b"PUT /v3/envelopes/00010203-0405-0607-0809-0a0b0c0d0eff/additional-documents/abababababababababababababababababababababababababababababababab HTTP/1.1\r\nhost: pint\r\ncontent-length: 10\r\n\r\nabcdefghij";
-
-const FINISH: &[u8] =
-    b"PUT /v3/envelopes/00010203-0405-0607-0809-0a0b0c0d0eff/finish-transfer HTTP/1.1\r\nhost: pint\r\ncontent-length: 0\r\n\r\n";
-
-fn writes_start<R: Abort>(rt: &R, alloc: Global) -> Result<(), Fail> {
-    let out = start(alloc, b"{\"a\":1}")?;
-    let written = writes(rt, alloc, &out, START);
+fn request_row<R: Abort>(rt: &R, alloc: Global, row: &str) -> Result<(), Fail> {
+    let (name, rest) = cells(rt, row);
+    let (body, text) = cells(rt, rest);
+    let out = message_of(alloc, name, body.as_bytes())?;
+    let asserted = assert_written(rt, alloc, &out, text);
     drop(out);
-    written
-}
-
-fn writes_put<R: Abort>(rt: &R, alloc: Global) -> Result<(), Fail> {
-    let out = put(alloc, b"abcdefghij")?;
-    let written = writes(rt, alloc, &out, PUT);
-    drop(out);
-    written
-}
-
-fn writes_finish<R: Abort>(rt: &R, alloc: Global) -> Result<(), Fail> {
-    let out = finish()?;
-    let written = writes(rt, alloc, &out, FINISH);
-    drop(out);
-    written
+    asserted
 }
 
 #[test]
 fn one_request_for_each_message(rt: HostRuntime) -> Result<(), Fail> {
-    writes_start(&rt, rt.alloc())?;
-    writes_put(&rt, rt.alloc())?;
-    writes_finish(&rt, rt.alloc())
+    for row in REQUESTS.split('~') {
+        request_row(&rt, rt.alloc(), row)?;
+    }
+    Ok(())
 }
 
 // ---- what comes
 
-// What an exchange gives: a reply of this status with this body, or why there is none.
-#[derive(Clone, Copy, Debug)]
-enum Got<'a> {
-    Reply(u16, &'a [u8]),
-    BadReply,
-    Fault,
-}
-
-fn is_got<'a>(answer: &Result<Incoming, ClientFault>, got: Got<'a>) -> bool {
-    match (answer, got) {
-        (Ok(incoming), Got::Reply(status, body)) => {
-            incoming.status == status && incoming.body.as_slice() == body
-        }
-        (Err(ClientFault::BadReply), Got::BadReply) => true,
-        (Err(ClientFault::Fault), Got::Fault) => true,
-        _ => false,
-    }
-}
-
-// Whether an exchange of the message over this link gives that.
-fn answers<'a>(alloc: Global, link: &mut MemoryLink, out: &Message, got: Got<'a>) -> bool {
-    let answer = exchange(alloc, link, out);
-    let gives = is_got(&answer, got);
-    drop(answer);
-    gives
-}
-
-// Whether that of a Finish does.
-fn link_gives<'a>(alloc: Global, link: &mut MemoryLink, got: Got<'a>) -> Result<bool, Fail> {
-    let out = finish()?;
-    let gives = answers(alloc, link, &out, got);
-    drop(out);
-    Ok(gives)
-}
-
-// Whether it does over a link that hands out these bytes.
-fn gives<'a>(alloc: Global, came: &[u8], got: Got<'a>) -> Result<bool, Fail> {
-    let mut link = link_of(alloc, came)?;
-    let gives = link_gives(alloc, &mut link, got);
-    drop(link);
-    gives
-}
-
-// The bytes that come, and what the exchange gives.
-type Row = (&'static [u8], Got<'static>);
-
-fn assert_rows<R: Abort>(rt: &R, alloc: Global, rows: &[Row]) -> Result<(), Fail> {
-    for (came, got) in rows {
-        assert!(rt; gives(alloc, came, *got)?, "{came:?}");
-    }
+// Asserts what an exchange gives if these bytes come in pieces of these sizes.
+fn assert_came<R: Abort, N: Debug>(
+    rt: &R,
+    alloc: Global,
+    bytes: &[u8],
+    pieces: &[usize],
+    want: &str,
+    name: &N,
+) -> Result<(), Fail> {
+    let told = came(alloc, bytes, pieces)?;
+    same(rt, name, told.as_str(), want);
     Ok(())
 }
 
-const EXCHANGES: [Row; 3] = [
-    (
-        b"HTTP/1.1 404 Not Found\r\ncontent-length: 0\r\n\r\n",
-        Got::Reply(404, b""),
-    ),
-    (b"hello", Got::BadReply),
-    (b"", Got::BadReply),
-];
+// In each row what the exchange gives, and the bytes that come.
+const HEADS: &str = "404 |HTTP/1.1 404 Not Found\r\ncontent-length: 0\r\n\r\n~\
+    BadReply|hello~\
+    BadReply|~\
+    200 a|HTTP/1.0 200 OK\r\ncontent-length: 1\r\n\r\na~\
+    200 a|\r\n\nHTTP/1.1 200\ncontent-length: 1\n\na~\
+    200 a|HTTP/1.1 200 \r\ncontent-length: 1\r\n\r\nafter~\
+    BadReply|HTTP/2.0 200 OK\r\ncontent-length: 1\r\n\r\na~\
+    BadReply|HTTP/1.1 20 OK\r\ncontent-length: 1\r\n\r\na~\
+    BadReply|HTTP/1.1 2000 OK\r\ncontent-length: 1\r\n\r\na~\
+    BadReply|http/1.1 200 OK\r\ncontent-length: 1\r\n\r\na~\
+    BadReply|HTTP/1.1 200 OK\r\ncontent length: 1\r\n\r\na~\
+    BadReply|HTTP/1.1 200 OK\r\n content-length: 1\r\n\r\na~\
+    BadReply|GET / HTTP/1.1\r\ncontent-length: 1\r\n\r\na~\
+    BadReply|\r\n\r\n\r\n";
 
-#[test]
-fn client_exchange(rt: HostRuntime) -> Result<(), Fail> {
-    assert_rows(&rt, rt.alloc(), &EXCHANGES)
-}
-
-// ---- lengths
-
-// The status line from the status on, a line behind it, and what the exchange gives if five bytes follow the head.
-type LineRow = (&'static str, &'static str, Got<'static>);
-
-// A head with this line behind the status line, and five bytes.
-fn with_line(alloc: Global, status: &str, line: &str) -> Result<String, AllocError> {
-    format!(in alloc; "HTTP/1.1 {status}\r\n{line}\r\n\r\nabcde")
-}
-
-// Whether the exchange gives that if such a head comes.
-fn line_gives<'a>(alloc: Global, status: &str, line: &str, got: Got<'a>) -> Result<bool, Fail> {
-    let came = with_line(alloc, status, line)?;
-    gives(alloc, came.as_bytes(), got)
-}
-
-fn assert_lines<R: Abort>(rt: &R, alloc: Global, rows: &[LineRow]) -> Result<(), Fail> {
-    for (status, line, got) in rows {
-        assert!(rt; line_gives(alloc, status, line, *got)?, "{status} {line}");
-    }
-    Ok(())
-}
-
-const FIVE: Got<'static> = Got::Reply(200, b"abcde");
-
-const STATED: [LineRow; 10] = [
-    ("200 OK", "content-length: 5", FIVE),
-    ("200 OK", "Content-Length:5", FIVE),
-    ("200 OK", "CONTENT-LENGTH: \t5 ", FIVE),
-    ("200 OK", "content-length: 00005", FIVE),
-    ("200 OK", "content-length: 0000000000000000005", FIVE),
-    ("200 OK", "content-length: 5\r\ncontent-length: 5", FIVE),
-    (
-        "200 OK",
-        "x: y\r\ncontent-length: 5\r\nconnection: close",
-        FIVE,
-    ),
-    ("200 OK", "content-length: 5\nx:", FIVE),
-    ("409", "content-length: 3", Got::Reply(409, b"abc")),
-    ("000 ", "content-length: 0", Got::Reply(0, b"")),
-];
-
-#[test]
-fn lengths_that_are_stated(rt: HostRuntime) -> Result<(), Fail> {
-    assert_lines(&rt, rt.alloc(), &STATED)
-}
-
-const NO_LENGTHS: [LineRow; 16] = [
-    ("200 OK", "x: y", Got::BadReply),
-    ("200 OK", "content-length:", Got::BadReply),
-    ("200 OK", "content-length: +5", Got::BadReply),
-    ("200 OK", "content-length: -5", Got::BadReply),
-    ("200 OK", "content-length: 5a", Got::BadReply),
-    ("200 OK", "content-length: 5, 5", Got::BadReply),
-    (
-        "200 OK",
-        "content-length: 00000000000000000005",
-        Got::BadReply,
-    ),
-    (
-        "200 OK",
-        "content-length: 5\r\ncontent-length: 05",
-        Got::BadReply,
-    ),
-    (
-        "200 OK",
-        "content-length: 5\r\ncontent-length: 4",
-        Got::BadReply,
-    ),
-    ("200 OK", "content-length: 6", Got::BadReply),
-    ("200 OK", "content-length: 4194305", Got::BadReply),
-    (
-        "200 OK",
-        "content-length: 9999999999999999999",
-        Got::BadReply,
-    ),
-    (
-        "200 OK",
-        "content-length: 5\r\ntransfer-encoding: identity",
-        Got::BadReply,
-    ),
-    ("200 OK", "transfer-encoding: chunked", Got::BadReply),
-    ("100 Continue", "x: y", Got::BadReply),
-    ("304 Not Modified", "x: y", Got::BadReply),
-];
-
-#[test]
-fn lengths_that_are_none(rt: HostRuntime) -> Result<(), Fail> {
-    assert_lines(&rt, rt.alloc(), &NO_LENGTHS)
-}
-
-const BARE: Got<'static> = Got::Reply(204, b"");
-
-const WITHOUT_BODY: [LineRow; 4] = [
-    ("204 No Content", "x: y", BARE),
-    ("204 No Content", "content-length: 5", BARE),
-    ("204 No Content", "content-length: no", BARE),
-    ("204 No Content", "transfer-encoding: chunked", BARE),
-];
+const LENGTHS: &str = "200 abcde|HTTP/1.1 200 OK\r\ncontent-length: 5\r\n\r\nabcde~\
+    200 abcde|HTTP/1.1 200 OK\r\nContent-Length:5\r\n\r\nabcde~\
+    200 abcde|HTTP/1.1 200 OK\r\nCONTENT-LENGTH: \t5 \r\n\r\nabcde~\
+    200 abcde|HTTP/1.1 200 OK\r\ncontent-length: 00005\r\n\r\nabcde~\
+    200 abcde|HTTP/1.1 200 OK\r\ncontent-length: 0000000000000000005\r\n\r\nabcde~\
+    200 abcde|HTTP/1.1 200 OK\r\ncontent-length: 5\r\ncontent-length: 5\r\n\r\nabcde~\
+    200 abcde|HTTP/1.1 200 OK\r\nx: y\r\ncontent-length: 5\r\nconnection: close\r\n\r\nabcde~\
+    200 abcde|HTTP/1.1 200 OK\r\ncontent-length: 5\nx:\r\n\r\nabcde~\
+    409 abc|HTTP/1.1 409\r\ncontent-length: 3\r\n\r\nabcde~\
+    0 |HTTP/1.1 000 \r\ncontent-length: 0\r\n\r\nabcde~\
+    BadReply|HTTP/1.1 200 OK\r\nx: y\r\n\r\nabcde~\
+    BadReply|HTTP/1.1 200 OK\r\ncontent-length:\r\n\r\nabcde~\
+    BadReply|HTTP/1.1 200 OK\r\ncontent-length: +5\r\n\r\nabcde~\
+    BadReply|HTTP/1.1 200 OK\r\ncontent-length: -5\r\n\r\nabcde~\
+    BadReply|HTTP/1.1 200 OK\r\ncontent-length: 5a\r\n\r\nabcde~\
+    BadReply|HTTP/1.1 200 OK\r\ncontent-length: 5, 5\r\n\r\nabcde~\
+    BadReply|HTTP/1.1 200 OK\r\ncontent-length: 00000000000000000005\r\n\r\nabcde~\
+    BadReply|HTTP/1.1 200 OK\r\ncontent-length: 5\r\ncontent-length: 05\r\n\r\nabcde~\
+    BadReply|HTTP/1.1 200 OK\r\ncontent-length: 5\r\ncontent-length: 4\r\n\r\nabcde~\
+    BadReply|HTTP/1.1 200 OK\r\ncontent-length: 6\r\n\r\nabcde~\
+    BadReply|HTTP/1.1 200 OK\r\ncontent-length: 4194305\r\n\r\nabcde~\
+    BadReply|HTTP/1.1 200 OK\r\ncontent-length: 9999999999999999999\r\n\r\nabcde~\
+    BadReply|HTTP/1.1 200 OK\r\ncontent-length: 5\r\ntransfer-encoding: identity\r\n\r\nabcde~\
+    BadReply|HTTP/1.1 200 OK\r\ntransfer-encoding: chunked\r\n\r\nabcde~\
+    BadReply|HTTP/1.1 100 Continue\r\nx: y\r\n\r\nabcde~\
+    BadReply|HTTP/1.1 304 Not Modified\r\nx: y\r\n\r\nabcde";
 
 // RFC 9112, section 6.3: with the status 204 the reply ends with its head, whatever the fields are.
-#[test]
-fn a_204_has_no_body(rt: HostRuntime) -> Result<(), Fail> {
-    assert_lines(&rt, rt.alloc(), &WITHOUT_BODY)
+const WITHOUT_BODY: &str = "204 |HTTP/1.1 204 No Content\r\nx: y\r\n\r\nabcde~\
+    204 |HTTP/1.1 204 No Content\r\ncontent-length: 5\r\n\r\nabcde~\
+    204 |HTTP/1.1 204 No Content\r\ncontent-length: no\r\n\r\nabcde~\
+    204 |HTTP/1.1 204 No Content\r\ntransfer-encoding: chunked\r\n\r\nabcde";
+
+fn reply_row<R: Abort>(rt: &R, alloc: Global, row: &str) -> Result<(), Fail> {
+    let (want, bytes) = cells(rt, row);
+    assert_came(rt, alloc, bytes.as_bytes(), &[], want, &row)
 }
 
-// ---- heads
-
-const HEADS: [Row; 11] = [
-    (
-        b"HTTP/1.0 200 OK\r\ncontent-length: 1\r\n\r\na",
-        Got::Reply(200, b"a"),
-    ),
-    (
-        b"\r\n\nHTTP/1.1 200\ncontent-length: 1\n\na",
-        Got::Reply(200, b"a"),
-    ),
-    (
-        b"HTTP/1.1 200 \r\ncontent-length: 1\r\n\r\nafter",
-        Got::Reply(200, b"a"),
-    ),
-    (
-        b"HTTP/2.0 200 OK\r\ncontent-length: 1\r\n\r\na",
-        Got::BadReply,
-    ),
-    (
-        b"HTTP/1.1 20 OK\r\ncontent-length: 1\r\n\r\na",
-        Got::BadReply,
-    ),
-    (
-        b"HTTP/1.1 2000 OK\r\ncontent-length: 1\r\n\r\na",
-        Got::BadReply,
-    ),
-    (
-        b"http/1.1 200 OK\r\ncontent-length: 1\r\n\r\na",
-        Got::BadReply,
-    ),
-    (
-        b"HTTP/1.1 200 OK\r\ncontent length: 1\r\n\r\na",
-        Got::BadReply,
-    ),
-    (
-        b"HTTP/1.1 200 OK\r\n content-length: 1\r\n\r\na",
-        Got::BadReply,
-    ),
-    (
-        b"GET / HTTP/1.1\r\ncontent-length: 1\r\n\r\na",
-        Got::BadReply,
-    ),
-    (b"\r\n\r\n\r\n", Got::BadReply),
-];
+fn reply_rows<R: Abort>(rt: &R, alloc: Global, rows: &str) -> Result<(), Fail> {
+    for row in rows.split('~') {
+        reply_row(rt, alloc, row)?;
+    }
+    Ok(())
+}
 
 #[test]
-fn heads_and_what_is_none(rt: HostRuntime) -> Result<(), Fail> {
-    assert_rows(&rt, rt.alloc(), &HEADS)
+fn replies_and_what_is_none(rt: HostRuntime) -> Result<(), Fail> {
+    for rows in &[HEADS, LENGTHS, WITHOUT_BODY] {
+        reply_rows(&rt, rt.alloc(), rows)?;
+    }
+    Ok(())
 }
 
 // ---- pieces, cuts and faults
@@ -339,111 +224,62 @@ fn heads_and_what_is_none(rt: HostRuntime) -> Result<(), Fail> {
 const CREATED: &[u8] =
     b"\r\nHTTP/1.1 201 Created\r\ncontent-type: application/json\r\ncontent-length: 12\r\n\r\n{\"body\":1234";
 
-// A link that hands out these bytes in pieces of this size, and fails at these calls.
-fn link_in_pieces(
-    alloc: Global,
-    came: &[u8],
-    size: usize,
-    fails: &[u64],
-) -> Result<MemoryLink, NoMemory> {
-    let bytes = ByteList::from_slice(alloc, came)?;
-    let pieces = PieceList::from_vec(vec![in alloc; size; 100]?);
-    let fails = CallList::from_slice(alloc, fails)?;
-    Ok(MemoryLink::in_pieces(alloc, bytes, pieces, fails))
-}
-
-fn gives_in_pieces<'a>(alloc: Global, size: usize, got: Got<'a>) -> Result<bool, Fail> {
-    let mut link = link_in_pieces(alloc, CREATED, size, &[])?;
-    let gives = link_gives(alloc, &mut link, got);
-    drop(link);
-    gives
-}
-
-fn gives_cut<'a>(alloc: Global, cut: usize, got: Got<'a>) -> Result<bool, Fail> {
-    let front = CREATED.get(..cut).ok_or("a front")?;
-    gives(alloc, front, got)
-}
-
-fn every_piece<R: Abort>(rt: &R, alloc: Global) -> Result<(), Fail> {
-    let whole = Got::Reply(201, b"{\"body\":1234");
-    for size in 1..CREATED.len() + 1 {
-        assert!(rt; gives_in_pieces(alloc, size, whole)?, "{size}");
-    }
-    Ok(())
-}
-
-fn every_cut<R: Abort>(rt: &R, alloc: Global) -> Result<(), Fail> {
-    for cut in 0..CREATED.len() {
-        assert!(rt; gives_cut(alloc, cut, Got::BadReply)?, "{cut}");
-    }
-    Ok(())
-}
-
-// The same reply in pieces of each size, and cut at each byte.
 #[test]
-fn every_piece_and_every_cut(rt: HostRuntime) -> Result<(), Fail> {
-    every_piece(&rt, rt.alloc())?;
-    every_cut(&rt, rt.alloc())
+fn every_piece(rt: HostRuntime) -> Result<(), Fail> {
+    let whole = "201 {\"body\":1234";
+    for size in 1..CREATED.len() + 1 {
+        assert_came(&rt, rt.alloc(), CREATED, &[size; 100], whole, &size)?;
+    }
+    Ok(())
+}
+
+#[test]
+fn every_cut(rt: HostRuntime) -> Result<(), Fail> {
+    for cut in 0..CREATED.len() {
+        assert_came(&rt, rt.alloc(), &CREATED[..cut], &[], "BadReply", &cut)?;
+    }
+    Ok(())
 }
 
 const SHORT: &[u8] = b"HTTP/1.1 200 OK\r\ncontent-length: 2\r\n\r\nab";
 
-// The bytes that a Put of `abc` writes.
-const PUT_OF_ABC: &[u8] =
-    b"PUT /v3/envelopes/00010203-0405-0607-0809-0a0b0c0d0eff/additional-documents/abababababababababababababababababababababababababababababababab HTTP/1.1\r\nhost: pint\r\ncontent-length: 3\r\n\r\nabc";
+// How many bytes a put of `abc` writes: the third of `REQUESTS`.
+const SENT: usize = 187;
 
 // The call that is one past the last: no call fails there.
 const NO_CALL: u64 = SHORT.len() as u64 + 2;
 
-// What the exchange gives where this call fails.
-fn got_where_failed(call: u64) -> Got<'static> {
-    if call == NO_CALL {
-        Got::Reply(200, b"ab")
-    } else {
-        Got::Fault
-    }
-}
-
-// How many bytes are written there.
-fn sent_where_failed(call: u64) -> usize {
+// What the exchange gives where this call fails, how many calls fail, and how many bytes are written.
+fn told_where_failed(call: u64) -> (&'static str, u64, usize) {
     match call {
-        0 => 0,
-        1 => PUT_OF_ABC.len() - 3,
-        _ => PUT_OF_ABC.len(),
+        0 => ("Fault", 1, 0),
+        1 => ("Fault", 1, SENT - 3),
+        NO_CALL => ("200 ab", 0, SENT),
+        _ => ("Fault", 1, SENT),
     }
 }
 
-// How many calls fail there.
-fn faults_where_failed(call: u64) -> u64 {
-    if call == NO_CALL { 0 } else { 1 }
-}
-
-fn assert_link<R: Abort>(rt: &R, link: &MemoryLink, call: u64) {
-    assert_eq!(rt; link.faults(), faults_where_failed(call));
-    assert_eq!(rt; link.written().len(), sent_where_failed(call));
-}
-
-fn assert_failed<R: Abort>(rt: &R, alloc: Global, link: &mut MemoryLink, out: &Message, call: u64) {
-    assert!(rt; answers(alloc, link, out, got_where_failed(call)), "{call}");
-    assert_link(rt, link, call);
+fn assert_failed<R: Abort>(rt: &R, told: &str, faults: u64, sent: usize, call: u64) {
+    same(rt, &call, (told, faults, sent), told_where_failed(call));
 }
 
 fn failed_row<R: Abort>(rt: &R, alloc: Global, out: &Message, call: u64) -> Result<(), Fail> {
-    let mut link = link_in_pieces(alloc, SHORT, 1, &[call])?;
-    assert_failed(rt, alloc, &mut link, out, call);
+    let mut link = link_of(alloc, SHORT, &[1; 100], &[call])?;
+    let told = answer(alloc, &mut link, out);
+    let (faults, sent) = (link.faults(), link.written().len());
     drop(link);
+    assert_failed(rt, told?.as_str(), faults, sent, call);
     Ok(())
 }
 
 fn failed_rows<R: Abort>(rt: &R, alloc: Global, out: &Message) -> Result<(), Fail> {
-    writes(rt, alloc, out, PUT_OF_ABC)?;
     for call in 0..NO_CALL + 1 {
         failed_row(rt, alloc, out, call)?;
     }
     Ok(())
 }
 
-// Calls 0 and 1 write the head and the body of a Put, and each later one reads one byte.
+// Calls 0 and 1 write the head and the body of a put, and each later one reads one byte.
 #[test]
 fn each_call_of_the_link_failed(rt: HostRuntime) -> Result<(), Fail> {
     let out = put(rt.alloc(), b"abc")?;
@@ -454,53 +290,42 @@ fn each_call_of_the_link_failed(rt: HostRuntime) -> Result<(), Fail> {
 
 // ---- limits
 
-// A reply whose head has so many bytes.
-fn padded(alloc: Global, size: usize) -> Result<Vec<u8>, AllocError> {
-    let front = b"HTTP/1.1 200 OK\r\ncontent-length: 2\r\nx: ";
-    let mut came = Vec::from_slice(alloc, front)?;
-    came.resize(size.max(front.len() + 4) - 4, b'y')?;
-    came.extend_from_slice(b"\r\n\r\nab")?;
-    Ok(came)
+// A reply whose head has so many fields, and at least so many bytes.
+fn made(alloc: Global, fields: usize, size: usize) -> Result<Vec<u8>, AllocError> {
+    let mut reply = Vec::from_slice(alloc, b"HTTP/1.1 200 OK\r\ncontent-length: 2\r\n")?;
+    for _ in 2..fields {
+        reply.extend_from_slice(b"x: y\r\n")?;
+    }
+    reply.extend_from_slice(b"x: y")?;
+    reply.resize(reply.len().max(size.saturating_sub(4)), b'y')?;
+    reply.extend_from_slice(b"\r\n\r\nab")?;
+    Ok(reply)
 }
 
-const AB: Got<'static> = Got::Reply(200, b"ab");
+// How many fields, how many bytes, and what the exchange gives.
+const LIMITS: [(usize, usize, &str); 5] = [
+    (2, 16_383, "200 ab"),
+    (2, 16_384, "200 ab"),
+    (2, 16_385, "BadReply"),
+    (64, 0, "200 ab"),
+    (65, 0, "BadReply"),
+];
 
-const SIZES: [(usize, Got<'static>); 3] = [(16_383, AB), (16_384, AB), (16_385, Got::BadReply)];
-
-fn padded_gives<'a>(alloc: Global, size: usize, got: Got<'a>) -> Result<bool, Fail> {
-    let came = padded(alloc, size)?;
-    gives(alloc, &came, got)
+fn limit_row<R: Abort>(
+    rt: &R,
+    alloc: Global,
+    fields: usize,
+    size: usize,
+    want: &str,
+) -> Result<(), Fail> {
+    let reply = made(alloc, fields, size)?;
+    assert_came(rt, alloc, &reply, &[], want, &(fields, size))
 }
 
 #[test]
-fn the_longest_head(rt: HostRuntime) -> Result<(), Fail> {
-    for (size, got) in &SIZES {
-        assert!(rt; padded_gives(rt.alloc(), *size, *got)?, "{size}");
-    }
-    Ok(())
-}
-
-// A reply whose head has so many fields.
-fn with_fields(alloc: Global, count: usize) -> Result<Vec<u8>, AllocError> {
-    let mut came = Vec::from_slice(alloc, b"HTTP/1.1 200 OK\r\n")?;
-    for _ in 1..count {
-        came.extend_from_slice(b"x: y\r\n")?;
-    }
-    came.extend_from_slice(b"content-length: 2\r\n\r\nab")?;
-    Ok(came)
-}
-
-const FIELDS: [(usize, Got<'static>); 2] = [(64, AB), (65, Got::BadReply)];
-
-fn fields_give<'a>(alloc: Global, count: usize, got: Got<'a>) -> Result<bool, Fail> {
-    let came = with_fields(alloc, count)?;
-    gives(alloc, &came, got)
-}
-
-#[test]
-fn the_most_fields(rt: HostRuntime) -> Result<(), Fail> {
-    for (count, got) in &FIELDS {
-        assert!(rt; fields_give(rt.alloc(), *count, *got)?, "{count}");
+fn the_longest_head_and_the_most_fields(rt: HostRuntime) -> Result<(), Fail> {
+    for (fields, size, want) in &LIMITS {
+        limit_row(&rt, rt.alloc(), *fields, *size, want)?;
     }
     Ok(())
 }
@@ -514,58 +339,35 @@ fn longest(alloc: Global) -> Result<Vec<u8>, AllocError> {
     Ok(came)
 }
 
-fn is_longest(answer: &Result<Incoming, ClientFault>) -> bool {
-    match answer {
-        Ok(incoming) => {
-            incoming.body.len() == 4_194_304 && incoming.body.as_slice().iter().all(|b| *b == b'z')
-        }
-        Err(_) => false,
+fn is_longest(told: &str) -> bool {
+    match told.strip_prefix("200 ") {
+        Some(body) => body.len() == 4_194_304 && body.bytes().all(|b| b == b'z'),
+        None => false,
     }
 }
 
-fn answers_longest(alloc: Global, link: &mut MemoryLink, out: &Message) -> bool {
-    let answer = exchange(alloc, link, out);
-    let is_longest = is_longest(&answer);
-    drop(answer);
-    is_longest
-}
-
-fn link_of_longest(alloc: Global) -> Result<MemoryLink, NoMemory> {
-    let came = longest(alloc)?;
-    link_of(alloc, &came)
-}
-
-fn assert_longest<R: Abort>(rt: &R, alloc: Global, link: &mut MemoryLink) -> Result<(), Fail> {
-    let out = finish()?;
-    assert!(rt; answers_longest(alloc, link, &out));
-    drop(out);
-    Ok(())
-}
-
-fn assert_left<R: Abort>(rt: &R, link: &MemoryLink, left: &[u8]) {
-    assert_eq!(rt; link.left(), left);
+// What an exchange gives if these bytes come, of which those are left.
+fn came_before<R: Abort>(rt: &R, alloc: Global, came: &[u8], left: &[u8]) -> Result<String, Fail> {
+    let mut link = link_of(alloc, came, &[], &[])?;
+    let told = finished(alloc, &mut link);
+    same(rt, &"left", link.left(), left);
+    drop(link);
+    told
 }
 
 // Of further bytes those that came with the head are dropped, the others left.
 #[test]
 fn the_longest_body(rt: HostRuntime) -> Result<(), Fail> {
-    let mut link = link_of_longest(rt.alloc())?;
-    let exchanged = assert_longest(&rt, rt.alloc(), &mut link);
-    assert_left(&rt, &link, b"behind");
-    drop(link);
-    exchanged
-}
-
-fn assert_bare<R: Abort>(rt: &R, alloc: Global, link: &mut MemoryLink) -> Result<(), Fail> {
-    assert!(rt; link_gives(alloc, link, BARE)?);
-    assert_eq!(rt; link.left().len(), 0);
+    let came = longest(rt.alloc())?;
+    let told = came_before(&rt, rt.alloc(), &came, b"behind")?;
+    assert!(rt; is_longest(told.as_str()));
     Ok(())
 }
 
 #[test]
 fn bytes_behind_a_head(rt: HostRuntime) -> Result<(), Fail> {
-    let mut link = link_of(rt.alloc(), b"HTTP/1.1 204 No Content\r\n\r\nbehind")?;
-    let exchanged = assert_bare(&rt, rt.alloc(), &mut link);
-    drop(link);
-    exchanged
+    let came = b"HTTP/1.1 204 No Content\r\n\r\nbehind";
+    let told = came_before(&rt, rt.alloc(), came, b"")?;
+    same(&rt, &"a 204", told.as_str(), "204 ");
+    Ok(())
 }

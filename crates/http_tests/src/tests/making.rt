@@ -1,7 +1,9 @@
-//! Bytes, links in memory, and names.
+//! Bytes, links in memory, the cells of a row, and names.
 use ebl_base::{ByteList, CallList, Checksum, NoMemory, Reference};
 use ebl_edge::{MemoryLink, PieceList};
 use std::alloc::Global;
+use std::fmt::Debug;
+use std::process::Abort;
 
 /// 11111111-1111-1111-1111-111111111111.
 pub(crate) const REFERENCE: Reference = Reference([0x11; 16]);
@@ -18,7 +20,7 @@ pub(crate) fn joined(alloc: Global, parts: &[&[u8]]) -> Result<Vec<u8>, NoMemory
 }
 
 /// A link that hands out these bytes in pieces of these sizes, and fails at these calls.
-pub(crate) fn failing_link(
+pub(crate) fn link_of(
     alloc: Global,
     input: &[u8],
     pieces: &[usize],
@@ -30,11 +32,20 @@ pub(crate) fn failing_link(
     Ok(MemoryLink::in_pieces(alloc, bytes, pieces, fails))
 }
 
-/// A link that hands out these bytes in pieces of these sizes.
-pub(crate) fn link_of(
-    alloc: Global,
-    input: &[u8],
-    pieces: &[usize],
-) -> Result<MemoryLink, NoMemory> {
-    failing_link(alloc, input, pieces, &[])
+/// The value is the one that is expected. A message names the row.
+pub(crate) fn same<R: Abort, N: Debug, T: Copy + Debug + PartialEq>(
+    rt: &R,
+    row: &N,
+    seen: T,
+    want: T,
+) {
+    assert_eq!(rt; seen, want, "{row:?}");
+}
+
+/// What stands in front of a row's first bar, and what behind it. The rows of a text end with `~`.
+pub(crate) fn cells<'a, R: Abort>(rt: &R, row: &'a str) -> (&'a str, &'a str) {
+    match row.split_once('|') {
+        Some(cells) => cells,
+        None => panic!(rt; "no bar in {row:?}"),
+    }
 }

@@ -1,20 +1,16 @@
 //! Whole sessions over links in memory.
 mod cuts;
-mod heads;
 mod outcomes;
 mod rows;
 
-use crate::tests::making::link_of;
+use crate::tests::making::{link_of, same};
 use ebl_base::{Moment, Party, Reference};
 use ebl_edge::{MemoryClock, MemoryLink};
 use pint_http::{LinkEnd, serve_link};
-use platform_requests::{MemoryDesk, MessageList, Outcome, Reply};
-use std::alloc::{AllocError, Global};
+use platform_requests::{MemoryDesk, Outcome};
+use std::alloc::Global;
 use std::process::Abort;
 use std::test::Fail;
-
-const NOT_FOUND: &[u8] =
-    b"HTTP/1.1 404 Not Found\r\ncontent-length: 0\r\nconnection: close\r\n\r\n";
 
 const KNOWN: &[u8] =
     b"HTTP/1.1 200 OK\r\ncontent-type: application/json\r\ncontent-length: 14\r\n\r\n{\"known\":true}";
@@ -32,13 +28,6 @@ const REFERENCE: Reference = Reference([
     0x00, 0x11, 0x22, 0x33, 0x44, 0x55, 0x66, 0x77, 0x88, 0x99, 0xaa, 0xbb, 0xcc, 0xdd, 0xee, 0xff,
 ]);
 
-fn plain(alloc: Global, reply: Reply) -> Outcome {
-    Outcome {
-        reply,
-        messages: MessageList::new(alloc),
-    }
-}
-
 // The one party that a desk knows: `BETA/IMPORT`.
 fn importers(alloc: Global) -> Result<Vec<Party>, Fail> {
     let party = Party::from_text(b"BETA/IMPORT").ok_or("a party")?;
@@ -47,100 +36,78 @@ fn importers(alloc: Global) -> Result<Vec<Party>, Fail> {
 
 // A desk that knows `BETA/IMPORT`.
 fn desk_with(alloc: Global, outcomes: Vec<Outcome>) -> Result<MemoryDesk, Fail> {
-    let parties = importers(alloc)?;
-    Ok(MemoryDesk::new(alloc, outcomes, parties))
+    match importers(alloc) {
+        Ok(parties) => Ok(MemoryDesk::new(alloc, outcomes, parties)),
+        Err(fail) => {
+            drop(outcomes);
+            Err(fail)
+        }
+    }
 }
 
 // One that has no outcome.
 fn bare_desk(alloc: Global) -> Result<MemoryDesk, Fail> {
-    desk_with(alloc, Vec::new(alloc))
+    let parties = importers(alloc)?;
+    Ok(MemoryDesk::new(alloc, Vec::new(alloc), parties))
 }
 
-fn clock() -> Result<MemoryClock, Fail> {
-    Ok(MemoryClock::new(Moment::try_new(1000).ok_or("a moment")?))
-}
-
-// How a session over this link ends.
-fn serve(
-    alloc: Global,
-    link: &mut MemoryLink,
-    desk: &mut MemoryDesk,
-    clock: &mut MemoryClock,
-) -> LinkEnd {
-    serve_link(alloc, link, desk, clock)
-}
-
-// Serves a session, and asserts how it ends and what it writes.
-fn assert_served<R: Abort>(
+// Serves a session, and asserts how it ends and what it writes; how often the clock was asked.
+fn served<R: Abort>(
     rt: &R,
     alloc: Global,
     link: &mut MemoryLink,
     desk: &mut MemoryDesk,
-    clock: &mut MemoryClock,
     end: LinkEnd,
     written: &[u8],
-) {
-    assert_eq!(rt; serve(alloc, link, desk, clock), end);
-    assert_eq!(rt; link.written(), written);
+) -> Result<u64, Fail> {
+    let mut clock = MemoryClock::new(Moment::try_new(1000).ok_or("a moment")?);
+    let seen = serve_link(alloc, link, desk, &mut clock);
+    let text = str::from_utf8(written).unwrap_or("replies");
+    same(rt, &text, (seen, link.written()), (end, written));
+    Ok(clock.calls())
 }
 
-// The same over this link, with a desk that has no outcome.
-fn assert_session<R: Abort>(
+// The same with a desk that has no outcome.
+fn served_bare<R: Abort>(
     rt: &R,
     alloc: Global,
     link: &mut MemoryLink,
     end: LinkEnd,
     written: &[u8],
-) -> Result<(), Fail> {
-    let mut clock = clock()?;
+) -> Result<u64, Fail> {
     let mut desk = bare_desk(alloc)?;
-    assert_served(rt, alloc, link, &mut desk, &mut clock, end, written);
+    let calls = served(rt, alloc, link, &mut desk, end, written);
     drop(desk);
-    Ok(())
+    calls
 }
 
-fn assert_faultless<R: Abort>(rt: &R, link: &MemoryLink) {
-    assert_eq!(rt; link.faults(), 0);
+// The same over a link of these bytes in pieces of these sizes, which doesn't fail.
+fn session<R: Abort>(
+    rt: &R,
+    alloc: Global,
+    input: &[u8],
+    pieces: &[usize],
+    end: LinkEnd,
+    written: &[u8],
+) -> Result<u64, Fail> {
+    let mut link = link_of(alloc, input, pieces, &[])?;
+    let calls = served_bare(rt, alloc, &mut link, end, written);
+    same(rt, &"faults", link.faults(), 0);
+    drop(link);
+    calls
 }
 
-// The same with this desk, over a link that doesn't fail.
+// A session over such a link that ends behind the input, with this desk.
 fn session_with<R: Abort>(
     rt: &R,
     alloc: Global,
     input: &[u8],
     desk: &mut MemoryDesk,
-    end: LinkEnd,
     written: &[u8],
-) -> Result<(), Fail> {
-    let mut clock = clock()?;
-    let mut link = link_of(alloc, input, &[])?;
-    assert_served(rt, alloc, &mut link, desk, &mut clock, end, written);
-    assert_faultless(rt, &link);
+) -> Result<u64, Fail> {
+    let mut link = link_of(alloc, input, &[], &[])?;
+    let calls = served(rt, alloc, &mut link, desk, LinkEnd::Closed, written);
+    same(rt, &"faults", link.faults(), 0);
     drop(link);
-    Ok(())
-}
-
-// The same with a desk that has no outcome.
-fn session_row<R: Abort>(
-    rt: &R,
-    alloc: Global,
-    input: &[u8],
-    end: LinkEnd,
-    written: &[u8],
-) -> Result<(), Fail> {
-    let mut desk = bare_desk(alloc)?;
-    let served = session_with(rt, alloc, input, &mut desk, end, written);
-    drop(desk);
-    served
-}
-
-// The reply of this status that closes the link.
-fn closing_reply(alloc: Global, line: &str) -> Result<String, AllocError> {
-    format!(in alloc; "HTTP/1.1 {line}\r\ncontent-length: 0\r\nconnection: close\r\n\r\n")
-}
-
-// A session whose one reply closes the link.
-fn refused_row<R: Abort>(rt: &R, alloc: Global, input: &[u8], line: &str) -> Result<(), Fail> {
-    let text = closing_reply(alloc, line)?;
-    session_row(rt, alloc, input, LinkEnd::Closed, text.as_bytes())
+    calls
 }

@@ -1,8 +1,5 @@
 //! A session however its bytes come, and where it ends.
-use crate::tests::making::{joined, link_of};
-use crate::tests::sessions::{
-    FINISH, KNOWN, UNKNOWN_REFERENCE, VALIDATION, assert_session, session_row,
-};
+use crate::tests::sessions::{FINISH, KNOWN, UNKNOWN_REFERENCE, VALIDATION, served_bare, session};
 use ebl_base::{ByteList, CallList, NoMemory};
 use ebl_edge::{MemoryLink, PieceList};
 use pint_http::LinkEnd;
@@ -10,41 +7,34 @@ use std::alloc::Global;
 use std::process::Abort;
 use std::test::Fail;
 
-// Three requests, with an empty line between two of them.
-fn three_requests(alloc: Global) -> Result<Vec<u8>, NoMemory> {
-    joined(alloc, &[VALIDATION, FINISH, b"\r\n", VALIDATION])
-}
+// A validation, a finish, an empty line, and a validation.
+const REQUESTS: &[u8] =
+    b"POST /v3/receiver-validation HTTP/1.1\r\nContent-Length: 23\r\n\r\n{\"party\":\"BETA/IMPORT\"}\
+    PUT /v3/envelopes/00112233-4455-6677-8899-aabbccddeeff/finish-transfer HTTP/1.1\r\n\r\n\
+    \r\n\
+    POST /v3/receiver-validation HTTP/1.1\r\nContent-Length: 23\r\n\r\n{\"party\":\"BETA/IMPORT\"}";
 
-fn three_replies(alloc: Global) -> Result<Vec<u8>, NoMemory> {
-    joined(alloc, &[KNOWN, UNKNOWN_REFERENCE, KNOWN])
-}
+const REPLIES: &[u8] =
+    b"HTTP/1.1 200 OK\r\ncontent-type: application/json\r\ncontent-length: 14\r\n\r\n{\"known\":true}\
+    HTTP/1.1 404 Not Found\r\ncontent-length: 0\r\n\r\n\
+    HTTP/1.1 200 OK\r\ncontent-type: application/json\r\ncontent-length: 14\r\n\r\n{\"known\":true}";
 
-fn pieces_row<R: Abort>(
-    rt: &R,
-    alloc: Global,
-    input: &[u8],
-    pieces: &[usize],
-    replies: &[u8],
-) -> Result<(), Fail> {
-    let mut link = link_of(alloc, input, pieces)?;
-    let served = assert_session(rt, alloc, &mut link, LinkEnd::Closed, replies);
-    drop(link);
-    served
-}
+// Where the first request ends, and the second; and the replies to them.
+const FIRST: usize = VALIDATION.len();
+
+const SECOND: usize = VALIDATION.len() + FINISH.len();
+
+const FIRST_REPLY: usize = KNOWN.len();
+
+const SECOND_REPLY: usize = KNOWN.len() + UNKNOWN_REFERENCE.len();
 
 // The requests in two pieces, cut at each byte.
-fn cut_rows<R: Abort>(rt: &R, alloc: Global, input: &[u8], replies: &[u8]) -> Result<(), Fail> {
-    for at in 1..input.len() {
-        pieces_row(rt, alloc, input, &[at], replies)?;
-    }
-    Ok(())
-}
-
 #[test]
 fn a_session_cut_at_each_byte(rt: HostRuntime) -> Result<(), Fail> {
-    let input = three_requests(rt.alloc())?;
-    let replies = three_replies(rt.alloc())?;
-    cut_rows(&rt, rt.alloc(), &input, &replies)
+    for at in 1..REQUESTS.len() {
+        let _ = session(&rt, rt.alloc(), REQUESTS, &[at], LinkEnd::Closed, REPLIES)?;
+    }
+    Ok(())
 }
 
 // Sizes by a linear congruential generator, from 1 to 32.
@@ -58,158 +48,93 @@ fn made_sizes(alloc: Global, seed: u32) -> Result<Vec<usize>, NoMemory> {
     Ok(sizes)
 }
 
-fn made_row<R: Abort>(
-    rt: &R,
-    alloc: Global,
-    input: &[u8],
-    seed: u32,
-    replies: &[u8],
-) -> Result<(), Fail> {
+fn made_row<R: Abort>(rt: &R, alloc: Global, seed: u32) -> Result<u64, Fail> {
     let sizes = made_sizes(alloc, seed)?;
-    pieces_row(rt, alloc, input, &sizes, replies)
-}
-
-fn made_rows<R: Abort>(rt: &R, alloc: Global, input: &[u8], replies: &[u8]) -> Result<(), Fail> {
-    for seed in 0..100 {
-        made_row(rt, alloc, input, seed, replies)?;
-    }
-    Ok(())
+    session(rt, alloc, REQUESTS, &sizes, LinkEnd::Closed, REPLIES)
 }
 
 #[test]
 fn a_session_in_made_pieces(rt: HostRuntime) -> Result<(), Fail> {
-    let input = three_requests(rt.alloc())?;
-    let replies = three_replies(rt.alloc())?;
-    made_rows(&rt, rt.alloc(), &input, &replies)
-}
-
-// So many bytes came and no more, up to this number, of which only the first ends a request; and the replies by then.
-type Ending = (usize, usize, &'static [&'static [u8]]);
-
-const ENDINGS: [Ending; 3] = [
-    (0, VALIDATION.len(), &[]),
-    (VALIDATION.len(), VALIDATION.len() + FINISH.len(), &[KNOWN]),
-    (
-        VALIDATION.len() + FINISH.len(),
-        2 * VALIDATION.len() + FINISH.len() + 2,
-        &[KNOWN, UNKNOWN_REFERENCE],
-    ),
-];
-
-// How the session ends behind so many bytes, of which the first number ends a request.
-fn end_behind(at: usize, from: usize) -> LinkEnd {
-    if at == from {
-        LinkEnd::Closed
-    } else {
-        LinkEnd::Cut
-    }
-}
-
-fn ending_row<R: Abort>(
-    rt: &R,
-    alloc: Global,
-    input: &[u8],
-    at: usize,
-    end: LinkEnd,
-    written: &[u8],
-) -> Result<(), Fail> {
-    let front = input.get(..at).ok_or("a front")?;
-    session_row(rt, alloc, front, end, written)
-}
-
-fn endings_between<R: Abort>(
-    rt: &R,
-    alloc: Global,
-    input: &[u8],
-    range: (usize, usize),
-    written: &[u8],
-) -> Result<(), Fail> {
-    let (from, to) = range;
-    for at in from..to {
-        ending_row(rt, alloc, input, at, end_behind(at, from), written)?;
+    for seed in 0..100 {
+        let _ = made_row(&rt, rt.alloc(), seed)?;
     }
     Ok(())
 }
 
-fn ending_rows<R: Abort>(rt: &R, alloc: Global, input: &[u8], ending: Ending) -> Result<(), Fail> {
-    let (from, to, replies) = ending;
-    let written = joined(alloc, replies)?;
-    endings_between(rt, alloc, input, (from, to), &written)
+// How a session ends if so many bytes came and no more: Cut behind a part of a request, or behind the empty line.
+fn end_behind(at: usize) -> LinkEnd {
+    match at {
+        0 | FIRST | SECOND => LinkEnd::Closed,
+        _ => LinkEnd::Cut,
+    }
 }
 
-// The replies to what is whole, and Cut behind a part.
+// How many bytes of the replies are written by then: those to what is whole.
+fn written_by(at: usize) -> usize {
+    if at < FIRST {
+        0
+    } else if at < SECOND {
+        FIRST_REPLY
+    } else {
+        SECOND_REPLY
+    }
+}
+
+fn ending_row<R: Abort>(rt: &R, alloc: Global, at: usize) -> Result<u64, Fail> {
+    let front = REQUESTS.get(..at).ok_or("a front")?;
+    let written = REPLIES.get(..written_by(at)).ok_or("replies")?;
+    session(rt, alloc, front, &[], end_behind(at), written)
+}
+
 #[test]
 fn a_session_that_ends_at_each_byte(rt: HostRuntime) -> Result<(), Fail> {
-    let input = three_requests(rt.alloc())?;
-    for ending in &ENDINGS {
-        ending_rows(&rt, rt.alloc(), &input, *ending)?;
+    for at in 0..REQUESTS.len() {
+        let _ = ending_row(&rt, rt.alloc(), at)?;
     }
     Ok(())
 }
 
 // Two requests in a piece each, over a link that fails at this call. A put that fails writes half of its piece.
 fn tearing_link(alloc: Global, call: u64) -> Result<MemoryLink, NoMemory> {
-    let bytes = ByteList::from_vec(joined(alloc, &[VALIDATION, FINISH])?);
-    let pieces = PieceList::from_slice(alloc, &[VALIDATION.len()])?;
+    let bytes = ByteList::from_slice(alloc, &REQUESTS[..SECOND])?;
+    let pieces = PieceList::from_slice(alloc, &[FIRST])?;
     let fails = CallList::from_slice(alloc, &[call])?;
     Ok(MemoryLink::tearing(alloc, bytes, pieces, fails))
 }
 
-// The replies, and half of one.
-fn torn(alloc: Global, replies: &[&[u8]], last: &[u8]) -> Result<Vec<u8>, NoMemory> {
-    let mut text = joined(alloc, replies)?;
-    text.extend_from_slice(&last[..last.len() / 2])?;
-    Ok(text)
-}
+// The call that fails, how the session ends, and how many bytes of the replies are written. The calls of the link are
+// a read, a put, a read, a put and a read.
+const FAILURES: [(u64, LinkEnd, usize); 6] = [
+    (0, LinkEnd::ReadFault, 0),
+    (1, LinkEnd::WriteFault, FIRST_REPLY / 2),
+    (2, LinkEnd::ReadFault, FIRST_REPLY),
+    (
+        3,
+        LinkEnd::WriteFault,
+        FIRST_REPLY + UNKNOWN_REFERENCE.len() / 2,
+    ),
+    (4, LinkEnd::ReadFault, SECOND_REPLY),
+    (5, LinkEnd::Closed, SECOND_REPLY),
+];
 
-// The call that fails, how the session ends, the replies that are written, and one of which half is.
-type Failure = (u64, LinkEnd, &'static [&'static [u8]], &'static [u8]);
-
-fn torn_session<R: Abort>(
+fn failing_row<R: Abort>(
     rt: &R,
     alloc: Global,
     call: u64,
     end: LinkEnd,
-    written: &[u8],
-) -> Result<(), Fail> {
+    length: usize,
+) -> Result<u64, Fail> {
+    let written = REPLIES.get(..length).ok_or("replies")?;
     let mut link = tearing_link(alloc, call)?;
-    let served = assert_session(rt, alloc, &mut link, end, written);
+    let served = served_bare(rt, alloc, &mut link, end, written);
     drop(link);
     served
 }
 
-fn failing_row<R: Abort>(rt: &R, alloc: Global, failure: Failure) -> Result<(), Fail> {
-    let (call, end, replies, last) = failure;
-    let written = torn(alloc, replies, last)?;
-    torn_session(rt, alloc, call, end, &written)
-}
-
-fn failing_rows<R: Abort>(rt: &R, alloc: Global, failures: &[Failure]) -> Result<(), Fail> {
-    for failure in failures {
-        failing_row(rt, alloc, *failure)?;
+#[test]
+fn reads_and_puts_that_fail(rt: HostRuntime) -> Result<(), Fail> {
+    for (call, end, length) in &FAILURES {
+        let _ = failing_row(&rt, rt.alloc(), *call, *end, *length)?;
     }
     Ok(())
-}
-
-// The calls of the link are a read, a put, a read, a put and a read.
-const READS: [Failure; 4] = [
-    (0, LinkEnd::ReadFault, &[], b""),
-    (2, LinkEnd::ReadFault, &[KNOWN], b""),
-    (4, LinkEnd::ReadFault, &[KNOWN, UNKNOWN_REFERENCE], b""),
-    (5, LinkEnd::Closed, &[KNOWN, UNKNOWN_REFERENCE], b""),
-];
-
-#[test]
-fn reads_that_fail(rt: HostRuntime) -> Result<(), Fail> {
-    failing_rows(&rt, rt.alloc(), &READS)
-}
-
-const PUTS: [Failure; 2] = [
-    (1, LinkEnd::WriteFault, &[], KNOWN),
-    (3, LinkEnd::WriteFault, &[KNOWN], UNKNOWN_REFERENCE),
-];
-
-#[test]
-fn puts_that_fail(rt: HostRuntime) -> Result<(), Fail> {
-    failing_rows(&rt, rt.alloc(), &PUTS)
 }

@@ -1,12 +1,11 @@
 //! Each reply of a desk as its bytes; all bodies are in `replies` of the crate `form_tests`.
 use crate::tests::making::CHECKSUM;
-use crate::tests::sessions::{FINISH, REFERENCE, desk_with, plain, session_with};
+use crate::tests::sessions::{FINISH, REFERENCE, desk_with, session_with};
 use ebl_base::{
     ByteList, ChecksumList, Code, Evidence, LimitKind, NoMemory, Party, PlaceTag, SignedText,
 };
-use pint_http::LinkEnd;
 use pint_responses::Response;
-use platform_requests::{IgnoreReason, MemoryDesk, Reply, View};
+use platform_requests::{IgnoreReason, MemoryDesk, MessageList, Outcome, Reply, View};
 use std::alloc::{AllocError, Global};
 use std::process::Abort;
 use std::test::Fail;
@@ -21,180 +20,115 @@ const START: &[u8] = b"POST /v3/envelopes HTTP/1.1\r\ncontent-length: 2\r\n\r\n{
 const DOCUMENT: &[u8] =
     b"PUT /v3/envelopes/00112233445566778899aabbccddeeff/additional-documents/4444444444444444444444444444444444444444444444444444444444444444 HTTP/1.1\r\ncontent-length: 2\r\n\r\n{}";
 
+fn outcome(alloc: Global, reply: Reply) -> Outcome {
+    Outcome {
+        reply,
+        messages: MessageList::new(alloc),
+    }
+}
+
 // A desk whose one outcome gives this reply.
 fn desk_of(alloc: Global, reply: Reply) -> Result<MemoryDesk, Fail> {
     let mut outcomes = Vec::new(alloc);
-    outcomes.push(plain(alloc, reply))?;
+    outcomes.push(outcome(alloc, reply))?;
     desk_with(alloc, outcomes)
 }
 
 // The bytes of the reply that such a desk gives.
-fn reply_row(
-    rt: &impl Abort,
+fn reply_row<R: Abort>(
+    rt: &R,
     alloc: Global,
     input: &[u8],
     reply: Reply,
     written: &[u8],
 ) -> Result<(), Fail> {
     let mut desk = desk_of(alloc, reply)?;
-    let served = session_with(rt, alloc, input, &mut desk, LinkEnd::Closed, written);
+    let served = session_with(rt, alloc, input, &mut desk, written);
     drop(desk);
-    served
+    let _ = served?;
+    Ok(())
 }
 
-// The bytes of a reply without a body.
-fn bare_text(alloc: Global, line: &str) -> Result<String, AllocError> {
-    format!(in alloc; "HTTP/1.1 {line}\r\ncontent-length: 0\r\n\r\n")
+const VIEW: View = View {
+    bill: CHECKSUM,
+    place: PlaceTag::Absent,
+    entries: 0,
+    title: None,
+};
+
+// The reply of the row with this number; one of them names a party.
+fn reply_at(row: usize, party: Party) -> Reply {
+    match row {
+        0 => Reply::UnknownReference,
+        1 => Reply::Full,
+        2 => Reply::Disk,
+        3 => Reply::Damaged(7),
+        4 => Reply::Sign,
+        5 => Reply::NoMemory,
+        6 => Reply::Document(DocumentFault::NoMemory),
+        7 => Reply::NotOurs,
+        8 => Reply::NotCarrier,
+        9 => Reply::KnownBill,
+        10 => Reply::NotHere(PlaceTag::Parting),
+        11 => Reply::NotParting(PlaceTag::Gone),
+        12 => Reply::Ignored(IgnoreReason::OtherEntry),
+        13 => Reply::NoParty(party),
+        14 => Reply::NotAllowed(FoldRefusal::F7),
+        15 => Reply::Limit(LimitKind::DocumentBytes),
+        16 => Reply::Document(DocumentFault::NotTitle),
+        _ => Reply::Done(VIEW),
+    }
 }
 
-fn bare_row(rt: &impl Abort, alloc: Global, reply: Reply, line: &str) -> Result<(), Fail> {
-    let mut desk = desk_of(alloc, reply)?;
-    let served = bare_session(rt, alloc, &mut desk, line);
-    drop(desk);
-    served
-}
-
-fn bare_session(
-    rt: &impl Abort,
-    alloc: Global,
-    desk: &mut MemoryDesk,
-    line: &str,
-) -> Result<(), Fail> {
-    let text = bare_text(alloc, line)?;
-    session_with(rt, alloc, ASK, desk, LinkEnd::Closed, text.as_bytes())
-}
-
-#[test]
-fn replies_without_a_body(rt: HostRuntime) -> Result<(), Fail> {
-    let alloc = rt.alloc();
-    bare_row(&rt, alloc, Reply::UnknownReference, "404 Not Found")?;
-    bare_row(&rt, alloc, Reply::Full, "507 Insufficient Storage")?;
-    bare_row(&rt, alloc, Reply::Disk, "503 Service Unavailable")?;
-    bare_row(&rt, alloc, Reply::Damaged(7), "503 Service Unavailable")?;
-    bare_row(&rt, alloc, Reply::Sign, "502 Bad Gateway")?;
-    bare_row(&rt, alloc, Reply::NoMemory, "500 Internal Server Error")?;
-    let fault = Reply::Document(DocumentFault::NoMemory);
-    bare_row(&rt, alloc, fault, "500 Internal Server Error")
-}
-
-// The bytes of a refusal, whose body is JSON.
-fn refusal_text(alloc: Global, body: &str) -> Result<String, AllocError> {
-    let length = body.len();
-    format!(in alloc;
-        "HTTP/1.1 409 Conflict\r\ncontent-type: application/json\r\ncontent-length: {length}\r\n\r\n{body}"
-    )
-}
-
-fn refusal_row(rt: &impl Abort, alloc: Global, reply: Reply, body: &str) -> Result<(), Fail> {
-    let mut desk = desk_of(alloc, reply)?;
-    let served = refusal_session(rt, alloc, &mut desk, body);
-    drop(desk);
-    served
-}
-
-fn refusal_session(
-    rt: &impl Abort,
-    alloc: Global,
-    desk: &mut MemoryDesk,
-    body: &str,
-) -> Result<(), Fail> {
-    let text = refusal_text(alloc, body)?;
-    session_with(rt, alloc, ASK, desk, LinkEnd::Closed, text.as_bytes())
-}
-
-#[test]
-fn refusals_of_one_word(rt: HostRuntime) -> Result<(), Fail> {
-    let alloc = rt.alloc();
-    refusal_row(&rt, alloc, Reply::NotOurs, r#"{"reply":"NOT_OURS"}"#)?;
-    refusal_row(&rt, alloc, Reply::NotCarrier, r#"{"reply":"NOT_CARRIER"}"#)?;
-    refusal_row(&rt, alloc, Reply::KnownBill, r#"{"reply":"KNOWN_BILL"}"#)
-}
+// The bytes of each, in the same order: of those without a body, of the refusals, and of a bill that is shown.
+const REPLIES: &str = "HTTP/1.1 404 Not Found\r\ncontent-length: 0\r\n\r\n~\
+    HTTP/1.1 507 Insufficient Storage\r\ncontent-length: 0\r\n\r\n~\
+    HTTP/1.1 503 Service Unavailable\r\ncontent-length: 0\r\n\r\n~\
+    HTTP/1.1 503 Service Unavailable\r\ncontent-length: 0\r\n\r\n~\
+    HTTP/1.1 502 Bad Gateway\r\ncontent-length: 0\r\n\r\n~\
+    HTTP/1.1 500 Internal Server Error\r\ncontent-length: 0\r\n\r\n~\
+    HTTP/1.1 500 Internal Server Error\r\ncontent-length: 0\r\n\r\n~\
+    HTTP/1.1 409 Conflict\r\ncontent-type: application/json\r\ncontent-length: 20\r\n\r\n{\"reply\":\"NOT_OURS\"}~\
+    HTTP/1.1 409 Conflict\r\ncontent-type: application/json\r\ncontent-length: 23\r\n\r\n{\"reply\":\"NOT_CARRIER\"}~\
+    HTTP/1.1 409 Conflict\r\ncontent-type: application/json\r\ncontent-length: 22\r\n\r\n{\"reply\":\"KNOWN_BILL\"}~\
+    HTTP/1.1 409 Conflict\r\ncontent-type: application/json\r\ncontent-length: 38\r\n\r\n\
+        {\"place\":\"PARTING\",\"reply\":\"NOT_HERE\"}~\
+    HTTP/1.1 409 Conflict\r\ncontent-type: application/json\r\ncontent-length: 38\r\n\r\n\
+        {\"place\":\"GONE\",\"reply\":\"NOT_PARTING\"}~\
+    HTTP/1.1 409 Conflict\r\ncontent-type: application/json\r\ncontent-length: 42\r\n\r\n\
+        {\"reason\":\"OTHER_ENTRY\",\"reply\":\"IGNORED\"}~\
+    HTTP/1.1 409 Conflict\r\ncontent-type: application/json\r\ncontent-length: 42\r\n\r\n\
+        {\"party\":\"ALPH/EXPORT\",\"reply\":\"NO_PARTY\"}~\
+    HTTP/1.1 409 Conflict\r\ncontent-type: application/json\r\ncontent-length: 35\r\n\r\n\
+        {\"reply\":\"NOT_ALLOWED\",\"rule\":\"F7\"}~\
+    HTTP/1.1 409 Conflict\r\ncontent-type: application/json\r\ncontent-length: 42\r\n\r\n\
+        {\"reply\":\"LIMIT\",\"which\":\"DOCUMENT_BYTES\"}~\
+    HTTP/1.1 409 Conflict\r\ncontent-type: application/json\r\ncontent-length: 40\r\n\r\n\
+        {\"fault\":\"NOT_TITLE\",\"reply\":\"DOCUMENT\"}~\
+    HTTP/1.1 200 OK\r\ncontent-type: application/json\r\ncontent-length: 104\r\n\r\n{\"bill\":\"4444444444444444444444444444444444444444444444444444444444444444\",\"entries\":0,\"place\":\"ABSENT\"}";
 
 #[test]
-fn refusals_by_where_a_bill_is(rt: HostRuntime) -> Result<(), Fail> {
-    let alloc = rt.alloc();
-    let parting = Reply::NotHere(PlaceTag::Parting);
-    refusal_row(
-        &rt,
-        alloc,
-        parting,
-        r#"{"place":"PARTING","reply":"NOT_HERE"}"#,
-    )?;
-    let gone = Reply::NotParting(PlaceTag::Gone);
-    refusal_row(
-        &rt,
-        alloc,
-        gone,
-        r#"{"place":"GONE","reply":"NOT_PARTING"}"#,
-    )?;
-    let ignored = Reply::Ignored(IgnoreReason::OtherEntry);
-    refusal_row(
-        &rt,
-        alloc,
-        ignored,
-        r#"{"reason":"OTHER_ENTRY","reply":"IGNORED"}"#,
-    )
-}
-
-#[test]
-fn refusals_of_a_command(rt: HostRuntime) -> Result<(), Fail> {
-    let alloc = rt.alloc();
+fn replies_to_a_question(rt: HostRuntime) -> Result<(), Fail> {
     let party = Party::from_text(b"ALPH/EXPORT").ok_or("a party")?;
-    let unknown = Reply::NoParty(party);
-    refusal_row(
-        &rt,
-        alloc,
-        unknown,
-        r#"{"party":"ALPH/EXPORT","reply":"NO_PARTY"}"#,
-    )?;
-    let refused = Reply::NotAllowed(FoldRefusal::F7);
-    refusal_row(
-        &rt,
-        alloc,
-        refused,
-        r#"{"reply":"NOT_ALLOWED","rule":"F7"}"#,
-    )?;
-    let limit = Reply::Limit(LimitKind::DocumentBytes);
-    refusal_row(
-        &rt,
-        alloc,
-        limit,
-        r#"{"reply":"LIMIT","which":"DOCUMENT_BYTES"}"#,
-    )?;
-    let fault = Reply::Document(DocumentFault::NotTitle);
-    refusal_row(
-        &rt,
-        alloc,
-        fault,
-        r#"{"fault":"NOT_TITLE","reply":"DOCUMENT"}"#,
-    )
+    for (row, text) in REPLIES.split('~').enumerate() {
+        let reply = reply_at(row, party);
+        reply_row(&rt, rt.alloc(), ASK, reply, text.as_bytes())?;
+    }
+    Ok(())
 }
 
-#[test]
-fn a_bill_that_is_shown(rt: HostRuntime) -> Result<(), Fail> {
-    let view = View {
-        bill: CHECKSUM,
-        place: PlaceTag::Absent,
-        entries: 0,
-        title: None,
-    };
-    let text =
-        b"HTTP/1.1 200 OK\r\ncontent-type: application/json\r\ncontent-length: 104\r\n\r\n{\"bill\":\"4444444444444444444444444444444444444444444444444444444444444444\",\"entries\":0,\"place\":\"ABSENT\"}";
-    reply_row(&rt, rt.alloc(), ASK, Reply::Done(view), text)
+fn started(alloc: Global) -> Result<Reply, NoMemory> {
+    Ok(Reply::Started {
+        reference: REFERENCE,
+        missing: ChecksumList::from_slice(alloc, &[CHECKSUM])?,
+    })
 }
 
 #[test]
 fn a_transfer_that_starts(rt: HostRuntime) -> Result<(), Fail> {
-    let alloc = rt.alloc();
-    let mut missing = ChecksumList::new(alloc);
-    missing.push(CHECKSUM)?;
-    let reply = Reply::Started {
-        reference: REFERENCE,
-        missing,
-    };
     let text =
         b"HTTP/1.1 201 Created\r\ncontent-type: application/json\r\ncontent-length: 131\r\n\r\n{\"missing\":[\"4444444444444444444444444444444444444444444444444444444444444444\"],\"reference\":\"00112233-4455-6677-8899-aabbccddeeff\"}";
-    reply_row(&rt, alloc, START, reply, text)
+    reply_row(&rt, rt.alloc(), START, started(rt.alloc())?, text)
 }
 
 #[test]
@@ -236,21 +170,9 @@ fn answer_text(alloc: Global, line: &str) -> Result<String, AllocError> {
 }
 
 fn answer_row<R: Abort>(rt: &R, alloc: Global, code: Code, line: &str) -> Result<(), Fail> {
-    let reply = answer_of(alloc, code)?;
-    let mut desk = desk_of(alloc, reply)?;
-    let served = answer_session(rt, alloc, &mut desk, line);
-    drop(desk);
-    served
-}
-
-fn answer_session<R: Abort>(
-    rt: &R,
-    alloc: Global,
-    desk: &mut MemoryDesk,
-    line: &str,
-) -> Result<(), Fail> {
     let text = answer_text(alloc, line)?;
-    session_with(rt, alloc, FINISH, desk, LinkEnd::Closed, text.as_bytes())
+    let reply = answer_of(alloc, code)?;
+    reply_row(rt, alloc, FINISH, reply, text.as_bytes())
 }
 
 const ANSWERS: [(Code, &str); 7] = [

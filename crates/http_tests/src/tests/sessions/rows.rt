@@ -1,113 +1,133 @@
-//! The rows that were worked by hand.
-use crate::tests::making::{joined, link_of};
+//! The rows that were worked by hand, heads that end a session, and those that don't.
+use crate::tests::making::{cells, joined, same};
 use crate::tests::sessions::{
-    FINISH, KNOWN, NOT_FOUND, REFERENCE, UNKNOWN_REFERENCE, VALIDATION, assert_served, bare_desk,
-    clock, refused_row, serve, session_row,
+    FINISH, KNOWN, REFERENCE, UNKNOWN_REFERENCE, VALIDATION, bare_desk, session, session_with,
 };
-use ebl_base::NoMemory;
-use ebl_edge::{MemoryClock, MemoryLink};
 use pint_http::LinkEnd;
-use platform_requests::{MemoryDesk, Request};
-use std::alloc::Global;
+use platform_requests::{KeptCall, MemoryDesk, Request};
+use std::alloc::{AllocError, Global};
 use std::process::Abort;
 use std::test::Fail;
 
-fn in_single_bytes(alloc: Global) -> Result<MemoryLink, NoMemory> {
-    let input = joined(alloc, &[VALIDATION, b"GET /v3/none HTTP/1.1\r\n\r\n"])?;
-    link_of(alloc, &input, &[1; 200])
-}
+// The requests and the replies of a session that ends behind the last.
+type Row = (&'static [&'static [u8]], &'static [&'static [u8]]);
 
-fn assert_calls<R: Abort>(rt: &R, clock: &MemoryClock, calls: u64) {
-    assert_eq!(rt; clock.calls(), calls);
-}
-
-// Serves a session over this link, and asserts what it writes and that the clock isn't asked.
-fn assert_unclocked<R: Abort>(
-    rt: &R,
-    alloc: Global,
-    link: &mut MemoryLink,
-    written: &[u8],
-) -> Result<(), Fail> {
-    let mut clock = clock()?;
-    let mut desk = bare_desk(alloc)?;
-    assert_served(
-        rt,
-        alloc,
-        link,
-        &mut desk,
-        &mut clock,
-        LinkEnd::Closed,
-        written,
-    );
-    drop(desk);
-    assert_calls(rt, &clock, 0);
-    Ok(())
-}
-
-#[test]
-fn http_in_single_bytes(rt: HostRuntime) -> Result<(), Fail> {
-    let written = joined(rt.alloc(), &[KNOWN, NOT_FOUND])?;
-    let mut link = in_single_bytes(rt.alloc())?;
-    let served = assert_unclocked(&rt, rt.alloc(), &mut link, &written);
-    drop(link);
-    served
-}
-
-// Heads, and the status that refuses each.
-const REFUSED: [(&[u8], &str); 5] = [
-    // A body of 4,194,305 bytes.
+const ANSWERED: [Row; 3] = [
+    // The link stays open: the second request is answered too, and the input then ends between two.
+    (&[FINISH, FINISH], &[UNKNOWN_REFERENCE, UNKNOWN_REFERENCE]),
+    // A value that only contains `close` closes nothing; a stated body of a Finish is read and ignored.
     (
-        b"POST /v3/receiver-validation HTTP/1.1\r\nContent-Length: 4194305\r\n\r\n",
-        "413 Payload Too Large",
+        &[
+            b"\r\n\nPUT /v3/envelopes/00112233445566778899aabbccddeeff/finish-transfer HTTP/1.1\r\nconnection: close, te\r\ncontent-length: 3\r\n\r\nGET",
+            VALIDATION,
+        ],
+        &[UNKNOWN_REFERENCE, KNOWN],
     ),
-    // A chunked body.
+    // A server may leave the interim reply out (RFC 9110, section 10.1.1), and writes one reply.
     (
-        b"POST /v3/receiver-validation HTTP/1.1\r\nContent-Length: 23\r\nTransfer-Encoding: chunked\r\n\r\n",
-        "501 Not Implemented",
-    ),
-    // A method that the path lacks.
-    (
-        b"DELETE /v3/envelopes HTTP/1.1\r\n\r\n",
-        "405 Method Not Allowed",
-    ),
-    // An envelope without a length.
-    (
-        b"POST /v3/envelopes HTTP/1.1\r\n\r\n",
-        "411 Length Required",
-    ),
-    // A checksum in capitals.
-    (
-        b"GET /v3/bills/44136FA355B3678A1146AD16F7E8649E94FB4FC21FE77E8310C060F61CAAFF8A HTTP/1.1\r\n\r\n",
-        "404 Not Found",
+        &[
+            b"POST /v3/receiver-validation HTTP/1.1\r\nExpect: 100-continue\r\nContent-Length: 23\r\n\r\n{\"party\":\"BETA/IMPORT\"}",
+        ],
+        &[KNOWN],
     ),
 ];
 
+fn answered_row<R: Abort>(rt: &R, alloc: Global, row: &Row) -> Result<u64, Fail> {
+    let (requests, replies) = row;
+    let input = joined(alloc, requests)?;
+    let written = joined(alloc, replies)?;
+    session(rt, alloc, &input, &[], LinkEnd::Closed, &written)
+}
+
 #[test]
-fn refused_requests(rt: HostRuntime) -> Result<(), Fail> {
-    for (head, line) in &REFUSED {
-        refused_row(&rt, rt.alloc(), head, line)?;
+fn requests_that_are_answered(rt: HostRuntime) -> Result<(), Fail> {
+    for row in &ANSWERED {
+        let _ = answered_row(&rt, rt.alloc(), row)?;
     }
     Ok(())
 }
 
-// The link stays open: the second request is answered too, and the input then ends between two.
+const SINGLE_BYTES: &[u8] =
+    b"POST /v3/receiver-validation HTTP/1.1\r\nContent-Length: 23\r\n\r\n{\"party\":\"BETA/IMPORT\"}GET /v3/none HTTP/1.1\r\n\r\n";
+
+const REPLIES: &[u8] =
+    b"HTTP/1.1 200 OK\r\ncontent-type: application/json\r\ncontent-length: 14\r\n\r\n{\"known\":true}HTTP/1.1 404 Not Found\r\ncontent-length: 0\r\nconnection: close\r\n\r\n";
+
+// The clock isn't asked.
 #[test]
-fn a_finish_of_an_unknown_reference(rt: HostRuntime) -> Result<(), Fail> {
+fn http_in_single_bytes(rt: HostRuntime) -> Result<(), Fail> {
     let alloc = rt.alloc();
-    let input = joined(alloc, &[FINISH, FINISH])?;
-    let written = joined(alloc, &[UNKNOWN_REFERENCE, UNKNOWN_REFERENCE])?;
-    session_row(&rt, alloc, &input, LinkEnd::Closed, &written)
+    let calls = session(
+        &rt,
+        alloc,
+        SINGLE_BYTES,
+        &[1; 200],
+        LinkEnd::Closed,
+        REPLIES,
+    )?;
+    same(&rt, &"calls", calls, 0);
+    Ok(())
 }
 
-// Asserts that the desk was asked once, for the finish, at this moment.
-fn assert_asked<R: Abort>(rt: &R, desk: &MemoryDesk, moment: u64) {
-    match desk.calls() {
-        Some([call]) => {
-            assert_eq!(rt; call.now.number(), moment);
-            assert!(rt; is_finish(&call.request));
-        }
-        _ => panic!(rt; "one call"),
+// In each row the status of the one reply, which closes the link, and what came: a body of 4,194,305 bytes; a chunked
+// body; a method that the path lacks; an envelope without a length; a checksum in capitals.
+const REFUSED: &str =
+    "413 Payload Too Large|POST /v3/receiver-validation HTTP/1.1\r\nContent-Length: 4194305\r\n\r\n~\
+    501 Not Implemented|POST /v3/receiver-validation HTTP/1.1\r\nContent-Length: 23\r\n\
+        Transfer-Encoding: chunked\r\n\r\n~\
+    405 Method Not Allowed|DELETE /v3/envelopes HTTP/1.1\r\n\r\n~\
+    411 Length Required|POST /v3/envelopes HTTP/1.1\r\n\r\n~\
+    404 Not Found|GET /v3/bills/44136FA355B3678A1146AD16F7E8649E94FB4FC21FE77E8310C060F61CAAFF8A HTTP/1.1\r\n\r\n";
+
+// Each is refused by its status, and by the next in order too, which stands behind the comma: the head, and a coding; a
+// coding, and no route; no route, and a method that no route has; another method, and no length; no length, where a
+// malformed one would be the next; a malformed length, and too large; two lengths, each too large; too large, and
+// malformed as far as it goes. The last is malformed.
+const IN_ORDER: &str =
+    "400 Bad Request|POST /v3/none HTTP/1.1\r\nTransfer Encoding: chunked\r\n\r\n~\
+    501 Not Implemented|GET /v3/none HTTP/1.1\r\ntransfer-encoding: gzip\r\n\r\n~\
+    404 Not Found|DELETE /v3/none HTTP/1.1\r\n\r\n~\
+    405 Method Not Allowed|PUT /v3/envelopes HTTP/1.1\r\n\r\n~\
+    411 Length Required|POST /v3/envelopes HTTP/1.1\r\nlength: +1\r\n\r\n~\
+    400 Bad Request|POST /v3/envelopes HTTP/1.1\r\nContent-Length: +4194305\r\n\r\n~\
+    400 Bad Request|POST /v3/envelopes HTTP/1.1\r\nContent-Length: 4194305\r\nContent-Length: 4194306\r\n\r\n~\
+    413 Payload Too Large|POST /v3/holder-commands HTTP/1.1\r\nContent-Length: 4194305\r\n\r\n]~\
+    400 Bad Request|POST /v3/holder-commands HTTP/1.1\r\nContent-Length: 1\r\n\r\n]";
+
+// HTTP/1.0, and a header that says so, close the link behind the reply: what follows isn't read as a request.
+const CLOSING: &str =
+    "404 Not Found|PUT /v3/envelopes/00112233445566778899aabbccddeeff/finish-transfer HTTP/1.0\r\n\r\nGET~\
+    404 Not Found|PUT /v3/envelopes/00112233445566778899aabbccddeeff/finish-transfer HTTP/1.0\r\n\
+        connection: keep-alive\r\n\r\n~\
+    404 Not Found|PUT /v3/envelopes/00112233445566778899aabbccddeeff/finish-transfer HTTP/1.1\r\n\
+        Connection: CLOSE\r\n\r\n\0~\
+    404 Not Found|PUT /v3/envelopes/00112233445566778899aabbccddeeff/finish-transfer HTTP/1.1\n\
+        connection: x\nconnection:\tclose \n\n";
+
+fn closing_reply(alloc: Global, line: &str) -> Result<String, AllocError> {
+    format!(in alloc; "HTTP/1.1 {line}\r\ncontent-length: 0\r\nconnection: close\r\n\r\n")
+}
+
+fn refused_row<R: Abort>(rt: &R, alloc: Global, row: &str) -> Result<u64, Fail> {
+    let (line, input) = cells(rt, row);
+    let written = closing_reply(alloc, line)?;
+    let (input, written) = (input.as_bytes(), written.as_bytes());
+    session(rt, alloc, input, &[], LinkEnd::Closed, written)
+}
+
+fn refused_rows<R: Abort>(rt: &R, alloc: Global, rows: &str) -> Result<(), Fail> {
+    for row in rows.split('~') {
+        let _ = refused_row(rt, alloc, row)?;
     }
+    Ok(())
+}
+
+#[test]
+fn replies_that_close_the_link(rt: HostRuntime) -> Result<(), Fail> {
+    for rows in &[REFUSED, IN_ORDER, CLOSING] {
+        refused_rows(&rt, rt.alloc(), rows)?;
+    }
+    Ok(())
 }
 
 fn is_finish(request: &Request) -> bool {
@@ -117,22 +137,25 @@ fn is_finish(request: &Request) -> bool {
     }
 }
 
-// Serves a session of a finish, for which the clock is asked once.
-fn serve_finish<R: Abort>(rt: &R, alloc: Global, desk: &mut MemoryDesk) -> Result<(), Fail> {
-    let mut clock = clock()?;
-    let mut link = link_of(alloc, FINISH, &[])?;
-    let _ = serve(alloc, &mut link, desk, &mut clock);
-    drop(link);
-    assert_calls(rt, &clock, 1);
-    Ok(())
+// The moment of a call, and whether it was the finish.
+fn call_told(call: &KeptCall) -> (u64, bool) {
+    (call.now.number(), is_finish(&call.request))
 }
 
-// The desk keeps what it was asked, at the clock's moment.
+fn assert_asked<R: Abort>(rt: &R, desk: &MemoryDesk) {
+    match desk.calls() {
+        Some([call]) => same(rt, &"call", call_told(call), (1000, true)),
+        _ => panic!(rt; "one call"),
+    }
+}
+
+// The desk keeps what it was asked, at the moment of the clock, which is asked once.
 #[test]
 fn a_desk_is_asked_once(rt: HostRuntime) -> Result<(), Fail> {
     let mut desk = bare_desk(rt.alloc())?;
-    let served = serve_finish(&rt, rt.alloc(), &mut desk);
-    assert_asked(&rt, &desk, 1000);
+    let calls = session_with(&rt, rt.alloc(), FINISH, &mut desk, UNKNOWN_REFERENCE);
+    assert_asked(&rt, &desk);
     drop(desk);
-    served
+    same(&rt, &"calls", calls?, 1);
+    Ok(())
 }
