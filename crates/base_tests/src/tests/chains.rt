@@ -75,18 +75,19 @@ fn two_links(alloc: Global, second: u8) -> Result<Chain, Fail> {
 
 fn assert_names(rt: &impl Abort, links: &[ChainLink]) {
     let last = last_link(links).map(|link| link.name);
-    same(rt, &"last", last, Some(Checksum([2; 32])));
-    assert!(rt; ends_in(links, Checksum([2; 32])));
-    assert!(rt; has_entry(links, Checksum([1; 32])));
-    assert!(rt; !has_entry(links, Checksum([3; 32])));
+    let ends = ends_in(links, Checksum([2; 32]));
+    let has = has_entry(links, Checksum([1; 32]));
+    let has_other = has_entry(links, Checksum([3; 32]));
+    let want = (Some(Checksum([2; 32])), true, true, false);
+    same(rt, &"names", (last, ends, has, has_other), want);
 }
 
 // Two chains part after their first entries.
 fn assert_parting(rt: &impl Abort, links: &[ChainLink], others: &[ChainLink]) -> Result<(), Fail> {
-    same(rt, &"front", common_front(links, others), 1);
-    assert!(rt; !goes_beyond(links, others));
     let front = links.get(..1).ok_or("a front")?;
-    assert!(rt; goes_beyond(front, others));
+    let beyond = (goes_beyond(links, others), goes_beyond(front, others));
+    same(rt, &"front", common_front(links, others), 1);
+    same(rt, &"beyond", beyond, (false, true));
     Ok(())
 }
 
@@ -99,14 +100,15 @@ fn names_of_a_chain(rt: HostRuntime) -> Result<(), Fail> {
 }
 
 fn assert_title(rt: &impl Abort, links: &[ChainLink], bank: Party, again: Transaction) {
+    let after = fold_after_chain(links, &[again]);
     same(rt, &"possessor", possessor_after(links), Some(bank));
     same(rt, &"destination", destination(links), Some(bank.platform));
-    assert_eq!(rt; fold_after_chain(links, &[again]), Err(FoldRefusal::F7));
+    same(rt, &"title", after, Err(FoldRefusal::F7));
 }
 
 fn assert_no_title(rt: &impl Abort) {
-    assert_eq!(rt; destination(&[]), None);
-    assert_eq!(rt; fold_after_chain(&[], &[]), Ok(None));
+    same(rt, &"destination", destination(&[]), None);
+    same(rt, &"title", fold_after_chain(&[], &[]), Ok(None));
 }
 
 #[test]

@@ -65,7 +65,7 @@ const LENGTHS: [(usize, &str); 6] = [
 fn length_row(rt: &impl Abort, alloc: Global, length: usize, want: &str) -> Result<(), AllocError> {
     let text = vec![in alloc; b'a'; length]?;
     let name = to_text(checksum(&text));
-    assert_eq!(rt; name.as_slice(), want.as_bytes(), "of {length}");
+    same(rt, &length, name.as_slice(), want.as_bytes());
     Ok(())
 }
 

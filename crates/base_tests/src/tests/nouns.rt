@@ -1,42 +1,59 @@
 //! What no contract says: edges of the forms, and copies that are made when memory is there.
-use crate::tests::comparing::{same, same_at};
+use crate::tests::comparing::{same, same_at, same_bytes};
 use crate::tests::making::party;
 use ebl_base::{
     ByteList, CallList, Calls, CarrierCode, Chain, ChainLink, CharList, Checksum, ChecksumList,
     Copied, Entry, Evidence, Kind, Moment, Name35, NoMemory, Party, PlatformCode, SignedText,
     Transaction, TransactionList, first_segment,
 };
-use std::alloc::Global;
+use std::alloc::{AllocError, Global};
+use std::fmt::Debug;
 use std::process::Abort;
 use std::test::Fail;
 
 const LONGEST: &[u8] = b"ABCDEFGHIJKLMNOPQRSTUVWXYZ-_0123456";
 
-const CODES: [(&[u8], bool); 6] = [
-    (b"ALPH", true),
-    (b"0A9Z", true),
-    (b"ALP", false),
-    (b"ALPHA", false),
-    (b"alph", false),
-    (b"AL-H", false),
-];
+// Whether a text is a code, a name or a party, what it is tried as, and the text. The first name is the longest.
+const FORMS: &str = "true|code|ALPH\n\
+    true|code|0A9Z\n\
+    false|code|ALP\n\
+    false|code|ALPHA\n\
+    false|code|alph\n\
+    false|code|AL-H\n\
+    true|name|ABCDEFGHIJKLMNOPQRSTUVWXYZ-_0123456\n\
+    true|name|A\n\
+    false|name|\n\
+    false|name|ABCDEFGHIJKLMNOPQRSTUVWXYZ-_01234567\n\
+    false|name|EXPORTER A\n\
+    false|name|exporter\n\
+    true|party|ALPH/EXPORT\n\
+    false|party|ALPH/\n\
+    false|party|ALPH-EXPORT\n\
+    false|party|ALP/EXPORT\n\
+    false|party|ALPH/EX/PORT";
 
-const NAMES: [(&[u8], bool); 6] = [
-    (LONGEST, true),
-    (b"A", true),
-    (b"", false),
-    (b"ABCDEFGHIJKLMNOPQRSTUVWXYZ-_01234567", false),
-    (b"EXPORTER A", false),
-    (b"exporter", false),
-];
+fn is_form(form: &str, text: &[u8]) -> bool {
+    match form {
+        "code" => PlatformCode::try_new(text).is_some(),
+        "name" => Name35::try_new(text).is_some(),
+        _ => Party::from_text(text).is_some(),
+    }
+}
 
-const PARTIES: [(&[u8], bool); 5] = [
-    (b"ALPH/EXPORT", true),
-    (b"ALPH/", false),
-    (b"ALPH-EXPORT", false),
-    (b"ALP/EXPORT", false),
-    (b"ALPH/EX/PORT", false),
-];
+fn form_row(rt: &impl Abort, row: &str) -> Result<(), Fail> {
+    let (want, rest) = row.split_once('|').ok_or("a bar")?;
+    let (form, text) = rest.split_once('|').ok_or("a second bar")?;
+    same(rt, &row, is_form(form, text.as_bytes()), want == "true");
+    Ok(())
+}
+
+#[test]
+fn forms(rt: HostRuntime) -> Result<(), Fail> {
+    for row in FORMS.lines() {
+        form_row(&rt, row)?;
+    }
+    Ok(())
+}
 
 const MOMENTS: [(u64, bool); 3] = [
     (0, true),
@@ -45,25 +62,16 @@ const MOMENTS: [(u64, bool); 3] = [
 ];
 
 #[test]
-fn forms(rt: HostRuntime) {
-    for &(text, is_code) in &CODES {
-        same_at(&rt, &text, PlatformCode::try_new(text).is_some(), is_code);
-    }
-    for &(text, is_name) in &NAMES {
-        same_at(&rt, &text, Name35::try_new(text).is_some(), is_name);
-    }
-    for &(text, is_party) in &PARTIES {
-        same_at(&rt, &text, Party::from_text(text).is_some(), is_party);
-    }
+fn moments(rt: HostRuntime) {
     for &(number, is_moment) in &MOMENTS {
         same(&rt, &number, Moment::try_new(number).is_some(), is_moment);
     }
 }
 
 fn assert_party(rt: &impl Abort, party: &Party) {
-    assert!(rt; party.to_text().as_str() == "ALPH/EXPORT");
-    assert!(rt; party.platform.as_str() == "ALPH");
-    assert!(rt; party.code.as_bytes() == b"EXPORT".as_slice());
+    let text = party.to_text();
+    let seen = (text.as_str(), party.platform.as_str(), party.code.as_str());
+    same(rt, &"texts", seen, ("ALPH/EXPORT", "ALPH", "EXPORT"));
 }
 
 #[test]
@@ -113,30 +121,22 @@ fn kinds(rt: HostRuntime) {
     }
 }
 
-// A text, its first part, and what stands behind it.
-const PARTS: [(&[u8], &[u8], &[u8]); 4] = [
-    (b"a\nb", b"a", b"b"),
-    (b"a\n", b"a", b""),
-    (b"a", b"a", b""),
-    (b"\n\n", b"", b"\n"),
-];
+// A text, and its first part and what stands behind it, if it has a part.
+type Parted = (&'static [u8], Option<(&'static [u8], &'static [u8])>);
 
-fn part_row(rt: &impl Abort, text: &[u8], part: &[u8], rest: &[u8]) {
-    match first_segment(b'\n', text) {
-        Some((front, behind)) => {
-            assert!(rt; front == part, "{text:?}");
-            assert!(rt; behind == rest, "{text:?}");
-        }
-        None => assert!(rt; false, "{text:?} has a part"),
-    }
-}
+const PARTS: [Parted; 5] = [
+    (b"a\nb", Some((b"a", b"b"))),
+    (b"a\n", Some((b"a", b""))),
+    (b"a", Some((b"a", b""))),
+    (b"\n\n", Some((b"", b"\n"))),
+    (b"", None),
+];
 
 #[test]
 fn parts(rt: HostRuntime) {
-    for &(text, part, rest) in &PARTS {
-        part_row(&rt, text, part, rest);
+    for &(text, want) in &PARTS {
+        same_at(&rt, &text, first_segment(b'\n', text), want);
     }
-    assert!(rt; first_segment(b'\n', b"").is_none());
 }
 
 fn three_bytes(alloc: Global) -> Result<ByteList, NoMemory> {
@@ -147,13 +147,13 @@ fn three_bytes(alloc: Global) -> Result<ByteList, NoMemory> {
 }
 
 fn assert_three_bytes(rt: &impl Abort, list: ByteList) {
-    assert_eq!(rt; list.len(), 3);
-    assert!(rt; list.into_vec().as_slice() == [1, 2, 3].as_slice());
+    same(rt, &"length", list.len(), 3);
+    same_bytes(rt, list.into_vec().as_slice(), &[1, 2, 3]);
 }
 
 fn assert_size(rt: &impl Abort, text: CharList) {
-    assert_eq!(rt; text.len(), 7);
-    assert!(rt; text.into_string().as_str() == "größe");
+    same(rt, &"length", text.len(), 7);
+    same(rt, &"text", text.into_string().as_str(), "größe");
 }
 
 #[test]
@@ -165,9 +165,10 @@ fn lists(rt: HostRuntime) -> Result<(), Fail> {
 }
 
 fn assert_well_formed(rt: &impl Abort, party: &Party) {
-    assert!(rt; party.is_well_formed());
-    assert!(rt; party.platform.is_well_formed());
-    assert!(rt; party.code.is_well_formed());
+    let platform = party.platform.is_well_formed();
+    let code = party.code.is_well_formed();
+    let seen = (party.is_well_formed(), platform, code);
+    same(rt, &"well-formed", seen, (true, true, true));
 }
 
 // A value that was made has its form.
@@ -175,9 +176,9 @@ fn assert_well_formed(rt: &impl Abort, party: &Party) {
 fn made_values_are_well_formed(rt: HostRuntime) -> Result<(), Fail> {
     assert_well_formed(&rt, &party(b"ALPH/EXPORT")?);
     let carrier = CarrierCode::try_new(b"MAEU").ok_or("a carrier")?;
-    assert!(rt; carrier.is_well_formed());
+    same(&rt, &"carrier", carrier.is_well_formed(), true);
     let moment = Moment::try_new(Moment::LAST).ok_or("a moment")?;
-    assert!(rt; moment.is_well_formed());
+    same(&rt, &"moment", moment.is_well_formed(), true);
     Ok(())
 }
 
@@ -218,100 +219,82 @@ fn sample_link(alloc: Global) -> Result<ChainLink, Fail> {
     })
 }
 
-fn are_same<T: PartialEq>(some: &[T], others: &[T]) -> bool {
-    some.len() == others.len() && some.iter().zip(others).all(|(one, other)| one == other)
+fn debug_text<T: Debug>(alloc: Global, value: &T) -> Result<String, AllocError> {
+    format!(in alloc; "{value:?}")
 }
 
-fn assert_links(rt: &impl Abort, copy: &ChainLink, link: &ChainLink) {
-    assert!(rt; copy.text.0.as_slice() == link.text.0.as_slice());
-    assert_eq!(rt; copy.name, link.name);
-    assert_entries(rt, &copy.entry, &link.entry);
+// Two values are written alike.
+fn assert_alike<T: Debug>(rt: &impl Abort, alloc: Global, copy: &T, value: &T) -> Result<(), Fail> {
+    let copied = debug_text(alloc, copy)?;
+    let text = debug_text(alloc, value)?;
+    same(rt, &"copy", copied.as_str(), text.as_str());
+    Ok(())
 }
 
-fn assert_entries(rt: &impl Abort, copy: &Entry, entry: &Entry) {
-    let is_same = copy.platform == entry.platform && copy.bill == entry.bill;
-    assert!(rt; is_same && copy.previous == entry.previous && copy.attempt == entry.attempt);
-    assert!(rt; are_same(copy.transactions.as_slice(), entry.transactions.as_slice()));
+// A copy tells the same as what it is a copy of.
+fn assert_copied<T: Copied + Debug>(rt: &impl Abort, alloc: Global, value: &T) -> Result<(), Fail> {
+    let copy = value.copy(alloc)?;
+    let alike = assert_alike(rt, alloc, &copy, value);
+    drop(copy);
+    alike
 }
 
-fn chain_of_copy(alloc: Global, link: &ChainLink) -> Result<Chain, NoMemory> {
+// A chain of this one link.
+fn chain_of(alloc: Global, link: ChainLink) -> Result<Chain, NoMemory> {
     let mut links = Vec::new(alloc);
-    links.push(link.copy(alloc)?)?;
+    links.push(link)?;
     Chain::from_vec(alloc, links)
 }
 
-// A link, followed by its copy.
+// That link twice.
 fn sample_chain(alloc: Global) -> Result<Chain, Fail> {
+    let chain = chain_of(alloc, sample_link(alloc)?)?;
     let link = sample_link(alloc)?;
-    let chain = chain_of_copy(alloc, &link)?;
     Ok(chain.followed_by(alloc, link)?)
 }
 
-fn copied_chain(alloc: Global) -> Result<Chain, Fail> {
-    Ok(sample_chain(alloc)?.copy(alloc)?)
-}
-
-fn assert_both(rt: &impl Abort, copy: &Chain, link: &ChainLink) {
-    assert_eq!(rt; copy.len(), 2);
-    for copied in copy.as_slice() {
-        assert_links(rt, copied, link);
-    }
+#[test]
+fn copies_of_a_link(rt: HostRuntime) -> Result<(), Fail> {
+    let link = sample_link(rt.alloc())?;
+    let copied = assert_copied(&rt, rt.alloc(), &link);
+    drop(link);
+    copied
 }
 
 #[test]
 fn copies_of_chains(rt: HostRuntime) -> Result<(), Fail> {
-    let copy = copied_chain(rt.alloc())?;
-    let link = sample_link(rt.alloc())?;
-    assert_both(&rt, &copy, &link);
-    Ok(())
-}
-
-fn assert_bytes_copied(rt: &impl Abort, alloc: Global) -> Result<(), NoMemory> {
-    let bytes = ByteList::from_slice(alloc, b"abc")?.copy(alloc)?;
-    assert!(rt; bytes.as_slice() == b"abc".as_slice());
-    Ok(())
-}
-
-fn assert_names_copied(rt: &impl Abort, alloc: Global) -> Result<(), NoMemory> {
-    let two = [Checksum([5; 32]), Checksum([6; 32])];
-    let names = ChecksumList::from_slice(alloc, &two)?.copy(alloc)?;
-    assert!(rt; are_same(names.as_slice(), &two));
-    Ok(())
-}
-
-fn assert_text_copied(rt: &impl Abort, alloc: Global) -> Result<(), NoMemory> {
-    let text = CharList::from_text(alloc, "größe")?.copy(alloc)?;
-    assert!(rt; text.into_string().as_str() == "größe");
-    Ok(())
+    let chain = sample_chain(rt.alloc())?;
+    same(&rt, &"length", chain.len(), 2);
+    let copied = assert_copied(&rt, rt.alloc(), &chain);
+    drop(chain);
+    copied
 }
 
 #[test]
-fn copies_of_lists(rt: HostRuntime) -> Result<(), Fail> {
-    assert_bytes_copied(&rt, rt.alloc())?;
-    assert_names_copied(&rt, rt.alloc())?;
-    assert_text_copied(&rt, rt.alloc())?;
-    Ok(())
+fn copies_of_bytes(rt: HostRuntime) -> Result<(), Fail> {
+    let bytes = ByteList::from_slice(rt.alloc(), b"abc")?;
+    assert_copied(&rt, rt.alloc(), &bytes)
 }
 
-fn copied_evidence(alloc: Global) -> Result<Evidence, NoMemory> {
-    let evidence = Evidence {
-        own: None,
-        theirs: Some(signed_text(alloc, b"abc")?),
-    };
-    evidence.copy(alloc)
+#[test]
+fn copies_of_names(rt: HostRuntime) -> Result<(), Fail> {
+    let names = ChecksumList::from_slice(rt.alloc(), &[Checksum([5; 32]), Checksum([6; 32])])?;
+    assert_copied(&rt, rt.alloc(), &names)
 }
 
-fn assert_evidence(rt: &impl Abort, copy: &Evidence) -> Result<(), Fail> {
-    assert!(rt; copy.own.is_none());
-    let theirs = copy.theirs.as_ref().ok_or("a text")?;
-    assert!(rt; theirs.0.as_slice() == b"abc".as_slice());
-    Ok(())
+#[test]
+fn copies_of_texts(rt: HostRuntime) -> Result<(), Fail> {
+    let text = CharList::from_text(rt.alloc(), "größe")?;
+    assert_copied(&rt, rt.alloc(), &text)
 }
 
 #[test]
 fn copies_of_evidence(rt: HostRuntime) -> Result<(), Fail> {
-    let copy = copied_evidence(rt.alloc())?;
-    assert_evidence(&rt, &copy)
+    let evidence = Evidence {
+        own: None,
+        theirs: Some(signed_text(rt.alloc(), b"abc")?),
+    };
+    assert_copied(&rt, rt.alloc(), &evidence)
 }
 
 // Calls of which the second fails, after the first.

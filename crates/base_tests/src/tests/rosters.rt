@@ -1,5 +1,5 @@
 //! Rosters, and the first wrong place of values that are none. In these texts `'` stands for `"`.
-use crate::tests::comparing::{same, same_at};
+use crate::tests::comparing::same;
 use crate::tests::making::json;
 use ebl_base::{CarrierCode, Copied, Party, PlatformCode, Provider};
 use party_roster::{Roster, RosterFault, RosterPlace};
@@ -94,9 +94,11 @@ const PLACES: [(&str, &str, &str, RosterPlace); 19] = [
     ),
 ];
 
-const LISTED: [(&[u8], bool); 3] = [(b"ALPH", true), (b"BETA", true), (b"GAMM", false)];
-
-const TAKES_PART: [(&str, bool); 4] = [
+// Platforms and parties, and whether the roster has them.
+const KNOWN: [(&str, bool); 7] = [
+    ("ALPH", true),
+    ("BETA", true),
+    ("GAMM", false),
     ("ALPH/BANK", true),
     ("BETA/IMPORT", true),
     ("BETA/BANK", false),
@@ -143,24 +145,28 @@ fn sample_roster(alloc: Global) -> Result<Roster, Fail> {
     }
 }
 
+// The first platform, how many there are, the last party, and the party of the first carrier.
+type Ends = (Option<PlatformCode>, usize, Option<Party>, Option<Party>);
+
+fn ends_of(roster: &Roster) -> Ends {
+    let platform = roster.platforms().first().copied();
+    let party = roster.parties().last().copied();
+    let carrier = roster.carriers().first().map(|carrier| carrier.party);
+    (platform, roster.platforms().len(), party, carrier)
+}
+
 fn assert_lists(rt: &impl Abort, roster: &Roster) {
-    let alph = PlatformCode::try_new(b"ALPH");
-    same(rt, &"platform", roster.platforms().first().copied(), alph);
-    same(rt, &"platforms", roster.platforms().len(), 2);
-    let last = Party::from_text(b"BETA/IMPORT");
-    same(rt, &"party", roster.parties().last().copied(), last);
-    let first = roster.carriers().first().map(|carrier| carrier.party);
-    same(rt, &"carrier", first, Party::from_text(b"ALPH/CARRIER"));
+    let platform = PlatformCode::try_new(b"ALPH");
+    let party = Party::from_text(b"BETA/IMPORT");
+    let carrier = Party::from_text(b"ALPH/CARRIER");
+    same(rt, &"ends", ends_of(roster), (platform, 2, party, carrier));
 }
 
-fn platform_row(rt: &impl Abort, roster: &Roster, text: &[u8], want: bool) {
-    let found = PlatformCode::try_new(text).map(|platform| roster.has_platform(platform));
-    same_at(rt, &text, found, Some(want));
-}
-
-fn party_row(rt: &impl Abort, roster: &Roster, text: &str, want: bool) {
-    let found = Party::from_text(text.as_bytes()).map(|party| roster.knows(party));
-    same(rt, &text, found, Some(want));
+fn is_known(roster: &Roster, text: &[u8]) -> Option<bool> {
+    match Party::from_text(text) {
+        Some(party) => Some(roster.knows(party)),
+        None => Some(roster.has_platform(PlatformCode::try_new(text)?)),
+    }
 }
 
 fn carrier_row(rt: &impl Abort, roster: &Roster, provider: Provider, code: &str, want: &str) {
@@ -171,11 +177,8 @@ fn carrier_row(rt: &impl Abort, roster: &Roster, provider: Provider, code: &str,
 }
 
 fn assert_look_ups(rt: &impl Abort, roster: &Roster) {
-    for &(text, want) in &LISTED {
-        platform_row(rt, roster, text, want);
-    }
-    for &(text, want) in &TAKES_PART {
-        party_row(rt, roster, text, want);
+    for &(text, want) in &KNOWN {
+        same(rt, &text, is_known(roster, text.as_bytes()), Some(want));
     }
     for &(provider, code, want) in &CARRIERS_FOR {
         carrier_row(rt, roster, provider, code, want);
@@ -218,7 +221,7 @@ fn place_row(
     want: RosterPlace,
 ) -> Result<(), AllocError> {
     let text = text_of(alloc, platforms, parties, carriers)?;
-    assert_eq!(rt; answer(alloc, &text), fault(want), "{text}");
+    same(rt, &text, answer(alloc, &text), fault(want));
     Ok(())
 }
 
@@ -227,7 +230,12 @@ fn names_the_first_wrong_place(rt: HostRuntime) -> Result<(), Fail> {
     for &(platforms, parties, carriers, want) in &PLACES {
         place_row(&rt, rt.alloc(), (platforms, parties, carriers), want)?;
     }
-    assert_eq!(rt; answer(rt.alloc(), "[]"), fault(RosterPlace::Whole));
+    same(
+        &rt,
+        &"[]",
+        answer(rt.alloc(), "[]"),
+        fault(RosterPlace::Whole),
+    );
     Ok(())
 }
 
@@ -253,66 +261,73 @@ fn numbered(alloc: Global, count: usize, front: &str, behind: &str) -> Result<St
     Ok(list)
 }
 
-fn answer_of(
-    alloc: Global,
-    platforms: &str,
-    parties: &str,
-    carriers: &str,
-) -> Result<Option<Result<(), RosterFault>>, AllocError> {
-    let text = text_of(alloc, platforms, parties, carriers)?;
-    Ok(answer(alloc, &text))
-}
-
 const CARRIER: &str = "[{'code':'A','party':'PLT0/A','provider':'SMDG'}]";
 
 const LAST_CARRIER: &str = "[{'code':'A','party':'PLT0/1023','provider':'SMDG'}]";
 
-fn platforms_row(
-    rt: &impl Abort,
-    alloc: Global,
-    count: usize,
-    want: Option<Result<(), RosterFault>>,
-) -> Result<(), AllocError> {
-    let platforms = numbered(alloc, count, "'PLT", "'")?;
-    let seen = answer_of(alloc, &platforms, "['PLT0/A']", CARRIER)?;
-    same(rt, &count, seen, want);
-    Ok(())
-}
+const NUMBERED: &str = "numbered";
 
-fn parties_row(
-    rt: &impl Abort,
-    alloc: Global,
-    count: usize,
-    want: Option<Result<(), RosterFault>>,
-) -> Result<(), AllocError> {
-    let parties = numbered(alloc, count, "'PLT0/", "'")?;
-    let seen = answer_of(alloc, "['PLT0']", &parties, LAST_CARRIER)?;
-    same(rt, &count, seen, want);
-    Ok(())
-}
+/// The platforms, parties and carriers of a roster, of which one is a numbered list.
+type Lists = (&'static str, &'static str, &'static str);
 
-fn carriers_row(
-    rt: &impl Abort,
-    alloc: Global,
-    count: usize,
-    want: Option<Result<(), RosterFault>>,
-) -> Result<(), AllocError> {
-    let front = "{'party':'PLT0/A','provider':'SMDG','code':'C";
-    let carriers = numbered(alloc, count, front, "'}")?;
-    let seen = answer_of(alloc, "['PLT0']", "['PLT0/A']", &carriers)?;
-    same(rt, &count, seen, want);
-    Ok(())
-}
+const OF_PLATFORMS: Lists = (NUMBERED, "['PLT0/A']", CARRIER);
+
+const OF_PARTIES: Lists = ("['PLT0']", NUMBERED, LAST_CARRIER);
+
+const OF_CARRIERS: Lists = ("['PLT0']", "['PLT0/A']", NUMBERED);
+
+/// What stands in front of a number and behind it.
+type Item = (&'static str, &'static str);
+
+const PLATFORM_ITEM: Item = ("'PLT", "'");
+
+const PARTY_ITEM: Item = ("'PLT0/", "'");
+
+const CARRIER_ITEM: Item = ("{'party':'PLT0/A','provider':'SMDG','code':'C", "'}");
+
+/// How many items the list has, and the first wrong place, if any.
+type Limit = (Lists, Item, usize, Option<RosterPlace>);
 
 // One more than the most of each list is too many, and the most is not.
+const LIMITS: [Limit; 6] = [
+    (OF_PLATFORMS, PLATFORM_ITEM, 8, None),
+    (OF_PLATFORMS, PLATFORM_ITEM, 9, Some(RosterPlace::Whole)),
+    (OF_PARTIES, PARTY_ITEM, 1024, None),
+    (OF_PARTIES, PARTY_ITEM, 1025, Some(RosterPlace::Parties)),
+    (OF_CARRIERS, CARRIER_ITEM, 64, None),
+    (OF_CARRIERS, CARRIER_ITEM, 65, Some(RosterPlace::Carriers)),
+];
+
+fn list_of<'a>(list: &'a str, made: &'a str) -> &'a str {
+    if list == NUMBERED { made } else { list }
+}
+
+fn wanted(place: Option<RosterPlace>) -> Option<Result<(), RosterFault>> {
+    match place {
+        Some(place) => fault(place),
+        None => Some(Ok(())),
+    }
+}
+
+fn text_with(alloc: Global, lists: Lists, made: &str) -> Result<String, AllocError> {
+    let (platforms, parties, carriers) = lists;
+    let platforms = list_of(platforms, made);
+    let parties = list_of(parties, made);
+    text_of(alloc, platforms, parties, list_of(carriers, made))
+}
+
+fn limit_row(rt: &impl Abort, alloc: Global, limit: &Limit) -> Result<(), AllocError> {
+    let &(lists, (front, behind), count, place) = limit;
+    let made = numbered(alloc, count, front, behind)?;
+    let text = text_with(alloc, lists, &made)?;
+    same(rt, &count, answer(alloc, &text), wanted(place));
+    Ok(())
+}
+
 #[test]
 fn lists_at_their_limits(rt: HostRuntime) -> Result<(), Fail> {
-    let read = Some(Ok(()));
-    platforms_row(&rt, rt.alloc(), 8, read)?;
-    platforms_row(&rt, rt.alloc(), 9, fault(RosterPlace::Whole))?;
-    parties_row(&rt, rt.alloc(), 1024, read)?;
-    parties_row(&rt, rt.alloc(), 1025, fault(RosterPlace::Parties))?;
-    carriers_row(&rt, rt.alloc(), 64, read)?;
-    carriers_row(&rt, rt.alloc(), 65, fault(RosterPlace::Carriers))?;
+    for limit in &LIMITS {
+        limit_row(&rt, rt.alloc(), limit)?;
+    }
     Ok(())
 }

@@ -1,7 +1,7 @@
 //! Every kind of transaction in every state, by a table written by hand.
 use crate::tests::comparing::{same, same_at};
 use ebl_base::{Kind, Moment, Party, Transaction};
-use std::alloc::Global;
+use std::alloc::{AllocError, Global};
 use std::process::Abort;
 use std::test::Fail;
 use title_fold::{
@@ -40,6 +40,7 @@ struct Cast {
     holder: Party,
     stranger: Party,
     another: Party,
+    time: Moment,
 }
 
 impl Cast {
@@ -50,6 +51,7 @@ impl Cast {
             holder: Party::from_text(b"BETA/BANK")?,
             stranger: Party::from_text(b"GAMM/NOBODY")?,
             another: Party::from_text(b"BETA/IMPORT")?,
+            time: Moment::try_new(1000)?,
         })
     }
 
@@ -95,218 +97,184 @@ impl Cast {
         }
     }
 
-    fn transaction(&self, act: Act) -> Option<Transaction> {
+    fn transaction(&self, act: Act) -> Transaction {
         let (kind, actor, recipient) = act;
-        let time = Moment::try_new(1000)?;
-        Some(Transaction {
+        Transaction {
             kind,
             actor: self.party(actor),
             recipient: self.party_if_any(recipient),
-            time,
-        })
+            time: self.time,
+        }
     }
 }
 
-/// 0 where the transaction is taken, else the number of the rule.
-fn number(answer: Result<Title, FoldRefusal>) -> u8 {
+/// 0 where the transaction is taken, else the number of the rule, as a digit.
+fn digit(answer: Result<Title, FoldRefusal>) -> u8 {
     match answer {
-        Ok(_) => 0,
-        Err(FoldRefusal::F1) => 1,
-        Err(FoldRefusal::F2) => 2,
-        Err(FoldRefusal::F3) => 3,
-        Err(FoldRefusal::F4) => 4,
-        Err(FoldRefusal::F5) => 5,
-        Err(FoldRefusal::F6) => 6,
-        Err(FoldRefusal::F7) => 7,
-        Err(FoldRefusal::F8) => 8,
-        Err(FoldRefusal::F9) => 9,
+        Ok(_) => b'0',
+        Err(FoldRefusal::F1) => b'1',
+        Err(FoldRefusal::F2) => b'2',
+        Err(FoldRefusal::F3) => b'3',
+        Err(FoldRefusal::F4) => b'4',
+        Err(FoldRefusal::F5) => b'5',
+        Err(FoldRefusal::F6) => b'6',
+        Err(FoldRefusal::F7) => b'7',
+        Err(FoldRefusal::F8) => b'8',
+        Err(FoldRefusal::F9) => b'9',
     }
 }
 
-/// The number for an act on a title.
-fn rule(cast: &Cast, before: Option<Title>, act: Act) -> Option<u8> {
-    let t = cast.transaction(act)?;
-    Some(number(apply(before, &t)))
+/// The digit for an act on a title.
+fn rule(cast: &Cast, before: Option<Title>, act: Act) -> u8 {
+    digit(apply(before, &cast.transaction(act)))
 }
-
-/// A kind, and the answers to the carrier, the possessor, the title holder and a stranger: without a recipient, and for
-/// another party.
-type Row = (Kind, [u8; 4], [u8; 4]);
 
 const ACTORS: [Role; 4] = [Role::Carrier, Role::Possessor, Role::Holder, Role::Stranger];
 
-fn expect_alone(
-    rt: &impl Abort,
-    cast: &Cast,
-    before: Option<Title>,
-    act: Act,
-    i: usize,
-    want: u8,
-) -> Option<()> {
-    let seen = rule(cast, before, act)?;
-    let kind = act.0;
-    assert_eq!(rt; seen, want, "{kind:?} by {i}");
-    Some(())
-}
-
-fn expect_handed(
-    rt: &impl Abort,
-    cast: &Cast,
-    before: Option<Title>,
-    act: Act,
-    i: usize,
-    want: u8,
-) -> Option<()> {
-    let seen = rule(cast, before, act)?;
-    let kind = act.0;
-    assert_eq!(rt; seen, want, "{kind:?} by {i} to another");
-    Some(())
-}
-
-fn expect_row(rt: &impl Abort, cast: &Cast, before: Option<Title>, row: &Row) -> Option<()> {
-    let &(kind, alone, handed) = row;
-    let another = Some(Role::Another);
+/// The answers to the carrier, the possessor, the title holder and a stranger for this recipient.
+fn answers(cast: &Cast, before: Option<Title>, kind: Kind, recipient: Option<Role>) -> [u8; 4] {
+    let mut told = [0; 4];
     for i in 0..4 {
-        expect_alone(rt, cast, before, (kind, ACTORS[i], None), i, alone[i])?;
-        expect_handed(rt, cast, before, (kind, ACTORS[i], another), i, handed[i])?;
+        told[i] = rule(cast, before, (kind, ACTORS[i], recipient));
     }
-    Some(())
+    told
 }
 
-/// The answers on a title, which the last word names.
+fn expect_row(rt: &impl Abort, cast: &Cast, before: Option<Title>, row: &str) -> Result<(), Fail> {
+    let (name, wanted) = row.split_once(' ').ok_or("a kind")?;
+    let (alone, handed) = wanted.split_once(' ').ok_or("two groups")?;
+    let kind = Kind::from_text(name.as_bytes()).ok_or("a kind")?;
+    let alone_told = answers(cast, before, kind, None);
+    let handed_told = answers(cast, before, kind, Some(Role::Another));
+    let seen = (alone_told.as_slice(), handed_told.as_slice());
+    same_at(
+        rt,
+        &(row, before),
+        seen,
+        (alone.as_bytes(), handed.as_bytes()),
+    );
+    Ok(())
+}
+
+/// The answers on a title.
 fn expect_rows(
     rt: &impl Abort,
     cast: &Cast,
     before: Option<State>,
-    rows: &[Row],
-    name: &'static str,
+    rows: &str,
 ) -> Result<(), Fail> {
     let title = cast.title_if_any(before);
-    for row in rows {
-        expect_row(rt, cast, title, row).ok_or(name)?;
+    for row in rows.lines() {
+        expect_row(rt, cast, title, row)?;
     }
     Ok(())
 }
 
-const ON_NO_TITLE: [Row; 8] = [
-    (Kind::Sign, [0; 4], [5; 4]),
-    (Kind::Issue, [2; 4], [2; 4]),
-    (Kind::Endorse, [2; 4], [2; 4]),
-    (Kind::Transfer, [2; 4], [2; 4]),
-    (Kind::SurrenderForDelivery, [2; 4], [2; 4]),
-    (Kind::SurrenderForAmendment, [2; 4], [2; 4]),
-    (Kind::SurrenderAccepted, [2; 4], [2; 4]),
-    (Kind::SurrenderRefused, [2; 4], [2; 4]),
-];
+// A row is a kind, and the answers to the carrier, the possessor, the title holder and a stranger: without a recipient,
+// and for another party.
+const ON_NO_TITLE: &str = "SIGN 0000 5555\n\
+    ISSUE 2222 2222\n\
+    ENDORSE 2222 2222\n\
+    TRANSFER 2222 2222\n\
+    SURRENDER_FOR_DELIVERY 2222 2222\n\
+    SURRENDER_FOR_AMENDMENT 2222 2222\n\
+    SURRENDER_ACCEPTED 2222 2222\n\
+    SURRENDER_REFUSED 2222 2222";
 
-const ON_SIGNED: [Row; 8] = [
-    (Kind::Sign, [1; 4], [1; 4]),
-    (Kind::Issue, [5; 4], [0, 6, 6, 6]),
-    (Kind::Endorse, [4; 4], [4; 4]),
-    (Kind::Transfer, [4; 4], [4; 4]),
-    (Kind::SurrenderForDelivery, [4; 4], [4; 4]),
-    (Kind::SurrenderForAmendment, [4; 4], [4; 4]),
-    (Kind::SurrenderAccepted, [4; 4], [4; 4]),
-    (Kind::SurrenderRefused, [4; 4], [4; 4]),
-];
+const ON_SIGNED: &str = "SIGN 1111 1111\n\
+    ISSUE 5555 0666\n\
+    ENDORSE 4444 4444\n\
+    TRANSFER 4444 4444\n\
+    SURRENDER_FOR_DELIVERY 4444 4444\n\
+    SURRENDER_FOR_AMENDMENT 4444 4444\n\
+    SURRENDER_ACCEPTED 4444 4444\n\
+    SURRENDER_REFUSED 4444 4444";
 
 // One party has possession, and another holds the title.
 const LIVE_OF_TWO: State = State::Live(Role::Possessor, Role::Holder);
 
-const ON_LIVE_OF_TWO: [Row; 8] = [
-    (Kind::Sign, [1; 4], [1; 4]),
-    (Kind::Issue, [4; 4], [4; 4]),
-    (Kind::Endorse, [5; 4], [7, 8, 7, 7]),
-    (Kind::Transfer, [5; 4], [7, 0, 7, 7]),
-    (Kind::SurrenderForDelivery, [7, 8, 7, 7], [5; 4]),
-    (Kind::SurrenderForAmendment, [7, 8, 7, 7], [5; 4]),
-    (Kind::SurrenderAccepted, [4; 4], [4; 4]),
-    (Kind::SurrenderRefused, [4; 4], [4; 4]),
-];
+const ON_LIVE_OF_TWO: &str = "SIGN 1111 1111\n\
+    ISSUE 4444 4444\n\
+    ENDORSE 5555 7877\n\
+    TRANSFER 5555 7077\n\
+    SURRENDER_FOR_DELIVERY 7877 5555\n\
+    SURRENDER_FOR_AMENDMENT 7877 5555\n\
+    SURRENDER_ACCEPTED 4444 4444\n\
+    SURRENDER_REFUSED 4444 4444";
 
 // The possessor holds the title too.
 const LIVE_OF_ONE: State = State::Live(Role::Possessor, Role::Possessor);
 
-const ON_LIVE_OF_ONE: [Row; 8] = [
-    (Kind::Sign, [1; 4], [1; 4]),
-    (Kind::Issue, [4; 4], [4; 4]),
-    (Kind::Endorse, [5; 4], [7, 0, 7, 7]),
-    (Kind::Transfer, [5; 4], [7, 0, 7, 7]),
-    (Kind::SurrenderForDelivery, [7, 0, 7, 7], [5; 4]),
-    (Kind::SurrenderForAmendment, [7, 0, 7, 7], [5; 4]),
-    (Kind::SurrenderAccepted, [4; 4], [4; 4]),
-    (Kind::SurrenderRefused, [4; 4], [4; 4]),
+const ON_LIVE_OF_ONE: &str = "SIGN 1111 1111\n\
+    ISSUE 4444 4444\n\
+    ENDORSE 5555 7077\n\
+    TRANSFER 5555 7077\n\
+    SURRENDER_FOR_DELIVERY 7077 5555\n\
+    SURRENDER_FOR_AMENDMENT 7077 5555\n\
+    SURRENDER_ACCEPTED 4444 4444\n\
+    SURRENDER_REFUSED 4444 4444";
+
+const ON_ASKED: &str = "SIGN 1111 1111\n\
+    ISSUE 4444 4444\n\
+    ENDORSE 4444 4444\n\
+    TRANSFER 4444 4444\n\
+    SURRENDER_FOR_DELIVERY 4444 4444\n\
+    SURRENDER_FOR_AMENDMENT 4444 4444\n\
+    SURRENDER_ACCEPTED 0666 5555\n\
+    SURRENDER_REFUSED 0666 5555";
+
+const ON_ENDED: &str = "SIGN 1111 1111\n\
+    ISSUE 3333 3333\n\
+    ENDORSE 3333 3333\n\
+    TRANSFER 3333 3333\n\
+    SURRENDER_FOR_DELIVERY 3333 3333\n\
+    SURRENDER_FOR_AMENDMENT 3333 3333\n\
+    SURRENDER_ACCEPTED 3333 3333\n\
+    SURRENDER_REFUSED 3333 3333";
+
+const DELIVERY: Kind = Kind::SurrenderForDelivery;
+
+const AMENDMENT: Kind = Kind::SurrenderForAmendment;
+
+const ON_TITLES: [(Option<State>, &str); 8] = [
+    (None, ON_NO_TITLE),
+    (Some(State::Signed), ON_SIGNED),
+    (Some(LIVE_OF_TWO), ON_LIVE_OF_TWO),
+    (Some(LIVE_OF_ONE), ON_LIVE_OF_ONE),
+    (Some(State::Asked(DELIVERY, Role::Possessor)), ON_ASKED),
+    (Some(State::Ended(DELIVERY)), ON_ENDED),
+    (Some(State::Asked(AMENDMENT, Role::Possessor)), ON_ASKED),
+    (Some(State::Ended(AMENDMENT)), ON_ENDED),
 ];
-
-const ON_ASKED: [Row; 8] = [
-    (Kind::Sign, [1; 4], [1; 4]),
-    (Kind::Issue, [4; 4], [4; 4]),
-    (Kind::Endorse, [4; 4], [4; 4]),
-    (Kind::Transfer, [4; 4], [4; 4]),
-    (Kind::SurrenderForDelivery, [4; 4], [4; 4]),
-    (Kind::SurrenderForAmendment, [4; 4], [4; 4]),
-    (Kind::SurrenderAccepted, [0, 6, 6, 6], [5; 4]),
-    (Kind::SurrenderRefused, [0, 6, 6, 6], [5; 4]),
-];
-
-const ON_ENDED: [Row; 8] = [
-    (Kind::Sign, [1; 4], [1; 4]),
-    (Kind::Issue, [3; 4], [3; 4]),
-    (Kind::Endorse, [3; 4], [3; 4]),
-    (Kind::Transfer, [3; 4], [3; 4]),
-    (Kind::SurrenderForDelivery, [3; 4], [3; 4]),
-    (Kind::SurrenderForAmendment, [3; 4], [3; 4]),
-    (Kind::SurrenderAccepted, [3; 4], [3; 4]),
-    (Kind::SurrenderRefused, [3; 4], [3; 4]),
-];
-
-fn expect_live(rt: &impl Abort, cast: &Cast) -> Result<(), Fail> {
-    let (two, one) = ("live, two parties", "live, one party");
-    expect_rows(rt, cast, Some(LIVE_OF_TWO), &ON_LIVE_OF_TWO, two)?;
-    expect_rows(rt, cast, Some(LIVE_OF_ONE), &ON_LIVE_OF_ONE, one)
-}
-
-// The titles that a surrender of this kind leads to.
-fn expect_surrender(rt: &impl Abort, cast: &Cast, kind: Kind) -> Result<(), Fail> {
-    let asked = Some(State::Asked(kind, Role::Possessor));
-    expect_rows(rt, cast, asked, &ON_ASKED, "asked")?;
-    expect_rows(rt, cast, Some(State::Ended(kind)), &ON_ENDED, "ended")
-}
 
 #[test]
 fn first_rule_of_each_kind_on_each_title(rt: HostRuntime) -> Result<(), Fail> {
     let cast = Cast::new().ok_or("a party")?;
-    expect_rows(&rt, &cast, None, &ON_NO_TITLE, "no title")?;
-    expect_rows(&rt, &cast, Some(State::Signed), &ON_SIGNED, "signed")?;
-    expect_live(&rt, &cast)?;
-    expect_surrender(&rt, &cast, Kind::SurrenderForDelivery)?;
-    expect_surrender(&rt, &cast, Kind::SurrenderForAmendment)
+    for (before, rows) in &ON_TITLES {
+        expect_rows(&rt, &cast, *before, rows)?;
+    }
+    Ok(())
 }
 
 // A title, a kind, who hands on to itself, and the number of the rule.
 const TO_ITSELF: [(State, Kind, Role, u8); 7] = [
-    (LIVE_OF_ONE, Kind::Endorse, Role::Possessor, 9),
-    (LIVE_OF_ONE, Kind::Transfer, Role::Possessor, 9),
-    (LIVE_OF_TWO, Kind::Transfer, Role::Possessor, 9),
+    (LIVE_OF_ONE, Kind::Endorse, Role::Possessor, b'9'),
+    (LIVE_OF_ONE, Kind::Transfer, Role::Possessor, b'9'),
+    (LIVE_OF_TWO, Kind::Transfer, Role::Possessor, b'9'),
     // Who acts is asked before.
-    (LIVE_OF_TWO, Kind::Endorse, Role::Possessor, 8),
-    (LIVE_OF_TWO, Kind::Endorse, Role::Holder, 7),
-    (LIVE_OF_TWO, Kind::Transfer, Role::Holder, 7),
+    (LIVE_OF_TWO, Kind::Endorse, Role::Possessor, b'8'),
+    (LIVE_OF_TWO, Kind::Endorse, Role::Holder, b'7'),
+    (LIVE_OF_TWO, Kind::Transfer, Role::Holder, b'7'),
     // An ISSUE isn't handing on.
-    (State::Signed, Kind::Issue, Role::Carrier, 0),
+    (State::Signed, Kind::Issue, Role::Carrier, b'0'),
 ];
-
-fn itself_row(rt: &impl Abort, cast: &Cast, before: State, act: Act, want: u8) -> Result<(), Fail> {
-    let seen = rule(cast, Some(cast.title(before)), act).ok_or("a moment")?;
-    same_at(rt, &act.0, seen, want);
-    Ok(())
-}
 
 #[test]
 fn nothing_is_handed_to_the_actor_itself(rt: HostRuntime) -> Result<(), Fail> {
     let cast = Cast::new().ok_or("a party")?;
     for &(before, kind, actor, want) in &TO_ITSELF {
-        itself_row(&rt, &cast, before, (kind, actor, Some(actor)), want)?;
+        let seen = rule(&cast, Some(cast.title(before)), (kind, actor, Some(actor)));
+        same_at(&rt, &kind, seen, want);
     }
     Ok(())
 }
@@ -327,10 +295,6 @@ const TRANSFER_TO_ITSELF: Act = (Kind::Transfer, Role::Possessor, Some(Role::Pos
 const ENDORSE: Act = (Kind::Endorse, Role::Possessor, Some(Role::Holder));
 
 const TRANSFER_TO_HOLDER: Act = (Kind::Transfer, Role::Possessor, Some(Role::Holder));
-
-const DELIVERY: Kind = Kind::SurrenderForDelivery;
-
-const AMENDMENT: Kind = Kind::SurrenderForAmendment;
 
 const REFUSE: Act = (Kind::SurrenderRefused, Role::Carrier, None);
 
@@ -387,17 +351,30 @@ const STEPS: [Step; 10] = [
     ),
 ];
 
-// The title after an act.
-fn after(cast: &Cast, before: Option<Title>, act: Act) -> Result<Title, Fail> {
-    let t = cast.transaction(act).ok_or("a moment")?;
-    Ok(apply(before, &t).map_err(|_| "refused")?)
+// A title, its carrier, its possessor and its title holder, and whether the bill moved.
+type Seen = (Title, Party, Party, Party, bool);
+
+fn seen(before: Option<Title>, next: Title) -> Seen {
+    let moved = moves(before, next);
+    (
+        next,
+        carrier(next),
+        possessor(next),
+        title_holder(next),
+        moved,
+    )
 }
 
-fn assert_parties(rt: &impl Abort, cast: &Cast, title: Title, step: &Step) {
-    let &(act, _, has, holds, _) = step;
-    same_at(rt, &act.0, carrier(title), cast.carrier);
-    same_at(rt, &act.0, possessor(title), cast.party(has));
-    same_at(rt, &act.0, title_holder(title), cast.party(holds));
+fn wanted(cast: &Cast, step: &Step) -> Seen {
+    let &(_, state, has, holds, moved) = step;
+    let title = cast.title(state);
+    (
+        title,
+        cast.carrier,
+        cast.party(has),
+        cast.party(holds),
+        moved,
+    )
 }
 
 fn step_row(
@@ -406,11 +383,9 @@ fn step_row(
     before: Option<Title>,
     step: &Step,
 ) -> Result<Title, Fail> {
-    let &(act, want, _, _, moved) = step;
-    let next = after(cast, before, act)?;
-    same_at(rt, &act.0, next, cast.title(want));
-    assert_parties(rt, cast, next, step);
-    same_at(rt, &act.0, moves(before, next), moved);
+    let act = step.0;
+    let next = apply(before, &cast.transaction(act)).map_err(|_| "refused")?;
+    same_at(rt, &act.0, seen(before, next), wanted(cast, step));
     Ok(next)
 }
 
@@ -424,10 +399,10 @@ fn titles_of_a_whole_life(rt: HostRuntime) -> Result<(), Fail> {
     Ok(())
 }
 
-fn transactions(alloc: Global, cast: &Cast, acts: &[Act]) -> Result<Vec<Transaction>, Fail> {
+fn transactions(alloc: Global, cast: &Cast, acts: &[Act]) -> Result<Vec<Transaction>, AllocError> {
     let mut list = Vec::new(alloc);
     for &act in acts {
-        list.push(cast.transaction(act).ok_or("a moment")?)?;
+        list.push(cast.transaction(act))?;
     }
     Ok(list)
 }
