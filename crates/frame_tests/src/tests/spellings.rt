@@ -1,48 +1,33 @@
 //! Frames and their bytes.
 use super::frames::{
-    ACTED, ATTACHED, BEGUN, BEGUN_TAKEN, BILL, DECLINED, DEEP, FIRST, OWN, PARTED, PARTY, REGAINED,
-    SECOND, SETTLED, SIGNED, STORED, TAKEN, THEIRS, TOO_DEEP,
+    ACTED, ATTACHED, BEGUN, BEGUN_TAKEN, BILL, DECLINED, DEEP, DEEP_BILL, FIRST, OWN, PARTED,
+    PARTY, REGAINED, SECOND, SETTLED, SIGNED, STORED, TAKEN, THEIRS,
 };
+use super::no_frames::NO_FRAMES;
 use bill_diary::{Frame, Record};
 use document_checksum::from_text;
-use ebl_base::{Checksum, Code, Evidence, Kind, NoMemory, Reason, Transaction};
+use ebl_base::{Checksum, Code, Evidence, Reason, Transaction};
 use hex::decode;
 use record_bytes::{FrameFault, frame_read, frame_write};
-use std::alloc::Global;
+use std::alloc::{AllocError, Global};
+use std::fmt::{Debug, Display};
 use std::process::Abort;
 use std::test::Fail;
 
-/// Each record, and a Begun with its Taken: its bytes, and the number of its kind.
-const FRAMES: [(&str, u8); 15] = [
-    (SIGNED, 1),
-    (ACTED, 2),
-    (ATTACHED, 3),
-    (PARTED, 4),
-    (SETTLED, 5),
-    (REGAINED, 6),
-    (BEGUN, 7),
-    (BEGUN_TAKEN, 7),
-    (STORED, 8),
-    (TAKEN, 9),
-    (DECLINED, 10),
-    (PARTY, 10),
-    (OWN, 10),
-    (THEIRS, 10),
-    (DEEP, 1),
-];
+// The value is the one that is expected. A message names the row.
+fn same<T: Copy + Debug + PartialEq>(rt: &impl Abort, row: &impl Display, seen: T, want: T) {
+    assert_eq!(rt; seen, want, "{row}");
+}
 
-pub(crate) fn bytes_of(alloc: Global, digits: &str) -> Result<Vec<u8>, Fail> {
+fn bytes_of(alloc: Global, digits: &str) -> Result<Vec<u8>, Fail> {
     Ok(decode(alloc, digits)?)
 }
 
-// How many bytes there are.
-fn length(alloc: Global, digits: &str) -> Result<usize, Fail> {
-    Ok(bytes_of(alloc, digits)?.len())
-}
+// ---- what a frame tells
 
-fn name(digits: &str) -> Option<Checksum> {
-    from_text(digits.as_bytes())
-}
+/// The number of its record's kind, its bill, the entry that the record names (the last one, of a chain), whether it is
+/// a Begun with its Taken, and whether it is written as the bytes that it was read of.
+type Told = (u8, Checksum, Option<Checksum>, bool, bool);
 
 fn kept(frame: &Frame) -> &Record {
     match frame {
@@ -51,7 +36,6 @@ fn kept(frame: &Frame) -> &Record {
     }
 }
 
-// The number of a record's kind.
 fn kind_of(kept: &Record) -> u8 {
     match kept {
         Record::Signed { .. } => 1,
@@ -67,7 +51,6 @@ fn kind_of(kept: &Record) -> u8 {
     }
 }
 
-// The entry that a record names: its last one, of a chain.
 fn entry_of(kept: &Record) -> Option<Checksum> {
     match kept {
         Record::Parted { link, .. } => Some(link.name),
@@ -81,293 +64,274 @@ fn entry_of(kept: &Record) -> Option<Checksum> {
     }
 }
 
-// The bytes of a frame, or none where memory ran out.
-fn written(alloc: Global, frame: &Frame) -> Option<Vec<u8>> {
-    match frame_write(alloc, frame) {
-        Ok(bytes) => Some(bytes.into_vec()),
-        Err(NoMemory) => None,
-    }
-}
-
-// Whether the bytes are refused as no frame.
-pub(crate) fn is_refused(alloc: Global, bytes: &[u8]) -> bool {
-    matches!(frame_read(alloc, bytes), Err(FrameFault::NotAFrame))
-}
-
 fn is_written_as(alloc: Global, frame: &Frame, bytes: &[u8]) -> bool {
-    match written(alloc, frame) {
-        Some(again) => again.as_slice() == bytes,
-        None => false,
+    match frame_write(alloc, frame) {
+        Ok(again) => again.as_slice() == bytes,
+        Err(_) => false,
     }
+}
+
+fn frame_told(alloc: Global, frame: &Frame, bytes: &[u8]) -> Told {
+    let record = kept(frame);
+    let is_taken = matches!(frame, Frame::BegunTaken(_));
+    let again = is_written_as(alloc, frame, bytes);
+    (
+        kind_of(record),
+        record.bill(),
+        entry_of(record),
+        is_taken,
+        again,
+    )
+}
+
+// What the frame of these bytes tells, or why they are none.
+fn told(alloc: Global, bytes: &[u8]) -> Result<Told, FrameFault> {
+    match frame_read(alloc, bytes) {
+        Ok(frame) => {
+            let told = frame_told(alloc, &frame, bytes);
+            drop(frame);
+            Ok(told)
+        }
+        Err(fault) => Err(fault),
+    }
+}
+
+// What bytes tell that are refused as no frame.
+const NONE: Result<Told, FrameFault> = Err(FrameFault::NotAFrame);
+
+// Whether the bytes are.
+fn is_refused(alloc: Global, bytes: &[u8]) -> bool {
+    told(alloc, bytes) == NONE
 }
 
 // Whether the bytes are no frame, or the frame that they are has these bytes.
 fn is_settled(alloc: Global, bytes: &[u8]) -> bool {
-    match frame_read(alloc, bytes) {
-        Ok(frame) => is_written_as(alloc, &frame, bytes),
+    match told(alloc, bytes) {
+        Ok((_, _, _, _, again)) => again,
         Err(fault) => fault == FrameFault::NotAFrame,
     }
 }
 
-// The frame of these bytes, whose digits are told where they are none.
-fn read(rt: &impl Abort, alloc: Global, bytes: &[u8], digits: &str) -> Frame {
-    match frame_read(alloc, bytes) {
-        Ok(frame) => frame,
-        Err(_) => panic!(rt; "no frame: {digits}"),
-    }
+// ---- each record, and a Begun with its Taken
+
+/// A frame's digits, the number of its record's kind, the names of its bill and of the entry that the record names, and
+/// whether it is a Begun with its Taken.
+type Row = (&'static str, u8, &'static str, Option<&'static str>, bool);
+
+// Bills and entries have the names that Python's hashlib gives their texts.
+const FRAMES: [Row; 15] = [
+    (SIGNED, 1, BILL, None, false),
+    (ACTED, 2, BILL, None, false),
+    (ATTACHED, 3, BILL, None, false),
+    (PARTED, 4, BILL, Some(FIRST), false),
+    (SETTLED, 5, BILL, Some(FIRST), false),
+    (REGAINED, 6, BILL, Some(FIRST), false),
+    (BEGUN, 7, BILL, Some(SECOND), false),
+    (BEGUN_TAKEN, 7, BILL, Some(SECOND), true),
+    (STORED, 8, BILL, Some(FIRST), false),
+    (TAKEN, 9, BILL, Some(FIRST), false),
+    (DECLINED, 10, BILL, Some(FIRST), false),
+    (PARTY, 10, BILL, Some(FIRST), false),
+    (OWN, 10, BILL, Some(FIRST), false),
+    (THEIRS, 10, BILL, Some(FIRST), false),
+    (DEEP, 1, DEEP_BILL, None, false),
+];
+
+fn entry_named(digits: Option<&str>) -> Option<Checksum> {
+    from_text(digits?.as_bytes())
 }
 
-fn frame_of(rt: &impl Abort, alloc: Global, digits: &str) -> Result<Frame, Fail> {
+fn wanted(row: &Row) -> Option<Told> {
+    let (_, kind, bill, entry, is_taken) = row;
+    let bill = from_text(bill.as_bytes())?;
+    Some((*kind, bill, entry_named(*entry), *is_taken, true))
+}
+
+fn assert_frame<R: Abort>(rt: &R, alloc: Global, row: &Row) -> Result<(), Fail> {
+    let digits = row.0;
+    let want = wanted(row).ok_or("a name")?;
     let bytes = bytes_of(alloc, digits)?;
-    Ok(read(rt, alloc, &bytes, digits))
-}
-
-fn assert_kind(rt: &impl Abort, frame: &Frame, digits: &str, kind: u8) {
-    assert_eq!(rt; kind_of(kept(frame)), kind, "{digits}");
-}
-
-fn assert_written(rt: &impl Abort, alloc: Global, frame: &Frame, bytes: &[u8], digits: &str) {
-    let Some(again) = written(alloc, frame) else {
-        panic!(rt; "not written");
-    };
-    assert_eq!(rt; again.as_slice(), bytes, "{digits}");
-}
-
-fn assert_frame(rt: &impl Abort, alloc: Global, digits: &str, kind: u8) -> Result<(), Fail> {
-    let bytes = bytes_of(alloc, digits)?;
-    let frame = read(rt, alloc, &bytes, digits);
-    assert_kind(rt, &frame, digits, kind);
-    assert_written(rt, alloc, &frame, &bytes, digits);
+    same(rt, &digits, told(alloc, &bytes), Ok(want));
     Ok(())
 }
 
 #[test]
 fn each_frame_is_read_and_written(rt: HostRuntime) -> Result<(), Fail> {
-    for (digits, kind) in &FRAMES {
-        assert_frame(&rt, rt.alloc(), digits, *kind)?;
+    for row in &FRAMES {
+        assert_frame(&rt, rt.alloc(), row)?;
     }
     Ok(())
 }
 
-/// A frame's digits, the name of the entry that its record names, and whether it is a Begun with its Taken.
-type Named = (&'static str, Option<&'static str>, bool);
+// ---- what stands in some of them
 
-const NAMES: [Named; 7] = [
-    (SIGNED, None, false),
-    (PARTED, Some(FIRST), false),
-    (SETTLED, Some(FIRST), false),
-    (BEGUN, Some(SECOND), false),
-    (BEGUN_TAKEN, Some(SECOND), true),
-    (STORED, Some(FIRST), false),
-    (DECLINED, Some(FIRST), false),
-];
-
-fn entry_named(digits: Option<&str>) -> Option<Checksum> {
-    name(digits?)
+fn transaction_told(alloc: Global, transaction: &Transaction) -> Result<String, AllocError> {
+    let kind = transaction.kind;
+    let is_own = transaction.recipient == Some(transaction.actor);
+    let time = transaction.time.number();
+    format!(in alloc; "{kind:?} {is_own} {time}")
 }
 
-fn is_begun_taken(frame: &Frame) -> bool {
-    matches!(frame, Frame::BegunTaken(_))
+fn document_told(alloc: Global, name: &str, size: u32, bytes: &[u8]) -> Result<String, AllocError> {
+    let text = str::from_utf8(bytes).unwrap_or("no text");
+    format!(in alloc; "{name} {size} {text}")
 }
 
-fn assert_names(rt: &impl Abort, frame: &Frame, (digits, entry, is_taken): &Named) {
-    assert_eq!(rt; Some(kept(frame).bill()), name(BILL), "{digits}");
-    assert_eq!(rt; entry_of(kept(frame)), entry_named(*entry), "{digits}");
-    assert_eq!(rt; is_begun_taken(frame), *is_taken, "{digits}");
+fn cause_told(
+    alloc: Global,
+    code: Code,
+    reason: Reason,
+    evidence: &Evidence,
+) -> Result<String, AllocError> {
+    let own = evidence.own.is_some();
+    let theirs = evidence.theirs.is_some();
+    format!(in alloc; "{code:?} {reason:?} {own} {theirs}")
 }
 
-fn assert_named(rt: &impl Abort, alloc: Global, row: &Named) -> Result<(), Fail> {
-    let frame = frame_of(rt, alloc, row.0)?;
-    assert_names(rt, &frame, row);
-    Ok(())
-}
-
-// Bills and entries have the names that Python's hashlib gives their texts.
-#[test]
-fn names_are_those_of_the_texts(rt: HostRuntime) -> Result<(), Fail> {
-    for row in &NAMES {
-        assert_named(&rt, rt.alloc(), row)?;
-    }
-    Ok(())
-}
-
-fn assert_transaction(rt: &impl Abort, transaction: &Transaction) {
-    assert_eq!(rt; transaction.kind, Kind::Issue);
-    assert_eq!(rt; transaction.recipient, Some(transaction.actor));
-    assert_eq!(rt; transaction.time.number(), 1);
-}
-
-fn assert_acted(rt: &impl Abort, kept: &Record) {
+fn detail(alloc: Global, kept: &Record) -> Result<String, AllocError> {
     match kept {
-        Record::Acted { transaction, .. } => assert_transaction(rt, transaction),
-        _ => panic!(rt; "another record"),
-    }
-}
-
-#[test]
-fn a_transaction_is_read(rt: HostRuntime) -> Result<(), Fail> {
-    let frame = frame_of(&rt, rt.alloc(), ACTED)?;
-    assert_acted(&rt, kept(&frame));
-    Ok(())
-}
-
-fn assert_document(rt: &impl Abort, name: &str, size: u32, bytes: &[u8]) {
-    assert_eq!(rt; name, "a.txt");
-    assert_eq!(rt; size, 3);
-    assert_eq!(rt; bytes, b"abc".as_slice());
-}
-
-fn assert_attached(rt: &impl Abort, kept: &Record) {
-    match kept {
+        Record::Acted { transaction, .. } => transaction_told(alloc, transaction),
         Record::Attached { piece, bytes, .. } => {
-            assert_document(rt, piece.name.as_str(), piece.size, bytes.as_slice())
+            document_told(alloc, piece.name.as_str(), piece.size, bytes.as_slice())
         }
-        _ => panic!(rt; "another record"),
-    }
-}
-
-#[test]
-fn a_listed_document_is_read(rt: HostRuntime) -> Result<(), Fail> {
-    let frame = frame_of(&rt, rt.alloc(), ATTACHED)?;
-    assert_attached(&rt, kept(&frame));
-    Ok(())
-}
-
-/// A Declined's digits, why the entry was declined, and whether there is own evidence, and theirs.
-type Refused = (&'static str, (Code, Reason), (bool, bool));
-
-const PARTS: (Code, Reason) = (Code::DisputedEnvelope, Reason::Parts);
-
-const NO_PARTY: (Code, Reason) = (Code::BadEnvelope, Reason::Party);
-
-const DECLINED_FRAMES: [Refused; 4] = [
-    (DECLINED, PARTS, (true, true)),
-    (OWN, PARTS, (true, false)),
-    (THEIRS, PARTS, (false, true)),
-    (PARTY, NO_PARTY, (false, false)),
-];
-
-fn assert_why(rt: &impl Abort, digits: &str, seen: (Code, Reason), why: (Code, Reason)) {
-    assert_eq!(rt; seen, why, "{digits}");
-}
-
-fn assert_evidence(rt: &impl Abort, digits: &str, evidence: &Evidence, texts: (bool, bool)) {
-    let seen = (evidence.own.is_some(), evidence.theirs.is_some());
-    assert_eq!(rt; seen, texts, "{digits}");
-}
-
-fn assert_refused(rt: &impl Abort, kept: &Record, (digits, why, texts): &Refused) {
-    match kept {
         Record::Declined {
             code,
             reason,
             evidence,
             ..
-        } => {
-            assert_why(rt, digits, (*code, *reason), *why);
-            assert_evidence(rt, digits, evidence, *texts);
+        } => cause_told(alloc, *code, *reason, evidence),
+        _ => Ok(String::new(alloc)),
+    }
+}
+
+fn detail_of(alloc: Global, bytes: &[u8]) -> Result<String, AllocError> {
+    match frame_read(alloc, bytes) {
+        Ok(frame) => {
+            let detail = detail(alloc, kept(&frame));
+            drop(frame);
+            detail
         }
-        _ => panic!(rt; "another record: {digits}"),
+        Err(_) => String::from_str(alloc, "no frame"),
     }
 }
 
-fn assert_declined(rt: &impl Abort, alloc: Global, row: &Refused) -> Result<(), Fail> {
-    let frame = frame_of(rt, alloc, row.0)?;
-    assert_refused(rt, kept(&frame), row);
+/// The digits of a frame, and: of a transaction its kind, whether the actor hands on to itself, and the time; of a
+/// listed document its name, its size and its bytes; of a Declined why the entry was declined, and whether there is own
+/// evidence, and theirs.
+const DETAILS: [(&str, &str); 6] = [
+    (ACTED, "Issue true 1"),
+    (ATTACHED, "a.txt 3 abc"),
+    (DECLINED, "DisputedEnvelope Parts true true"),
+    (OWN, "DisputedEnvelope Parts true false"),
+    (THEIRS, "DisputedEnvelope Parts false true"),
+    (PARTY, "BadEnvelope Party false false"),
+];
+
+fn detail_row<R: Abort>(rt: &R, alloc: Global, digits: &str, want: &str) -> Result<(), Fail> {
+    let bytes = bytes_of(alloc, digits)?;
+    let detail = detail_of(alloc, &bytes)?;
+    same(rt, &digits, detail.as_str(), want);
     Ok(())
 }
 
 #[test]
-fn causes_and_evidence(rt: HostRuntime) -> Result<(), Fail> {
-    for row in &DECLINED_FRAMES {
-        assert_declined(&rt, rt.alloc(), row)?;
+fn transactions_documents_and_causes(rt: HostRuntime) -> Result<(), Fail> {
+    for (digits, want) in &DETAILS {
+        detail_row(&rt, rt.alloc(), digits, want)?;
     }
     Ok(())
 }
 
-#[test]
-fn a_document_that_nests_127_deep(rt: HostRuntime) -> Result<(), Fail> {
-    let bytes = bytes_of(rt.alloc(), TOO_DEEP)?;
-    assert!(rt; is_refused(rt.alloc(), &bytes));
+// ---- bytes that are none
+
+fn none_row<R: Abort>(rt: &R, alloc: Global, row: &str) -> Result<(), Fail> {
+    let (name, digits) = row.split_once('|').ok_or("a bar")?;
+    let bytes = bytes_of(alloc, digits)?;
+    same(rt, &name, told(alloc, &bytes), NONE);
     Ok(())
 }
 
-// Whether the bytes of a frame are none with one byte more.
-fn is_refused_longer(alloc: Global, digits: &str) -> Result<bool, Fail> {
+#[test]
+fn near_misses(rt: HostRuntime) -> Result<(), Fail> {
+    for row in NO_FRAMES.lines() {
+        none_row(&rt, rt.alloc(), row)?;
+    }
+    Ok(())
+}
+
+// The bytes of a frame are none with one byte more.
+fn longer_row<R: Abort>(rt: &R, alloc: Global, digits: &str) -> Result<(), Fail> {
     let mut bytes = bytes_of(alloc, digits)?;
     bytes.push(0)?;
-    Ok(is_refused(alloc, &bytes))
-}
-
-fn assert_longer(rt: &impl Abort, alloc: Global, digits: &str) -> Result<(), Fail> {
-    assert!(rt; is_refused_longer(alloc, digits)?, "{digits}");
+    same(rt, &digits, told(alloc, &bytes), NONE);
     Ok(())
 }
 
 // A Settled of 65 bytes with one byte more among them.
 #[test]
 fn one_byte_more(rt: HostRuntime) -> Result<(), Fail> {
-    for (digits, _) in &FRAMES {
-        assert_longer(&rt, rt.alloc(), digits)?;
+    for row in &FRAMES {
+        longer_row(&rt, rt.alloc(), row.0)?;
     }
     Ok(())
 }
 
-fn assert_each_front(rt: &impl Abort, alloc: Global, bytes: &[u8], digits: &str, but: usize) {
+// How many bytes a Begun has without its Taken.
+const ALONE: usize = BEGUN.len() / 2;
+
+fn assert_each_front<R: Abort>(rt: &R, alloc: Global, bytes: &[u8], digits: &str) {
     for len in 0..bytes.len() {
         assert_eq!(rt;
             is_refused(alloc, &bytes[..len]),
-            len != but,
+            len != ALONE,
             "{len} bytes of {digits}"
         );
     }
 }
 
-// A front of a frame is none, except for a Begun in front of its Taken.
-fn assert_fronts(rt: &impl Abort, alloc: Global, digits: &str, but: usize) -> Result<(), Fail> {
+fn assert_fronts<R: Abort>(rt: &R, alloc: Global, digits: &str) -> Result<(), Fail> {
     let bytes = bytes_of(alloc, digits)?;
-    assert_each_front(rt, alloc, &bytes, digits, but);
+    assert_each_front(rt, alloc, &bytes, digits);
     Ok(())
 }
 
+// A front of a frame is none, except for a Begun in front of its Taken: the others have fewer bytes.
 #[test]
 fn every_front(rt: HostRuntime) -> Result<(), Fail> {
-    let alone = length(rt.alloc(), BEGUN)?;
-    assert_fronts(&rt, rt.alloc(), SETTLED, alone)?;
-    assert_fronts(&rt, rt.alloc(), DECLINED, alone)?;
-    assert_fronts(&rt, rt.alloc(), BEGUN_TAKEN, alone)
+    for digits in &[SETTLED, DECLINED, BEGUN_TAKEN] {
+        assert_fronts(&rt, rt.alloc(), digits)?;
+    }
+    Ok(())
 }
 
-// The bytes with one of them changed.
-fn changed(alloc: Global, digits: &str, at: usize) -> Result<Vec<u8>, Fail> {
-    let mut bytes = bytes_of(alloc, digits)?;
+// A frame, and the first byte that is changed: of the Begun with its Taken those behind the body, as the body has its
+// own tests.
+const CHANGED: [(&str, usize); 4] = [(SETTLED, 0), (SIGNED, 0), (OWN, 0), (BEGUN_TAKEN, ALONE)];
+
+fn change(bytes: &mut [u8], at: usize) {
     if let Some(byte) = bytes.get_mut(at) {
         *byte ^= 1;
     }
-    Ok(bytes)
 }
 
-fn assert_change(rt: &impl Abort, alloc: Global, digits: &str, at: usize) -> Result<(), Fail> {
-    let changed = changed(alloc, digits, at)?;
-    assert!(rt; is_settled(alloc, &changed), "byte {at} of {digits}");
+fn assert_change<R: Abort>(rt: &R, alloc: Global, digits: &str, at: usize) -> Result<(), Fail> {
+    let mut bytes = bytes_of(alloc, digits)?;
+    change(&mut bytes, at);
+    assert!(rt; is_settled(alloc, &bytes), "byte {at} of {digits}");
     Ok(())
 }
 
-// Changes each byte from a place on.
-fn assert_changes(rt: &impl Abort, alloc: Global, digits: &str, from: usize) -> Result<(), Fail> {
-    let len = length(alloc, digits)?;
-    for at in from..len {
+fn assert_changes<R: Abort>(rt: &R, alloc: Global, digits: &str, from: usize) -> Result<(), Fail> {
+    for at in from..digits.len() / 2 {
         assert_change(rt, alloc, digits, at)?;
     }
     Ok(())
 }
 
-// Of the Begun with its Taken those behind the body, as the body has its own tests.
 #[test]
 fn every_changed_byte(rt: HostRuntime) -> Result<(), Fail> {
-    let alone = length(rt.alloc(), BEGUN)?;
-    assert_changes(&rt, rt.alloc(), SETTLED, 0)?;
-    assert_changes(&rt, rt.alloc(), SIGNED, 0)?;
-    assert_changes(&rt, rt.alloc(), OWN, 0)?;
-    assert_changes(&rt, rt.alloc(), BEGUN_TAKEN, alone)
+    for (digits, from) in &CHANGED {
+        assert_changes(&rt, rt.alloc(), digits, *from)?;
+    }
+    Ok(())
 }
