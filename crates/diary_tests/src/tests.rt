@@ -1,9 +1,7 @@
-//! Chains, places of bills, judgements and plans, and families of diaries.
-mod chains;
+//! Chains, places of bills, judgements and plans, and families of diaries. The tables are texts of rows.
 mod conjuncts;
 mod entries;
 mod families;
-mod flaws;
 mod judgements;
 mod making;
 mod meetings;

@@ -1,177 +1,119 @@
-//! Judgements that no start from outside comes to: over diaries that no run has, and of a manifest of another bill.
-use super::entries::{FIRST, NONE, Route, SECOND, checked, is_text, name};
-use super::making::{At, SIGN, another_bill, code, roster, the_bill};
-use super::steps::{Step, diary, manifest};
+//! Judgements that no start from outside comes to: over diaries that no run has, of a manifest of another bill, and of
+//! chains that end nowhere.
+use super::entries::{Sample, sample_of, samples, written_text};
+use super::making::{THE_BILL, another_bill, assert_text, bill_name, code, columns, roster};
+use super::steps::{diary, manifest};
 use bill_diary::Diary;
-use ebl_base::{Chain, Checksum, Copied, Evidence};
-use envelope_manifest::Manifest;
-use std::alloc::Global;
+use ebl_base::{Checksum, Copied, Evidence};
+use std::alloc::{AllocError, Global};
 use std::process::Abort;
-use std::test::Fail;
 use transfer_judge::{Judgement, judge};
 
-/// What a judgement says. Evidence is the last entry of a chain: the own one and the one that was shown, or NONE.
-#[derive(Clone, Copy, Debug)]
-enum Answer {
-    Elsewhere,
-    Duplicate,
-    /// Without own evidence.
-    Declined(Route),
-    Parts(Route, Route),
-}
-
-// The judgement by a diary of a chain with a manifest.
-fn judged_by(
-    alloc: Global,
-    at: At,
-    diary: &Diary,
-    chain: &Chain,
-    manifest: &Manifest,
-) -> Result<Judgement, Fail> {
-    let me = code(at)?;
-    let roster = roster(alloc)?;
-    Ok(judge(alloc, diary, &roster, me, chain, manifest)?)
-}
-
-// The same of the chain on a route, whose manifest names a bill.
-fn judged_route(
-    alloc: Global,
-    at: At,
-    diary: &Diary,
-    route: Route,
-    named: Checksum,
-) -> Result<Judgement, Fail> {
-    let bill = the_bill(alloc)?;
-    let last = name(alloc, bill, route)?;
-    let manifest = manifest(alloc, named, last, &[])?;
-    let chain = checked(alloc, bill, route)?;
-    judged_by(alloc, at, diary, &chain, &manifest)
-}
-
-// The same after these steps.
-fn judged(
-    alloc: Global,
-    at: At,
-    steps: &[Step],
-    route: Route,
-    named: Checksum,
-) -> Result<Judgement, Fail> {
-    let diary = diary(alloc, the_bill(alloc)?, steps)?;
-    judged_route(alloc, at, &diary, route, named)
-}
-
-fn is_evidence(
-    alloc: Global,
-    evidence: &Evidence,
-    own: Route,
-    theirs: Route,
-) -> Result<bool, Fail> {
-    let bill = the_bill(alloc)?;
-    let is_own = is_text(alloc, bill, &evidence.own, own)?;
-    Ok(is_own && is_text(alloc, bill, &evidence.theirs, theirs)?)
-}
-
-fn is_answer(alloc: Global, judgement: &Judgement, answer: Answer) -> Result<bool, Fail> {
-    match (judgement, answer) {
-        (Judgement::Elsewhere, Answer::Elsewhere) => Ok(true),
-        (Judgement::Duplicate, Answer::Duplicate) => Ok(true),
-        (Judgement::Declined { evidence, .. }, Answer::Declined(theirs)) => {
-            is_evidence(alloc, evidence, NONE, theirs)
-        }
-        (Judgement::Parts(evidence), Answer::Parts(own, theirs)) => {
-            is_evidence(alloc, evidence, own, theirs)
-        }
-        _ => Ok(false),
-    }
-}
-
-/// What BETA wrote down, the chain that is shown there, and what is made of it.
-type Row = (&'static [Step], Route, Answer);
-
+// The platform, the chain that is shown there, the bill that its manifest names, what was written down of the chain's
+// bill, and the judgement. Evidence is the last entry of a chain, the own one and the one that was shown, or `-`.
+//
 // Taken, the entry that ends elsewhere; taken as another bill's; taken and declined. Declined as another bill's; twice,
-// of which the last counts. Last, an entry that BETA itself sent: the chain doesn't go on beyond it.
-const UNSOUND: [Row; 9] = [
-    (
-        &[Step::Begun(SECOND), Step::Taken(SECOND)],
-        SECOND,
-        Answer::Elsewhere,
-    ),
-    (&[Step::TakenOfAnotherBill(FIRST)], FIRST, Answer::Duplicate),
-    (
-        &[
-            Step::Begun(FIRST),
-            Step::Taken(FIRST),
-            Step::Declined(FIRST),
-        ],
-        FIRST,
-        Answer::Duplicate,
-    ),
-    (
-        &[Step::Declined(FIRST), Step::Taken(FIRST)],
-        FIRST,
-        Answer::Duplicate,
-    ),
-    (
-        &[Step::DisputedOfAnotherBill(FIRST)],
-        FIRST,
-        Answer::Declined(FIRST),
-    ),
-    (
-        &[Step::Declined(FIRST), Step::DisputedOfAnotherBill(FIRST)],
-        FIRST,
-        Answer::Declined(FIRST),
-    ),
-    (
-        &[Step::DisputedOfAnotherBill(FIRST), Step::Declined(FIRST)],
-        FIRST,
-        Answer::Declined(NONE),
-    ),
-    (
-        &[Step::Acted(SIGN), Step::Parted(FIRST)],
-        FIRST,
-        Answer::Parts(FIRST, FIRST),
-    ),
-    (
-        &[Step::Acted(SIGN), Step::Parted(FIRST), Step::Settled(FIRST)],
-        FIRST,
-        Answer::Parts(FIRST, FIRST),
-    ),
-];
+// of which the last counts. Then an entry that BETA itself sent: the chain doesn't go on beyond it. Then a manifest of
+// another bill: the bill is the chain's, whatever bill the manifest names; held at ALPH, it is disputed. Last, the
+// empty chain, and two whose last transaction is refused: they end nowhere.
+const JUDGEMENTS: &str = "\
+BETA|u.u|1|begun u.u, taken u.u|elsewhere
+BETA|u|1|taken-of-another u|duplicate
+BETA|u|1|begun u, taken u, declined u|duplicate
+BETA|u|1|declined u, taken u|duplicate
+BETA|u|1|disputed-of-another u|declined - u
+BETA|u|1|declined u, disputed-of-another u|declined - u
+BETA|u|1|disputed-of-another u, declined u|declined - -
+BETA|u|1|sign, parted u|parts u u
+BETA|u|1|sign, parted u, settled u|parts u u
+ALPH|u.u|another|sign|parts - u
+ALPH|-|1||elsewhere
+BETA|-|1||elsewhere
+ALPH|ghost|1||elsewhere
+BETA|ghost|1||elsewhere
+ALPH|u.ghost|1||elsewhere
+BETA|u.ghost|1||elsewhere";
 
-// Whether this is answered at BETA.
-fn answers(alloc: Global, named: Checksum, (steps, route, want): &Row) -> Result<bool, Fail> {
-    let judgement = judged(alloc, At::Beta, steps, route, named)?;
-    is_answer(alloc, &judgement, *want)
+// The judgement of a chain whose manifest names a bill.
+fn judged_by<R: Abort>(
+    rt: &R,
+    alloc: Global,
+    at: &str,
+    diary: &Diary,
+    sample: &Sample,
+    named: Checksum,
+) -> Judgement {
+    let me = code(rt, at);
+    let manifest = manifest(alloc, named, sample.name().unwrap_or(named));
+    let roster = roster(rt, alloc);
+    judge(alloc, diary, &roster, me, &sample.chain, &manifest).expect(rt, "no error")
 }
 
-fn assert_row<R: Abort>(rt: &R, alloc: Global, named: Checksum, row: &Row) -> Result<(), Fail> {
-    let is_so = answers(alloc, named, row)?;
-    let (steps, route, want) = row;
-    assert!(rt; is_so, "{route:?} after {steps:?}: {want:?}");
-    Ok(())
-}
-
-#[test]
-fn diaries_that_no_run_has(rt: HostRuntime) -> Result<(), Fail> {
-    let named = the_bill(rt.alloc())?.name;
-    for row in &UNSOUND {
-        assert_row(&rt, rt.alloc(), named, row)?;
+fn bill_of<R: Abort>(rt: &R, alloc: Global, word: &str) -> Checksum {
+    if word == "another" {
+        return another_bill();
     }
-    Ok(())
+    bill_name(rt, alloc, word)
 }
 
-fn assert_disputed<R: Abort>(rt: &R, alloc: Global, judgement: &Judgement) -> Result<(), Fail> {
-    assert!(rt; is_answer(alloc, judgement, Answer::Parts(NONE, FIRST))?);
-    let copy = judgement.copy(alloc)?;
-    assert!(rt; is_answer(alloc, &copy, Answer::Parts(NONE, FIRST))?);
-    Ok(())
+fn judged<R: Abort>(rt: &R, alloc: Global, samples: &[Sample], row: &str) -> Judgement {
+    let [at, entries, named, steps, _] = columns(row);
+    let named = bill_of(rt, alloc, named);
+    let sample = sample_of(rt, samples, THE_BILL, entries);
+    let diary = diary(rt, alloc, samples, THE_BILL, steps);
+    judged_by(rt, alloc, at, &diary, sample, named)
 }
 
-const SIGNED: [Step; 1] = [Step::Acted(SIGN)];
+fn put_evidence(
+    text: &mut String,
+    samples: &[Sample],
+    word: &str,
+    evidence: &Evidence,
+) -> Result<(), AllocError> {
+    let own = written_text(samples, &evidence.own);
+    let theirs = written_text(samples, &evidence.theirs);
+    write!(text, "{word} {own} {theirs}")
+}
 
-// The bill is the chain's, whatever bill the manifest names: held at ALPH, it is disputed.
+fn put_judgement(
+    text: &mut String,
+    samples: &[Sample],
+    judgement: &Judgement,
+) -> Result<(), AllocError> {
+    match judgement {
+        Judgement::Elsewhere => text.push_str("elsewhere"),
+        Judgement::Duplicate => text.push_str("duplicate"),
+        Judgement::Declined { evidence, .. } => put_evidence(text, samples, "declined", evidence),
+        Judgement::Parts(evidence) => put_evidence(text, samples, "parts", evidence),
+        _ => text.push_str("another"),
+    }
+}
+
+fn assert_judgement<R: Abort>(
+    rt: &R,
+    alloc: Global,
+    samples: &[Sample],
+    judgement: &Judgement,
+    row: &str,
+) {
+    let [_, _, _, _, want] = columns(row);
+    let mut text = String::new(alloc);
+    put_judgement(&mut text, samples, judgement).expect(rt, "no error");
+    assert_text(rt, text.as_str(), want, row);
+}
+
+// Of a judgement and of a copy of it.
+fn assert_row<R: Abort>(rt: &R, alloc: Global, samples: &[Sample], row: &str) {
+    let judgement = judged(rt, alloc, samples, row);
+    assert_judgement(rt, alloc, samples, &judgement, row);
+    let copy = judgement.copy(alloc).expect(rt, "no error");
+    assert_judgement(rt, alloc, samples, &copy, row)
+}
+
 #[test]
-fn manifest_of_another_bill(rt: HostRuntime) -> Result<(), Fail> {
-    let judgement = judged(rt.alloc(), At::Alph, &SIGNED, SECOND, another_bill())?;
-    assert_disputed(&rt, rt.alloc(), &judgement)
+fn what_is_made_of_chains(rt: HostRuntime) {
+    let samples = samples(&rt, rt.alloc());
+    for row in JUDGEMENTS.lines() {
+        assert_row(&rt, rt.alloc(), &samples, row);
+    }
 }

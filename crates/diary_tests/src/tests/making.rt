@@ -1,15 +1,14 @@
-//! Parties, acts, rosters, bills and signed texts, of which the other samples are made.
+//! Parties, acts, rosters, bills and signed texts, of which the other samples are made. All samples are written as
+//! words, and the tables of the tests are texts of such words.
 use canonical_json::{Json, is_lawful, read};
-use chain_entry::encode;
 use document_checksum::checksum;
 use ebl_base::{
-    ByteList, ChainLink, Checksum, Entry, Kind, Moment, Party, PlatformCode, SignedText,
-    Transaction, TransactionList,
+    Checksum, Kind, Moment, Party, PlatformCode, SignedText, Transaction, TransactionList,
 };
 use party_roster::Roster;
 use signed_envelope::compose;
 use std::alloc::Global;
-use std::test::Fail;
+use std::process::Abort;
 use test_signer::KeyedRing;
 use transport_document::Document;
 
@@ -21,141 +20,126 @@ const ROSTER: &[u8] = br#"{
 }"#;
 
 /// The roster of the tests.
-pub(crate) fn roster(alloc: Global) -> Result<Roster, Fail> {
-    Ok(Roster::read(alloc, &read(alloc, ROSTER)?)?)
+pub(crate) fn roster<R: Abort>(rt: &R, alloc: Global) -> Roster {
+    Roster::read(alloc, &read(alloc, ROSTER).expect(rt, "no error")).expect(rt, "no error")
 }
 
-/// A platform of the tests.
-#[derive(Clone, Copy, Debug, PartialEq, Eq)]
-pub(crate) enum At {
-    Alph,
-    Beta,
-    Gamm,
+pub(crate) fn code<R: Abort>(rt: &R, platform: &str) -> PlatformCode {
+    PlatformCode::try_new(platform.as_bytes()).expect(rt, "a code")
 }
 
-pub(crate) fn code(at: At) -> Result<PlatformCode, Fail> {
-    let code: &[u8] = match at {
-        At::Alph => b"ALPH",
-        At::Beta => b"BETA",
-        At::Gamm => b"GAMM",
-    };
-    Ok(PlatformCode::try_new(code).ok_or("a code")?)
+// ---- tables
+
+/// The columns of a row; empty ones, where it has fewer.
+pub(crate) fn columns(row: &str) -> [&str; 5] {
+    let mut columns = [""; 5];
+    for (at, column) in row.splitn(5, '|').enumerate() {
+        if at < 5 {
+            columns[at] = column;
+        }
+    }
+    columns
+}
+
+/// What a table has in its second column where a word is in the first.
+pub(crate) fn found_in(table: &'static str, word: &str) -> Option<&'static str> {
+    for row in table.lines() {
+        let [first, second, ..] = columns(row);
+        if first == word {
+            return Some(second);
+        }
+    }
+    None
+}
+
+/// Asserts that what was seen is what a row wants.
+pub(crate) fn assert_text<R: Abort>(rt: &R, seen: &str, want: &str, row: &str) {
+    assert!(rt; seen == want, "{row}: {seen}");
 }
 
 // ---- acts
 
-pub(crate) const CARRIER: &str = "ALPH/CARRIER";
-
-pub(crate) const EXPORTER: &str = "ALPH/EXPORT";
-
-pub(crate) const BANK: &str = "ALPH/BANK";
-
-pub(crate) const IMPORTER: &str = "BETA/IMPORT";
-
-/// An act: its kind, the actor, and the recipient, `""` where there is none.
-pub(crate) type Act = (Kind, &'static str, &'static str);
-
-pub(crate) const SIGN: Act = (Kind::Sign, CARRIER, "");
-
-pub(crate) const SIGN_AT_BETA: Act = (Kind::Sign, "BETA/CARRIER", "");
-
-pub(crate) const ISSUE: Act = (Kind::Issue, CARRIER, EXPORTER);
-
-/// The exporter may not issue the bill.
-pub(crate) const ISSUE_BY_EXPORTER: Act = (Kind::Issue, EXPORTER, EXPORTER);
-
-pub(crate) const TO_BANK: Act = (Kind::Transfer, EXPORTER, BANK);
-
-pub(crate) const TO_IMPORTER: Act = (Kind::Transfer, EXPORTER, IMPORTER);
-
-pub(crate) const TO_AGENT: Act = (Kind::Transfer, EXPORTER, "GAMM/AGENT");
-
-pub(crate) const FOR_DELIVERY: Act = (Kind::SurrenderForDelivery, EXPORTER, "");
-
-pub(crate) const ACCEPT: Act = (Kind::SurrenderAccepted, CARRIER, "");
-
-pub(crate) fn party(text: &str) -> Result<Party, Fail> {
-    Ok(Party::from_text(text.as_bytes()).ok_or("a party")?)
-}
+// Acts: the word for one, and its kind, the actor and the recipient, where there is one. No bill may be issued by its
+// exporter; AGENT and GHOST don't have the bill.
+const ACTS: &str = "\
+sign|SIGN ALPH/CARRIER
+sign-at-beta|SIGN BETA/CARRIER
+sign-by-exporter|SIGN ALPH/EXPORT
+issue|ISSUE ALPH/CARRIER ALPH/EXPORT
+issue-by-exporter|ISSUE ALPH/EXPORT ALPH/EXPORT
+to-bank|TRANSFER ALPH/EXPORT ALPH/BANK
+from-bank|TRANSFER ALPH/BANK ALPH/EXPORT
+bank-to-carrier|TRANSFER ALPH/BANK ALPH/CARRIER
+from-carrier|TRANSFER ALPH/CARRIER ALPH/EXPORT
+to-importer|TRANSFER ALPH/EXPORT BETA/IMPORT
+to-exporter|TRANSFER BETA/IMPORT ALPH/EXPORT
+to-agent|TRANSFER ALPH/EXPORT GAMM/AGENT
+to-store|TRANSFER ALPH/EXPORT ALPH/STORE
+to-store-at-beta|TRANSFER BETA/IMPORT BETA/STORE
+ghost-to-importer|TRANSFER BETA/GHOST BETA/IMPORT
+ghost-to-exporter|TRANSFER ALPH/GHOST ALPH/EXPORT
+agent-to-importer|TRANSFER GAMM/AGENT BETA/IMPORT
+agent-to-exporter|TRANSFER GAMM/AGENT ALPH/EXPORT
+agent-to-store-at-beta|TRANSFER GAMM/AGENT BETA/STORE
+for-delivery|SURRENDER_FOR_DELIVERY ALPH/EXPORT
+accept|SURRENDER_ACCEPTED ALPH/CARRIER
+refuse|SURRENDER_REFUSED ALPH/CARRIER";
 
 /// When everybody acts.
-pub(crate) fn moment() -> Result<Moment, Fail> {
-    Ok(Moment::try_new(1000).ok_or("a moment")?)
+pub(crate) fn moment<R: Abort>(rt: &R) -> Moment {
+    Moment::try_new(1000).expect(rt, "a moment")
 }
 
-pub(crate) fn recipient(text: &str) -> Result<Option<Party>, Fail> {
-    if text.is_empty() {
-        return Ok(None);
-    }
-    Ok(Some(party(text)?))
+// The kind of an act, who acts, and the recipient, where there is one.
+fn parts(act: &str) -> Option<(Kind, Party, Option<Party>)> {
+    let (kind, parties) = found_in(ACTS, act)?.split_once(' ')?;
+    let (actor, to) = parties.split_once(' ').unwrap_or((parties, ""));
+    let kind = Kind::from_text(kind.as_bytes())?;
+    let actor = Party::from_text(actor.as_bytes())?;
+    Some((kind, actor, Party::from_text(to.as_bytes())))
 }
 
-pub(crate) fn transaction(act: Act) -> Result<Transaction, Fail> {
-    let (kind, actor, to) = act;
-    Ok(Transaction {
+pub(crate) fn transaction<R: Abort>(rt: &R, act: &str) -> Transaction {
+    let (kind, actor, recipient) = parts(act).expect(rt, "an act");
+    Transaction {
         kind,
-        actor: party(actor)?,
-        recipient: recipient(to)?,
-        time: moment()?,
-    })
-}
-
-pub(crate) fn add(list: &mut TransactionList, act: Act) -> Result<(), Fail> {
-    list.push(transaction(act)?)?;
-    Ok(())
-}
-
-pub(crate) fn transactions(alloc: Global, acts: &[Act]) -> Result<TransactionList, Fail> {
-    let mut list = TransactionList::new(alloc);
-    for act in acts {
-        add(&mut list, *act)?;
+        actor,
+        recipient,
+        time: moment(rt),
     }
-    Ok(list)
+}
+
+fn put_transactions<R: Abort>(rt: &R, list: &mut TransactionList, acts: &str) {
+    for act in acts.split(' ') {
+        list.push(transaction(rt, act)).expect(rt, "no error");
+    }
+}
+
+/// The transactions of acts.
+pub(crate) fn transactions<R: Abort>(rt: &R, alloc: Global, acts: &str) -> TransactionList {
+    let mut list = TransactionList::new(alloc);
+    put_transactions(rt, &mut list, acts);
+    list
 }
 
 // ---- bills
 
-// The document's canonical text in front of the last digit of its reference, and behind it.
-const FRONT: &[u8] = b"{\"carrierCode\":\"OCNL\",\
-    \"carrierCodeListProvider\":\"NMFTA\",\"isToOrder\":true,\
-    \"transportDocumentReference\":\"OCNL000000";
+/// The bill of the tests that have one. A bill is written as the last digit of its document's reference.
+pub(crate) const THE_BILL: &str = "1";
 
-const BEHIND: &[u8] = b"\",\"transportDocumentTypeCode\":\"BOL\"}";
-
-/// A bill: its name, and the last digit of its document's reference.
-#[derive(Clone, Copy)]
-pub(crate) struct Bill {
-    pub(crate) name: Checksum,
-    digit: u8,
+/// The canonical text of a bill's document.
+pub(crate) fn document_text<R: Abort>(rt: &R, alloc: Global, bill: &str) -> String {
+    format!(in alloc;
+        "{{\"carrierCode\":\"OCNL\",\"carrierCodeListProvider\":\"NMFTA\",\"isToOrder\":true,\
+        \"transportDocumentReference\":\"OCNL000000{bill}\",\"transportDocumentTypeCode\":\"BOL\"}}"
+    )
+    .expect(rt, "no error")
 }
 
-// Digits whose bills belong to these shards, by Python's hashlib.
-pub(crate) const IN_SHARD_0: u8 = b'3';
-
-pub(crate) const IN_SHARD_2: u8 = b'5';
-
-pub(crate) const ALSO_IN_SHARD_2: u8 = b'8';
-
-pub(crate) const IN_SHARD_4: u8 = b'1';
-
-pub(crate) const IN_SHARD_14: u8 = b'2';
-
-fn document_text(alloc: Global, digit: u8) -> Result<ByteList, Fail> {
-    let mut text = ByteList::from_slice(alloc, FRONT)?;
-    text.push(digit)?;
-    text.extend_from_slice(BEHIND)?;
-    Ok(text)
-}
-
-/// The bill with this digit.
-pub(crate) fn bill_with(alloc: Global, digit: u8) -> Result<Bill, Fail> {
-    let name = checksum(document_text(alloc, digit)?.as_slice());
-    Ok(Bill { name, digit })
-}
-
-/// The bill of the tests that have one.
-pub(crate) fn the_bill(alloc: Global) -> Result<Bill, Fail> {
-    bill_with(alloc, IN_SHARD_4)
+/// The name of a bill.
+pub(crate) fn bill_name<R: Abort>(rt: &R, alloc: Global, bill: &str) -> Checksum {
+    let text = document_text(rt, alloc, bill);
+    checksum(text.as_bytes())
 }
 
 /// The name of a bill of which there is no document.
@@ -163,53 +147,38 @@ pub(crate) fn another_bill() -> Checksum {
     checksum(b"another")
 }
 
-impl Bill {
-    /// The canonical text of its document.
-    pub(crate) fn text(self, alloc: Global) -> Result<ByteList, Fail> {
-        document_text(alloc, self.digit)
-    }
+pub(crate) fn document_json<R: Abort>(rt: &R, alloc: Global, bill: &str) -> Json {
+    let text = document_text(rt, alloc, bill);
+    read(alloc, text.as_bytes()).expect(rt, "no error")
+}
 
-    pub(crate) fn json(self, alloc: Global) -> Result<Json, Fail> {
-        Ok(read(alloc, self.text(alloc)?.as_slice())?)
-    }
-
-    pub(crate) fn document(self, alloc: Global) -> Result<Document, Fail> {
-        Ok(Document::of_json(alloc, &self.json(alloc)?)?)
-    }
+pub(crate) fn document<R: Abort>(rt: &R, alloc: Global, bill: &str) -> Document {
+    let json = document_json(rt, alloc, bill);
+    Document::of_json(alloc, &json).expect(rt, "no error")
 }
 
 // ---- signed texts
 
 /// A payload as a platform signs it with this ring.
-pub(crate) fn signed_with(
+pub(crate) fn signed_with<R: Abort>(
+    rt: &R,
     alloc: Global,
     ring: &mut KeyedRing,
     who: PlatformCode,
     payload: &Json,
-) -> Result<SignedText, Fail> {
+) -> SignedText {
     if !is_lawful(payload) {
-        return Err("a lawful payload".into());
+        panic!(rt; "a lawful payload");
     }
-    Ok(compose(alloc, ring, who, payload, 16_384)?)
+    compose(alloc, ring, who, payload, 16_384).expect(rt, "no error")
 }
 
 /// The same with the ring of derived keys.
-pub(crate) fn signed(alloc: Global, who: PlatformCode, payload: &Json) -> Result<SignedText, Fail> {
-    signed_with(alloc, &mut KeyedRing::derived(), who, payload)
-}
-
-// The text of an entry, which its platform signed.
-fn text_of(alloc: Global, entry: &Entry) -> Result<SignedText, Fail> {
-    let payload = encode(alloc, entry)?;
-    signed(alloc, entry.platform, &payload)
-}
-
-/// An entry with its text, which its platform signed.
-pub(crate) fn link_of(alloc: Global, entry: Entry) -> Result<ChainLink, Fail> {
-    let text = text_of(alloc, &entry)?;
-    Ok(ChainLink {
-        name: checksum(text.0.as_slice()),
-        text,
-        entry,
-    })
+pub(crate) fn signed<R: Abort>(
+    rt: &R,
+    alloc: Global,
+    who: PlatformCode,
+    payload: &Json,
+) -> SignedText {
+    signed_with(rt, alloc, &mut KeyedRing::derived(), who, payload)
 }

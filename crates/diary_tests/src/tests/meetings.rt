@@ -1,75 +1,46 @@
 //! Where chains end, and how they meet.
-use super::entries::{
-    FIRST, NONE, OTHER_FIRST_THIRD, OTHER_SECOND_THIRD, OTHER_THIRD, Route, SECOND, THIRD, checked,
-};
-use super::making::{At, code, the_bill};
-use ebl_base::{Chain, PlatformCode};
-use std::alloc::Global;
+use super::entries::{Sample, sample_of, samples};
+use super::making::{THE_BILL, assert_text, columns};
+use ebl_base::Chain;
+use std::alloc::{AllocError, Global};
 use std::process::Abort;
-use std::test::Fail;
-use transfer_chain::{Meeting, dest, meet};
+use transfer_chain::{dest, meet};
 
-fn checked_or_empty(alloc: Global, route: Route) -> Result<Chain, Fail> {
-    if route.is_empty() {
-        return Ok(Chain::new());
+// Two chains, how they meet, and where the first one ends.
+const MEETINGS: &str = "\
+-|-|Equal, nowhere
+-|u|FirstIsPrefix, nowhere
+u|u.u|FirstIsPrefix, BETA
+u.u|u.u.u|FirstIsPrefix, ALPH
+u.u.u|u.u.u|Equal, BETA
+u.u.u|u|SecondIsPrefix, BETA
+u.u.u|o.u.u|Parts(0), BETA
+u.u.u|u.o.u|Parts(1), BETA
+u.u.u|u.u.o|Parts(2), BETA";
+
+fn met(alloc: Global, first: &Chain, second: &Chain) -> Result<String, AllocError> {
+    let meeting = meet(first, second);
+    match dest(first) {
+        Some(platform) => {
+            let end = platform.as_str();
+            format!(in alloc; "{meeting:?}, {end}")
+        }
+        None => format!(in alloc; "{meeting:?}, nowhere"),
     }
-    checked(alloc, the_bill(alloc)?, route)
 }
 
-fn meeting(alloc: Global, first: Route, second: Route) -> Result<Meeting, Fail> {
-    let first = checked_or_empty(alloc, first)?;
-    let second = checked_or_empty(alloc, second)?;
-    Ok(meet(&first, &second))
-}
-
-const MEETINGS: [(Route, Route, Meeting); 8] = [
-    (NONE, NONE, Meeting::Equal),
-    (NONE, FIRST, Meeting::FirstIsPrefix),
-    (FIRST, SECOND, Meeting::FirstIsPrefix),
-    (THIRD, THIRD, Meeting::Equal),
-    (THIRD, FIRST, Meeting::SecondIsPrefix),
-    (THIRD, OTHER_FIRST_THIRD, Meeting::Parts(0)),
-    (THIRD, OTHER_SECOND_THIRD, Meeting::Parts(1)),
-    (THIRD, OTHER_THIRD, Meeting::Parts(2)),
-];
-
-fn assert_meeting<R: Abort>(
-    rt: &R,
-    alloc: Global,
-    first: Route,
-    second: Route,
-    want: Meeting,
-) -> Result<(), Fail> {
-    let seen = meeting(alloc, first, second)?;
-    assert_eq!(rt; seen, want, "{first:?} and {second:?}");
-    Ok(())
+fn assert_row<R: Abort>(rt: &R, alloc: Global, samples: &[Sample], row: &str) {
+    let [first, second, want, ..] = columns(row);
+    let first = sample_of(rt, samples, THE_BILL, first);
+    let second = sample_of(rt, samples, THE_BILL, second);
+    let seen = met(alloc, &first.chain, &second.chain).expect(rt, "no error");
+    assert_text(rt, seen.as_str(), want, row);
 }
 
 #[test]
-fn how_chains_meet(rt: HostRuntime) -> Result<(), Fail> {
-    for (first, second, want) in &MEETINGS {
-        assert_meeting(&rt, rt.alloc(), first, second, *want)?;
+fn how_chains_meet_and_where_they_end(rt: HostRuntime) {
+    let samples = samples(&rt, rt.alloc());
+    for row in MEETINGS.lines() {
+        assert_row(&rt, rt.alloc(), &samples, row);
     }
-    Ok(())
-}
-
-fn end(alloc: Global, route: Route) -> Result<Option<PlatformCode>, Fail> {
-    let chain = checked_or_empty(alloc, route)?;
-    Ok(dest(&chain))
-}
-
-fn assert_end<R: Abort>(rt: &R, alloc: Global, route: Route, at: At) -> Result<(), Fail> {
-    let seen = end(alloc, route)?;
-    assert_eq!(rt; seen, Some(code(at)?), "{route:?}");
-    Ok(())
-}
-
-const ENDS: [(Route, At); 3] = [(FIRST, At::Beta), (SECOND, At::Alph), (THIRD, At::Beta)];
-
-#[test]
-fn where_chains_end(rt: HostRuntime) -> Result<(), Fail> {
-    for (route, at) in &ENDS {
-        assert_end(&rt, rt.alloc(), route, *at)?;
-    }
-    Ok(())
 }

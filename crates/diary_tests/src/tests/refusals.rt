@@ -1,197 +1,120 @@
-//! The first refusal that applies.
-use super::entries::found_of;
-use super::flaws::{Flaw, Flaws, GOOD, one, texts};
-use super::making::the_bill;
-use chain_entry::EntryField;
-use ebl_base::TextList;
-use signed_envelope::BadSigned;
-use std::alloc::Global;
+//! What the check says of chains, and the first refusal that applies.
+use super::entries::{checked, made, texts};
+use super::making::{THE_BILL, assert_text, columns};
+use ebl_base::Chain;
+use std::alloc::{AllocError, Global};
 use std::process::Abort;
-use std::test::Fail;
-use title_fold::FoldRefusal;
-use transfer_chain::ChainRefusal;
+use transfer_chain::{ChainRefusal, meet};
 
-// How many entries the chain of these texts has, or why they are none.
-fn answer(alloc: Global, texts: &TextList) -> Result<Result<usize, ChainRefusal>, Fail> {
-    match found_of(alloc, the_bill(alloc)?, texts)? {
-        Ok(chain) => Ok(Ok(chain.len())),
-        Err(refusal) => Ok(Err(refusal)),
+// A chain, as `entries` says; how many usual entries more it has; and what the check of its texts says: how the chain
+// that is made meets the one that is found, with its length, or the refusal. Of 65 texts no signature is looked at.
+const LENGTHS: &str = "\
+-|0|Empty
+u|0|Equal 1
+u|63|Equal 64
+u|64|TooLong
+not-compact|64|TooLong";
+
+// The samples that are good, those whose last transaction is refused, and one without its middle.
+const SAMPLES: &str = "\
+u.u|0|Equal 2
+u.u.u|0|Equal 3
+u.u.u.u|0|Equal 4
+o|0|Equal 1
+o.u|0|Equal 2
+o.u.u|0|Equal 3
+o.u.u.u|0|Equal 4
+u.o|0|Equal 2
+u.o.u|0|Equal 3
+u.u.o|0|Equal 3
+agent|0|Equal 1
+ghost|0|Fold(0, 2, F7)
+u.ghost|0|Fold(1, 0, F7)
+u.u+lost.u|0|BrokenLink(1)";
+
+// Each refusal, at the first entry and later.
+const REFUSALS: &str = "\
+not-compact.u.u|0|BadSignature(0, NotCompact)
+u.u.wrong-key|0|BadSignature(2, Wrong)
+no-entry.u.u|0|EntryForm(0, Platform)
+u.no-entry.u|0|EntryForm(1, Platform)
+other-signer.u.u|0|WrongSigner(0)
+u.u.other-signer|0|WrongSigner(2)
+link.u.u|0|BrokenLink(0)
+u.u.link|0|BrokenLink(2)
+bill.u.u|0|WrongBill(0)
+u.bill.u|0|WrongBill(1)
+carrier.u.u|0|Carrier
+platform.u.u|0|WrongPlatform(0)
+u.platform.u|0|WrongPlatform(1)
+fold.u.u|0|Fold(0, 1, F6)
+u.fold.u|0|Fold(1, 0, F7)
+inside.u.u|0|Move(0)
+u.u.inside|0|Move(2)
+stays.u.u|0|Move(0)
+u.stays.u|0|Move(1)";
+
+// The first of two: texts before entries, earlier entries before later ones, and of one entry the first cause.
+const PAIRS: &str = "\
+fold.u.not-compact|0|BadSignature(2, NotCompact)
+link.no-entry.u|0|EntryForm(1, Platform)
+u.other-signer.not-compact|0|WrongSigner(1)
+stays.link.u|0|Move(0)
+u.link+bill.u|0|BrokenLink(1)
+bill+carrier.u.u|0|WrongBill(0)
+carrier+platform.u.u|0|Carrier
+u.platform+fold.u|0|WrongPlatform(1)
+u.fold+stays.u|0|Fold(1, 0, F7)";
+
+fn put_more(entries: &mut String, more: u8) -> Result<(), AllocError> {
+    for _ in 0..more {
+        entries.push_str(".u")?;
+    }
+    Ok(())
+}
+
+fn longer<R: Abort>(rt: &R, alloc: Global, entries: &str, more: &str) -> String {
+    let mut text = String::from_str(alloc, entries).expect(rt, "no error");
+    put_more(&mut text, more.parse::<u8>().expect(rt, "no error")).expect(rt, "no error");
+    text
+}
+
+fn equal(alloc: Global, made: &Chain, found: &Chain) -> Result<String, AllocError> {
+    let meeting = meet(made, found);
+    let length = found.len();
+    format!(in alloc; "{meeting:?} {length}")
+}
+
+fn shown(
+    alloc: Global,
+    made: &Chain,
+    seen: Result<Chain, ChainRefusal>,
+) -> Result<String, AllocError> {
+    match seen {
+        Ok(found) => equal(alloc, made, &found),
+        Err(refusal) => format!(in alloc; "{refusal:?}"),
     }
 }
 
-fn flawed(alloc: Global, count: usize, flaws: &Flaws) -> Result<Result<usize, ChainRefusal>, Fail> {
-    answer(alloc, &texts(alloc, count, flaws)?)
+// What is said of a chain.
+fn said<R: Abort>(rt: &R, alloc: Global, entries: &str) -> String {
+    let made = made(rt, alloc, THE_BILL, entries);
+    let texts = texts(rt, alloc, made.as_slice(), entries);
+    shown(alloc, &made, checked(rt, alloc, &texts)).expect(rt, "no error")
 }
 
-const LENGTHS: [(usize, Flaw, Result<usize, ChainRefusal>); 5] = [
-    (0, Flaw::None, Err(ChainRefusal::Empty)),
-    (1, Flaw::None, Ok(1)),
-    (64, Flaw::None, Ok(64)),
-    (65, Flaw::None, Err(ChainRefusal::TooLong)),
-    // No signature is looked at.
-    (65, Flaw::NotCompact, Err(ChainRefusal::TooLong)),
-];
-
-fn assert_length<R: Abort>(
-    rt: &R,
-    alloc: Global,
-    count: usize,
-    flaw: Flaw,
-    want: Result<usize, ChainRefusal>,
-) -> Result<(), Fail> {
-    let seen = flawed(alloc, count, &one(0, flaw))?;
-    assert_eq!(rt; seen, want, "{count}, {flaw:?}");
-    Ok(())
+fn assert_row<R: Abort>(rt: &R, alloc: Global, row: &str) {
+    let [entries, more, want, ..] = columns(row);
+    let entries = longer(rt, alloc, entries, more);
+    let seen = said(rt, alloc, entries.as_str());
+    assert_text(rt, seen.as_str(), want, row);
 }
 
 #[test]
-fn lengths(rt: HostRuntime) -> Result<(), Fail> {
-    for (count, flaw, want) in &LENGTHS {
-        assert_length(&rt, rt.alloc(), *count, *flaw, *want)?;
+fn what_the_check_says(rt: HostRuntime) {
+    for table in [LENGTHS, SAMPLES, REFUSALS, PAIRS] {
+        for row in table.lines() {
+            assert_row(&rt, rt.alloc(), row);
+        }
     }
-    Ok(())
-}
-
-const REFUSALS: [(usize, Flaw, ChainRefusal); 19] = [
-    (
-        0,
-        Flaw::NotCompact,
-        ChainRefusal::BadSignature(0, BadSigned::NotCompact),
-    ),
-    (
-        2,
-        Flaw::WrongKey,
-        ChainRefusal::BadSignature(2, BadSigned::Wrong),
-    ),
-    (
-        0,
-        Flaw::NoEntry,
-        ChainRefusal::EntryForm(0, EntryField::Platform),
-    ),
-    (
-        1,
-        Flaw::NoEntry,
-        ChainRefusal::EntryForm(1, EntryField::Platform),
-    ),
-    (0, Flaw::OtherSigner, ChainRefusal::WrongSigner(0)),
-    (2, Flaw::OtherSigner, ChainRefusal::WrongSigner(2)),
-    (0, Flaw::Link, ChainRefusal::BrokenLink(0)),
-    (2, Flaw::Link, ChainRefusal::BrokenLink(2)),
-    (0, Flaw::Bill, ChainRefusal::WrongBill(0)),
-    (1, Flaw::Bill, ChainRefusal::WrongBill(1)),
-    (0, Flaw::Carrier, ChainRefusal::Carrier),
-    (0, Flaw::Platform, ChainRefusal::WrongPlatform(0)),
-    (1, Flaw::Platform, ChainRefusal::WrongPlatform(1)),
-    (0, Flaw::Fold, ChainRefusal::Fold(0, 1, FoldRefusal::F6)),
-    (1, Flaw::Fold, ChainRefusal::Fold(1, 0, FoldRefusal::F7)),
-    (0, Flaw::Inside, ChainRefusal::Move(0)),
-    (2, Flaw::Inside, ChainRefusal::Move(2)),
-    (0, Flaw::Stays, ChainRefusal::Move(0)),
-    (1, Flaw::Stays, ChainRefusal::Move(1)),
-];
-
-fn assert_refusal<R: Abort>(
-    rt: &R,
-    alloc: Global,
-    at: usize,
-    flaw: Flaw,
-    want: ChainRefusal,
-) -> Result<(), Fail> {
-    let seen = flawed(alloc, 3, &one(at, flaw))?;
-    assert_eq!(rt; seen, Err(want), "{flaw:?} at {at}");
-    Ok(())
-}
-
-#[test]
-fn each_refusal_at_the_first_entry_and_later(rt: HostRuntime) -> Result<(), Fail> {
-    for (at, flaw, want) in &REFUSALS {
-        assert_refusal(&rt, rt.alloc(), *at, *flaw, *want)?;
-    }
-    Ok(())
-}
-
-// Texts before entries, earlier entries before later ones, and of one entry the first cause.
-const PAIRS: [(Flaws, ChainRefusal); 9] = [
-    (
-        [(0, Flaw::Fold), (2, Flaw::NotCompact)],
-        ChainRefusal::BadSignature(2, BadSigned::NotCompact),
-    ),
-    (
-        [(1, Flaw::NoEntry), (0, Flaw::Link)],
-        ChainRefusal::EntryForm(1, EntryField::Platform),
-    ),
-    (
-        [(1, Flaw::OtherSigner), (2, Flaw::NotCompact)],
-        ChainRefusal::WrongSigner(1),
-    ),
-    ([(1, Flaw::Link), (0, Flaw::Stays)], ChainRefusal::Move(0)),
-    (
-        [(1, Flaw::Bill), (1, Flaw::Link)],
-        ChainRefusal::BrokenLink(1),
-    ),
-    (
-        [(0, Flaw::Carrier), (0, Flaw::Bill)],
-        ChainRefusal::WrongBill(0),
-    ),
-    (
-        [(0, Flaw::Platform), (0, Flaw::Carrier)],
-        ChainRefusal::Carrier,
-    ),
-    (
-        [(1, Flaw::Fold), (1, Flaw::Platform)],
-        ChainRefusal::WrongPlatform(1),
-    ),
-    (
-        [(1, Flaw::Stays), (1, Flaw::Fold)],
-        ChainRefusal::Fold(1, 0, FoldRefusal::F7),
-    ),
-];
-
-fn assert_pair<R: Abort>(
-    rt: &R,
-    alloc: Global,
-    flaws: &Flaws,
-    want: ChainRefusal,
-) -> Result<(), Fail> {
-    let seen = flawed(alloc, 3, flaws)?;
-    assert_eq!(rt; seen, Err(want), "{flaws:?}");
-    Ok(())
-}
-
-#[test]
-fn the_first_of_two_refusals(rt: HostRuntime) -> Result<(), Fail> {
-    for (flaws, want) in &PAIRS {
-        assert_pair(&rt, rt.alloc(), flaws, *want)?;
-    }
-    Ok(())
-}
-
-fn assert_answer<R: Abort>(
-    rt: &R,
-    alloc: Global,
-    texts: &TextList,
-    want: Result<usize, ChainRefusal>,
-) -> Result<(), Fail> {
-    let seen = answer(alloc, texts)?;
-    assert_eq!(rt; seen, want);
-    Ok(())
-}
-
-// The first and the last of three texts.
-fn without_middle(whole: TextList) -> Result<TextList, Fail> {
-    let mut texts = whole.into_vec();
-    if texts.len() != 3 {
-        return Err("three texts".into());
-    }
-    texts.remove(1);
-    Ok(TextList::from_vec(texts))
-}
-
-#[test]
-fn a_chain_without_its_middle(rt: HostRuntime) -> Result<(), Fail> {
-    let whole = texts(rt.alloc(), 3, &GOOD)?;
-    assert_answer(&rt, rt.alloc(), &whole, Ok(3))?;
-    let without = without_middle(whole)?;
-    let want = Err(ChainRefusal::BrokenLink(1));
-    assert_answer(&rt, rt.alloc(), &without, want)
 }

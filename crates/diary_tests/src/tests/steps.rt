@@ -1,298 +1,255 @@
-//! What platforms write down of a bill, and the diaries of it.
-use super::entries::{Route, chain, last, name, texts};
-use super::making::{Act, Bill, another_bill, signed, transaction};
+//! What platforms write down of a bill, and the diaries of it. A step is written as an act, or as a verb with a chain,
+//! whose last entry it is about, or with a document:
+//!
+//! | Step | What is written down |
+//! |---|---|
+//! | `sign`, or another act | a Signed, or an Acted |
+//! | `attached weights` | an Attached |
+//! | `parted u`, `settled u`, `regained u` | a Parted, a Settled, a Regained |
+//! | `begun u`, `taken u`, `begun-taken u` | a Begun, a Taken, both at once |
+//! | `stored weights` | a Stored |
+//! | `taken-of-another u` | a Taken of another bill |
+//! | `disputed-of-another u` | a Declined of another bill since the chains part; the evidence is the entry |
+//! | `declined u` | a Declined since the roster doesn't know the party; without evidence |
+use super::entries::{Sample, sample_of, texts};
+use super::making::{another_bill, bill_name, document_json, document_text, signed, transaction};
 use bill_diary::{Diary, Frame, Record};
 use document_checksum::checksum;
 use ebl_base::{
-    ByteList, CharList, Checksum, Code, Evidence, Items, Kind, PlatformCode, Reason, SignedText,
-    TextList,
+    ByteList, ChainLink, CharList, Checksum, Code, Copied, Evidence, Items, Reason, SignedText,
 };
 use envelope_manifest::{Body, Manifest, Piece, encode as encode_manifest};
 use std::alloc::Global;
-use std::test::Fail;
-
-/// An additional document of the tests.
-#[derive(Clone, Copy, Debug, PartialEq, Eq)]
-pub(crate) enum Paper {
-    Packing,
-    Weights,
-}
-
-/// What is written down next; an entry is the last one of a chain.
-#[derive(Clone, Copy, Debug)]
-pub(crate) enum Step {
-    /// A Signed where the act is a SIGN.
-    Acted(Act),
-    Attached(Paper),
-    Parted(Route),
-    Settled(Route),
-    Regained(Route),
-    Begun(Route),
-    BegunTaken(Route),
-    Stored(Paper),
-    Taken(Route),
-    TakenOfAnotherBill(Route),
-    /// Since the chains part; the evidence is the entry.
-    DisputedOfAnotherBill(Route),
-    /// Since the roster doesn't know the party; without evidence.
-    Declined(Route),
-}
+use std::process::Abort;
 
 // ---- documents
 
-fn bytes_of(paper: Paper) -> &'static [u8] {
-    match paper {
-        Paper::Packing => b"packing list",
-        Paper::Weights => b"weights",
-    }
-}
-
-pub(crate) fn paper_name(paper: Paper) -> Checksum {
-    checksum(bytes_of(paper))
-}
-
-fn piece_of(alloc: Global, paper: Paper) -> Piece {
+/// An additional document is written as its bytes.
+pub(crate) fn piece_of(alloc: Global, paper: &str) -> Piece {
     Piece {
         name: CharList::new(alloc),
         media: CharList::new(alloc),
-        size: match paper {
-            Paper::Packing => 12,
-            Paper::Weights => 7,
-        },
-        checksum: paper_name(paper),
+        size: u32::try_from(paper.len()).unwrap_or(0),
+        checksum: checksum(paper.as_bytes()),
     }
 }
 
-fn pieces_of(alloc: Global, papers: &[Paper]) -> Result<Items<Piece>, Fail> {
-    let mut pieces = Items::new(alloc);
-    for paper in papers {
-        pieces.push(piece_of(alloc, *paper))?;
-    }
-    Ok(pieces)
-}
-
-/// The manifest of a chain that ends in this entry, with these documents.
-pub(crate) fn manifest(
-    alloc: Global,
-    bill: Checksum,
-    last: Checksum,
-    papers: &[Paper],
-) -> Result<Manifest, Fail> {
-    Ok(Manifest {
+/// The manifest of a chain of a bill that ends in an entry, without documents.
+pub(crate) fn manifest(alloc: Global, bill: Checksum, last: Checksum) -> Manifest {
+    Manifest {
         bill,
         last,
-        documents: pieces_of(alloc, papers)?,
-    })
-}
-
-/// The manifest of a chain of the bill, with these documents.
-pub(crate) fn manifest_of(
-    alloc: Global,
-    bill: Bill,
-    route: Route,
-    papers: &[Paper],
-) -> Result<Manifest, Fail> {
-    let last = name(alloc, bill, route)?;
-    manifest(alloc, bill.name, last, papers)
-}
-
-fn signed_manifest(
-    alloc: Global,
-    who: PlatformCode,
-    manifest: &Manifest,
-) -> Result<SignedText, Fail> {
-    let payload = encode_manifest(alloc, manifest)?;
-    signed(alloc, who, &payload)
-}
-
-// The platform whose entry is the last one of a chain.
-fn sender(alloc: Global, bill: Bill, route: Route) -> Result<PlatformCode, Fail> {
-    Ok(last(alloc, bill, route)?.entry.platform)
+        documents: Items::new(alloc),
+    }
 }
 
 // The text of the manifest of a chain without documents, as the platform of its last entry signs it.
-fn manifest_text(alloc: Global, bill: Bill, route: Route) -> Result<SignedText, Fail> {
-    let who = sender(alloc, bill, route)?;
-    let manifest = manifest_of(alloc, bill, route, &[])?;
-    signed_manifest(alloc, who, &manifest)
+fn manifest_text<R: Abort>(rt: &R, alloc: Global, bill: Checksum, last: &ChainLink) -> SignedText {
+    let payload = encode_manifest(alloc, &manifest(alloc, bill, last.name)).expect(rt, "no error");
+    signed(rt, alloc, last.entry.platform, &payload)
 }
 
 // ---- records
 
-fn acted(alloc: Global, bill: Bill, act: Act) -> Result<Record, Fail> {
-    let transaction = transaction(act)?;
-    if transaction.kind == Kind::Sign {
-        return Ok(Record::Signed {
-            bill: bill.name,
-            document: bill.text(alloc)?,
-            transaction,
-        });
-    }
-    Ok(Record::Acted {
-        bill: bill.name,
+fn signed_document<R: Abort>(rt: &R, alloc: Global, bill: &str, act: &str) -> Frame {
+    let transaction = transaction(rt, act);
+    let text = document_text(rt, alloc, bill);
+    Frame::One(Record::Signed {
+        bill: checksum(text.as_bytes()),
+        document: ByteList::from_slice(alloc, text.as_bytes()).expect(rt, "no error"),
         transaction,
     })
 }
 
-fn attached(alloc: Global, bill: Bill, paper: Paper) -> Result<Record, Fail> {
-    let bytes = ByteList::from_slice(alloc, bytes_of(paper))?;
-    Ok(Record::Attached {
-        bill: bill.name,
+fn acted<R: Abort>(rt: &R, alloc: Global, bill: &str, act: &str) -> Frame {
+    if act.starts_with("sign") {
+        return signed_document(rt, alloc, bill, act);
+    }
+    Frame::One(Record::Acted {
+        bill: bill_name(rt, alloc, bill),
+        transaction: transaction(rt, act),
+    })
+}
+
+fn attached<R: Abort>(rt: &R, alloc: Global, bill: Checksum, paper: &str) -> Frame {
+    let bytes = ByteList::from_slice(alloc, paper.as_bytes()).expect(rt, "no error");
+    Frame::One(Record::Attached {
+        bill,
         piece: piece_of(alloc, paper),
         bytes,
     })
 }
 
-fn stored(alloc: Global, bill: Bill, paper: Paper) -> Result<Record, Fail> {
-    Ok(Record::Stored {
-        bill: bill.name,
-        entry: bill.name,
-        checksum: paper_name(paper),
-        bytes: ByteList::from_slice(alloc, bytes_of(paper))?,
+fn stored<R: Abort>(rt: &R, alloc: Global, bill: Checksum, paper: &str) -> Frame {
+    let bytes = ByteList::from_slice(alloc, paper.as_bytes()).expect(rt, "no error");
+    Frame::One(Record::Stored {
+        bill,
+        entry: bill,
+        checksum: checksum(paper.as_bytes()),
+        bytes,
     })
 }
 
-fn parted(alloc: Global, bill: Bill, route: Route) -> Result<Record, Fail> {
-    let manifest_text = manifest_text(alloc, bill, route)?;
-    let manifest = manifest_of(alloc, bill, route, &[])?;
-    let link = last(alloc, bill, route)?;
-    Ok(Record::Parted {
-        bill: bill.name,
+fn parted<R: Abort>(rt: &R, alloc: Global, bill: Checksum, last: &ChainLink) -> Frame {
+    let manifest_text = manifest_text(rt, alloc, bill, last);
+    let link = last.copy(alloc).expect(rt, "no error");
+    Frame::One(Record::Parted {
+        bill,
         link,
-        manifest,
+        manifest: manifest(alloc, bill, last.name),
         manifest_text,
     })
 }
 
-fn texts_of(alloc: Global, bill: Bill, route: Route) -> Result<TextList, Fail> {
-    let chain = chain(alloc, bill, route)?;
-    texts(alloc, &chain)
-}
-
-fn parts(alloc: Global, bill: Bill, route: Route) -> Result<Body, Fail> {
-    let manifest = manifest_text(alloc, bill, route)?;
-    let chain = texts_of(alloc, bill, route)?;
-    let document = bill.json(alloc)?;
-    Ok(Body {
-        document,
+// What the body of an envelope with a chain has.
+fn body_parts<R: Abort>(rt: &R, alloc: Global, bill: Checksum, sample: &Sample) -> Body {
+    let manifest = manifest_text(rt, alloc, bill, sample.last(rt));
+    let chain = texts(rt, alloc, sample.chain.as_slice(), sample.entries);
+    Body {
+        document: document_json(rt, alloc, sample.bill),
         manifest,
         chain,
-    })
+    }
 }
 
-fn written(alloc: Global, body: &Body) -> Result<ByteList, Fail> {
-    Ok(body.write(alloc)?)
+fn body<R: Abort>(rt: &R, alloc: Global, bill: Checksum, sample: &Sample) -> ByteList {
+    let parts = body_parts(rt, alloc, bill, sample);
+    parts.write(alloc).expect(rt, "no error")
 }
 
-// The body of an envelope with a chain that ends in an entry.
-fn body(alloc: Global, bill: Bill, route: Route) -> Result<ByteList, Fail> {
-    let parts = parts(alloc, bill, route)?;
-    written(alloc, &parts)
-}
-
-pub(crate) fn begun(alloc: Global, bill: Bill, route: Route) -> Result<Record, Fail> {
-    let body = body(alloc, bill, route)?;
-    let manifest = manifest_of(alloc, bill, route, &[])?;
-    let chain = chain(alloc, bill, route)?;
-    Ok(Record::Begun {
-        bill: bill.name,
-        chain,
+/// A Begun of a chain, with this manifest and body.
+pub(crate) fn begun_with<R: Abort>(
+    rt: &R,
+    alloc: Global,
+    bill: Checksum,
+    sample: &Sample,
+    manifest: Manifest,
+    body: ByteList,
+) -> Record {
+    Record::Begun {
+        bill,
+        chain: sample.chain.copy(alloc).expect(rt, "no error"),
         manifest,
         body,
-    })
+    }
 }
 
-fn settled(alloc: Global, bill: Bill, route: Route) -> Result<Record, Fail> {
-    Ok(Record::Settled {
-        bill: bill.name,
-        entry: name(alloc, bill, route)?,
-    })
+fn begun<R: Abort>(rt: &R, alloc: Global, bill: Checksum, sample: &Sample) -> Record {
+    let body = body(rt, alloc, bill, sample);
+    let manifest = manifest(alloc, bill, sample.last(rt).name);
+    begun_with(rt, alloc, bill, sample, manifest, body)
 }
 
-fn regained(alloc: Global, bill: Bill, route: Route) -> Result<Record, Fail> {
-    Ok(Record::Regained {
-        bill: bill.name,
-        entry: name(alloc, bill, route)?,
-    })
+// A Begun, which may be taken at once.
+fn came<R: Abort>(rt: &R, alloc: Global, bill: Checksum, sample: &Sample, is_taken: bool) -> Frame {
+    let record = begun(rt, alloc, bill, sample);
+    if is_taken {
+        return Frame::BegunTaken(record);
+    }
+    Frame::One(record)
 }
 
-fn taken(alloc: Global, of: Checksum, bill: Bill, route: Route) -> Result<Record, Fail> {
-    Ok(Record::Taken {
-        bill: of,
-        entry: name(alloc, bill, route)?,
-    })
-}
-
-fn disputed_of_another_bill(alloc: Global, bill: Bill, route: Route) -> Result<Record, Fail> {
-    let link = last(alloc, bill, route)?;
-    Ok(Record::Declined {
+fn disputed<R: Abort>(rt: &R, alloc: Global, entry: &ChainLink) -> Frame {
+    Frame::One(Record::Declined {
         bill: another_bill(),
-        entry: link.name,
+        entry: entry.name,
         code: Code::DisputedEnvelope,
         reason: Reason::Parts,
         evidence: Evidence {
             own: None,
-            theirs: Some(link.text),
+            theirs: Some(entry.text.copy(alloc).expect(rt, "no error")),
         },
     })
 }
 
-fn declined(alloc: Global, bill: Bill, route: Route) -> Result<Record, Fail> {
-    Ok(Record::Declined {
-        bill: bill.name,
-        entry: name(alloc, bill, route)?,
+fn declined(bill: Checksum, entry: Checksum) -> Record {
+    Record::Declined {
+        bill,
+        entry,
         code: Code::BadEnvelope,
         reason: Reason::Party,
         evidence: Evidence {
             own: None,
             theirs: None,
         },
-    })
+    }
 }
 
-fn record(alloc: Global, bill: Bill, step: Step) -> Result<Record, Fail> {
-    match step {
-        Step::Acted(act) => acted(alloc, bill, act),
-        Step::Attached(paper) => attached(alloc, bill, paper),
-        Step::Parted(route) => parted(alloc, bill, route),
-        Step::Settled(route) => settled(alloc, bill, route),
-        Step::Regained(route) => regained(alloc, bill, route),
-        Step::Begun(route) | Step::BegunTaken(route) => begun(alloc, bill, route),
-        Step::Stored(paper) => stored(alloc, bill, paper),
-        Step::Taken(route) => taken(alloc, bill.name, bill, route),
-        Step::TakenOfAnotherBill(route) => taken(alloc, another_bill(), bill, route),
-        Step::DisputedOfAnotherBill(route) => disputed_of_another_bill(alloc, bill, route),
-        Step::Declined(route) => declined(alloc, bill, route),
+// A record that has no more than the name of an entry.
+fn of_name<R: Abort>(rt: &R, bill: Checksum, verb: &str, entry: Checksum) -> Frame {
+    match verb {
+        "settled" => Frame::One(Record::Settled { bill, entry }),
+        "regained" => Frame::One(Record::Regained { bill, entry }),
+        "taken" => Frame::One(Record::Taken { bill, entry }),
+        "taken-of-another" => Frame::One(Record::Taken {
+            bill: another_bill(),
+            entry,
+        }),
+        "declined" => Frame::One(declined(bill, entry)),
+        _ => panic!(rt; "a step"),
+    }
+}
+
+// A record of a chain.
+fn of_chain<R: Abort>(rt: &R, alloc: Global, bill: Checksum, verb: &str, sample: &Sample) -> Frame {
+    let last = sample.last(rt);
+    match verb {
+        "parted" => parted(rt, alloc, bill, last),
+        "begun" => came(rt, alloc, bill, sample, false),
+        "begun-taken" => came(rt, alloc, bill, sample, true),
+        "disputed-of-another" => disputed(rt, alloc, last),
+        _ => of_name(rt, bill, verb, last.name),
     }
 }
 
 /// What is written down at once.
-pub(crate) fn frame(alloc: Global, bill: Bill, step: Step) -> Result<Frame, Fail> {
-    let record = record(alloc, bill, step)?;
-    match step {
-        Step::BegunTaken(_) => Ok(Frame::BegunTaken(record)),
-        _ => Ok(Frame::One(record)),
+pub(crate) fn frame<R: Abort>(
+    rt: &R,
+    alloc: Global,
+    samples: &[Sample],
+    bill: &str,
+    step: &str,
+) -> Frame {
+    let Some((verb, of)) = step.split_once(' ') else {
+        return acted(rt, alloc, bill, step);
+    };
+    let name = bill_name(rt, alloc, bill);
+    match verb {
+        "attached" => attached(rt, alloc, name, of),
+        "stored" => stored(rt, alloc, name, of),
+        _ => of_chain(rt, alloc, name, verb, sample_of(rt, samples, bill, of)),
     }
 }
 
 // ---- diaries
 
-/// A diary goes on.
-pub(crate) fn write_down(
+/// A diary goes on; steps stand between commas.
+pub(crate) fn write_down<R: Abort>(
+    rt: &R,
     alloc: Global,
+    samples: &[Sample],
+    bill: &str,
     diary: &mut Diary,
-    bill: Bill,
-    steps: &[Step],
-) -> Result<(), Fail> {
-    for step in steps {
-        diary.push(frame(alloc, bill, *step)?)?;
+    steps: &str,
+) {
+    for step in steps.split(", ") {
+        if !step.is_empty() {
+            diary
+                .push(frame(rt, alloc, samples, bill, step))
+                .expect(rt, "no error");
+        }
     }
-    Ok(())
 }
 
 /// The diary of these steps.
-pub(crate) fn diary(alloc: Global, bill: Bill, steps: &[Step]) -> Result<Diary, Fail> {
+pub(crate) fn diary<R: Abort>(
+    rt: &R,
+    alloc: Global,
+    samples: &[Sample],
+    bill: &str,
+    steps: &str,
+) -> Diary {
     let mut diary = Items::new(alloc);
-    write_down(alloc, &mut diary, bill, steps)?;
-    Ok(diary)
+    write_down(rt, alloc, samples, bill, &mut diary, steps);
+    diary
 }
