@@ -1,446 +1,245 @@
-//! Manifests and bodies in and out of their forms. In these texts `'` stands for `"`.
-use crate::tests::making::{json, quoted};
-use canonical_json::{Json, text_of, write};
+//! Manifests and bodies in and out of their forms, in tables as `making` has them.
+use crate::tests::making::{Form, InJson, JsonForm, assert_table, json, refusal, same, spelled};
+use canonical_json::{Json, text_of};
 use document_checksum::checksum;
-use ebl_base::{ByteList, CharList, Checksum, Copied, NoMemory};
+use ebl_base::{ByteList, Copied, NoMemory};
 use envelope_manifest::{
-    Body, BodyFault, BodyField, Manifest, ManifestFault, ManifestField, Piece, PieceList, decode,
-    decode_piece, encode, encode_piece,
+    Body, Manifest, ManifestFault, Piece, decode, decode_piece, encode, encode_piece,
 };
-use std::alloc::{AllocError, Global};
+use std::alloc::Global;
 use std::process::Abort;
 use std::test::Fail;
 
-const BILL: ManifestFault = ManifestFault::ManifestForm(ManifestField::Bill);
+struct Manifests;
 
-const LAST: ManifestFault = ManifestFault::ManifestForm(ManifestField::Last);
+impl JsonForm for Manifests {
+    type Fault = ManifestFault;
 
-const DOCUMENTS: ManifestFault = ManifestFault::ManifestForm(ManifestField::Documents);
+    fn again(alloc: Global, json: &Json) -> Result<Json, ManifestFault> {
+        let manifest = decode(alloc, json)?;
+        let json = encode(alloc, &manifest);
+        drop(manifest);
+        Ok(json?)
+    }
+}
 
-// The checksum of `abc` and that of `{}` stand in FIPS 180-4's examples and in Python's hashlib.
-const MANIFEST: &str =
-    "{'bill':'44136fa355b3678a1146ad16f7e8649e94fb4fc21fe77e8310c060f61caaff8a','documents':[{'checksum':'ba7816bf8f01cfea414140de5dae2223b00361a396177a9cb410ff61f20015ad','media':'text/plain','name':'abc.txt','size':3}],'last':'ba7816bf8f01cfea414140de5dae2223b00361a396177a9cb410ff61f20015ad'}";
+// What is refused has a second fault behind the first where there can be one.
+const MANIFESTS: &str = r#"
+{'bill':'$','documents':[{'checksum':'@','media':'text/plain','name':'abc.txt','size':3}],'last':'@'} | {'bill':'$','documents':[{'checksum':'@','media':'text/plain','name':'abc.txt','size':3}],'last':'@'}
+[] | ManifestForm(Bill)
+{'bill':'44136FA355b3678a1146ad16f7e8649e94fb4fc21fe77e8310c060f61caaff8a','last':1} | ManifestForm(Bill)
+{'bill':'$'} | ManifestForm(Last)
+{'bill':'$','documents':0,'last':null} | ManifestForm(Last)
+{'bill':'$','documents':{},'last':'$'} | ManifestForm(Documents)
+{'bill':'$','documents':[{'checksum':'$','media':'a','name':'a','size':-1}],'last':'$'} | ManifestForm(Documents)
+"#;
 
-fn decoded(alloc: Global) -> Result<Manifest, Fail> {
-    let json = json(alloc, MANIFEST)?;
+// Documents with one name, and documents that are together as large as they may be, or larger.
+const LISTED: &str = r#"
+{'bill':'*32*01*','documents':[],'last':'*32*02*'} | {'bill':'*32*01*','documents':[],'last':'*32*02*'}
+{'bill':'*32*01*','documents':[{'checksum':'*32*07*','media':'b','name':'a','size':1},{'checksum':'*32*08*','media':'b','name':'a','size':1}],'last':'*32*02*'} | {'bill':'*32*01*','documents':[{'checksum':'*32*07*','media':'b','name':'a','size':1},{'checksum':'*32*08*','media':'b','name':'a','size':1}],'last':'*32*02*'}
+{'bill':'*32*01*','documents':[{'checksum':'*32*07*','media':'b','name':'a','size':1},{'checksum':'*32*08*','media':'b','name':'a','size':1},{'checksum':'*32*07*','media':'b','name':'a','size':2}],'last':'*32*02*'} | ManifestForm(Documents)
+{'bill':'*32*01*','documents':[{'checksum':'*32*07*','media':'b','name':'a','size':2097152},{'checksum':'*32*08*','media':'b','name':'a','size':2097152}],'last':'*32*02*'} | {'bill':'*32*01*','documents':[{'checksum':'*32*07*','media':'b','name':'a','size':2097152},{'checksum':'*32*08*','media':'b','name':'a','size':2097152}],'last':'*32*02*'}
+{'bill':'*32*01*','documents':[{'checksum':'*32*07*','media':'b','name':'a','size':2097152},{'checksum':'*32*08*','media':'b','name':'a','size':2097152},{'checksum':'*32*09*','media':'b','name':'a','size':0}],'last':'*32*02*'} | {'bill':'*32*01*','documents':[{'checksum':'*32*07*','media':'b','name':'a','size':2097152},{'checksum':'*32*08*','media':'b','name':'a','size':2097152},{'checksum':'*32*09*','media':'b','name':'a','size':0}],'last':'*32*02*'}
+{'bill':'*32*01*','documents':[{'checksum':'*32*07*','media':'b','name':'a','size':2097152},{'checksum':'*32*08*','media':'b','name':'a','size':2097152},{'checksum':'*32*09*','media':'b','name':'a','size':1}],'last':'*32*02*'} | ManifestForm(Documents)
+{'bill':'*32*01*','documents':[{'checksum':'*32*07*','media':'b','name':'a','size':2097152},{'checksum':'*32*08*','media':'b','name':'a','size':2097152},{'checksum':'*32*09*','media':'b','name':'a','size':2097152}],'last':'*32*02*'} | ManifestForm(Documents)
+{'bill':'*32*01*','documents':[{'checksum':'*32*07*','media':'b','name':'a','size':2097153}],'last':'*32*02*'} | ManifestForm(Documents)
+"#;
+
+// Sixteen documents, and one more.
+const MANY: &str = r#"
+{'bill':'*32*01*','documents':[{'checksum':'*32*00*','media':'b','name':'a','size':0},{'checksum':'*32*01*','media':'b','name':'a','size':0},{'checksum':'*32*02*','media':'b','name':'a','size':0},{'checksum':'*32*03*','media':'b','name':'a','size':0},{'checksum':'*32*04*','media':'b','name':'a','size':0},{'checksum':'*32*05*','media':'b','name':'a','size':0},{'checksum':'*32*06*','media':'b','name':'a','size':0},{'checksum':'*32*07*','media':'b','name':'a','size':0},{'checksum':'*32*08*','media':'b','name':'a','size':0},{'checksum':'*32*09*','media':'b','name':'a','size':0},{'checksum':'*32*0a*','media':'b','name':'a','size':0},{'checksum':'*32*0b*','media':'b','name':'a','size':0},{'checksum':'*32*0c*','media':'b','name':'a','size':0},{'checksum':'*32*0d*','media':'b','name':'a','size':0},{'checksum':'*32*0e*','media':'b','name':'a','size':0},{'checksum':'*32*0f*','media':'b','name':'a','size':0}],'last':'*32*02*'} | {'bill':'*32*01*','documents':[{'checksum':'*32*00*','media':'b','name':'a','size':0},{'checksum':'*32*01*','media':'b','name':'a','size':0},{'checksum':'*32*02*','media':'b','name':'a','size':0},{'checksum':'*32*03*','media':'b','name':'a','size':0},{'checksum':'*32*04*','media':'b','name':'a','size':0},{'checksum':'*32*05*','media':'b','name':'a','size':0},{'checksum':'*32*06*','media':'b','name':'a','size':0},{'checksum':'*32*07*','media':'b','name':'a','size':0},{'checksum':'*32*08*','media':'b','name':'a','size':0},{'checksum':'*32*09*','media':'b','name':'a','size':0},{'checksum':'*32*0a*','media':'b','name':'a','size':0},{'checksum':'*32*0b*','media':'b','name':'a','size':0},{'checksum':'*32*0c*','media':'b','name':'a','size':0},{'checksum':'*32*0d*','media':'b','name':'a','size':0},{'checksum':'*32*0e*','media':'b','name':'a','size':0},{'checksum':'*32*0f*','media':'b','name':'a','size':0}],'last':'*32*02*'}
+{'bill':'*32*01*','documents':[{'checksum':'*32*00*','media':'b','name':'a','size':0},{'checksum':'*32*01*','media':'b','name':'a','size':0},{'checksum':'*32*02*','media':'b','name':'a','size':0},{'checksum':'*32*03*','media':'b','name':'a','size':0},{'checksum':'*32*04*','media':'b','name':'a','size':0},{'checksum':'*32*05*','media':'b','name':'a','size':0},{'checksum':'*32*06*','media':'b','name':'a','size':0},{'checksum':'*32*07*','media':'b','name':'a','size':0},{'checksum':'*32*08*','media':'b','name':'a','size':0},{'checksum':'*32*09*','media':'b','name':'a','size':0},{'checksum':'*32*0a*','media':'b','name':'a','size':0},{'checksum':'*32*0b*','media':'b','name':'a','size':0},{'checksum':'*32*0c*','media':'b','name':'a','size':0},{'checksum':'*32*0d*','media':'b','name':'a','size':0},{'checksum':'*32*0e*','media':'b','name':'a','size':0},{'checksum':'*32*0f*','media':'b','name':'a','size':0},{'checksum':'*32*10*','media':'b','name':'a','size':0}],'last':'*32*02*'} | ManifestForm(Documents)
+"#;
+
+#[test]
+fn manifests_are_read_and_written(rt: HostRuntime) -> Result<(), Fail> {
+    assert_table::<InJson<Manifests>, _>(&rt, MANIFESTS)?;
+    assert_table::<InJson<Manifests>, _>(&rt, LISTED)?;
+    assert_table::<InJson<Manifests>, _>(&rt, MANY)
+}
+
+fn decoded(alloc: Global, text: &str) -> Result<Manifest, Fail> {
+    let json = json(alloc, text)?;
     let manifest = decode(alloc, &json);
     drop(json);
     Ok(manifest?)
 }
 
-fn sample_manifest(alloc: Global) -> Result<Manifest, Fail> {
-    let manifest = decoded(alloc)?;
-    let copy = manifest.copy(alloc);
-    drop(manifest);
-    Ok(copy?)
-}
-
 fn assert_piece(rt: &impl Abort, piece: &Piece) {
-    assert_eq!(rt; piece.name.as_str(), "abc.txt");
-    assert_eq!(rt; piece.media.as_str(), "text/plain");
-    assert_eq!(rt; piece.size, 3);
-    assert_eq!(rt; piece.checksum, checksum(b"abc"));
+    let named = piece.name.as_str() == "abc.txt" && piece.media.as_str() == "text/plain";
+    assert!(rt;
+        named && piece.size == 3 && piece.checksum == checksum(b"abc"),
+        "{piece:?}"
+    );
 }
 
 fn assert_manifest(rt: &impl Abort, manifest: &Manifest) {
-    assert_eq!(rt; manifest.bill, checksum(b"{}"));
-    assert_eq!(rt; manifest.last, checksum(b"abc"));
-    assert_eq!(rt; manifest.documents.len(), 1);
+    let named = manifest.bill == checksum(b"{}") && manifest.last == checksum(b"abc");
+    assert!(rt; named && manifest.documents.len() == 1, "{manifest:?}");
     for piece in manifest.documents.as_slice() {
         assert_piece(rt, piece);
     }
 }
 
-// The text of a manifest.
-fn written(alloc: Global, manifest: &Manifest) -> Result<ByteList, Fail> {
-    let json = encode(alloc, manifest)?;
-    let text = write(alloc, &json);
-    drop(json);
-    Ok(text?)
-}
-
-fn assert_text(rt: &impl Abort, alloc: Global, text: &[u8]) -> Result<(), Fail> {
-    let want = quoted(alloc, MANIFEST)?;
-    assert_eq!(rt; text, want.as_slice());
+fn assert_copy(rt: &impl Abort, alloc: Global, manifest: &Manifest) -> Result<(), Fail> {
+    let copy = manifest.copy(alloc)?;
+    assert_manifest(rt, &copy);
+    drop(copy);
     Ok(())
 }
 
-fn assert_encoded(rt: &impl Abort, alloc: Global, manifest: &Manifest) -> Result<(), Fail> {
-    let text = written(alloc, manifest)?;
-    assert_text(rt, alloc, text.as_slice())
-}
-
 #[test]
-fn a_manifest_there_and_back(rt: HostRuntime) -> Result<(), Fail> {
-    let manifest = sample_manifest(rt.alloc())?;
-    assert_manifest(&rt, &manifest);
-    let encoded = assert_encoded(&rt, rt.alloc(), &manifest);
+fn a_manifest_has_its_parts(rt: HostRuntime) -> Result<(), Fail> {
+    let text =
+        "{'bill':'$','documents':[{'checksum':'@','media':'text/plain','name':'abc.txt','size':3}],'last':'@'}";
+    let manifest = decoded(rt.alloc(), text)?;
+    let copied = assert_copy(&rt, rt.alloc(), &manifest);
     drop(manifest);
-    encoded
+    copied
 }
 
-// Whether a document is read once it is written.
-fn is_piece_read(alloc: Global, piece: &Piece) -> Result<bool, NoMemory> {
-    let json = encode_piece(alloc, piece)?;
-    let is_read = decode_piece(alloc, &json).is_ok();
-    drop(json);
-    Ok(is_read)
-}
+// A document that a manifest lists.
+struct Pieces;
 
-fn assert_pieces(rt: &impl Abort, alloc: Global, manifest: &Manifest) -> Result<(), Fail> {
-    for piece in manifest.documents.as_slice() {
-        assert!(rt; is_piece_read(alloc, piece)?);
-    }
-    Ok(())
-}
+impl JsonForm for Pieces {
+    type Fault = ManifestFault;
 
-// A whole manifest is no document.
-fn assert_no_piece(rt: &impl Abort, alloc: Global) -> Result<(), Fail> {
-    let whole = json(alloc, MANIFEST)?;
-    let fault = decode_piece(alloc, &whole).err();
-    drop(whole);
-    assert!(rt; fault == Some(DOCUMENTS));
-    Ok(())
-}
-
-#[test]
-fn a_document_alone(rt: HostRuntime) -> Result<(), Fail> {
-    let manifest = sample_manifest(rt.alloc())?;
-    let pieces = assert_pieces(&rt, rt.alloc(), &manifest);
-    drop(manifest);
-    pieces?;
-    assert_no_piece(&rt, rt.alloc())
-}
-
-// What the text is refused for.
-fn refused(alloc: Global, text: &str) -> Option<ManifestFault> {
-    let json = json(alloc, text).ok()?;
-    let fault = decode(alloc, &json).err();
-    drop(json);
-    fault
-}
-
-// Each has a second fault behind the first where there can be one.
-const REFUSED: [(&str, ManifestFault); 6] = [
-    ("[]", BILL),
-    (
-        "{'bill':'44136FA355b3678a1146ad16f7e8649e94fb4fc21fe77e8310c060f61caaff8a','last':1}",
-        BILL,
-    ),
-    (
-        "{'bill':'44136fa355b3678a1146ad16f7e8649e94fb4fc21fe77e8310c060f61caaff8a'}",
-        LAST,
-    ),
-    (
-        "{'bill':'44136fa355b3678a1146ad16f7e8649e94fb4fc21fe77e8310c060f61caaff8a','documents':0,'last':null}",
-        LAST,
-    ),
-    (
-        "{'bill':'44136fa355b3678a1146ad16f7e8649e94fb4fc21fe77e8310c060f61caaff8a','documents':{},'last':'44136fa355b3678a1146ad16f7e8649e94fb4fc21fe77e8310c060f61caaff8a'}",
-        DOCUMENTS,
-    ),
-    (
-        "{'bill':'44136fa355b3678a1146ad16f7e8649e94fb4fc21fe77e8310c060f61caaff8a','documents':[{'checksum':'44136fa355b3678a1146ad16f7e8649e94fb4fc21fe77e8310c060f61caaff8a','media':'a','name':'a','size':-1}],'last':'44136fa355b3678a1146ad16f7e8649e94fb4fc21fe77e8310c060f61caaff8a'}",
-        DOCUMENTS,
-    ),
-];
-
-#[test]
-fn names_the_first_wrong_field(rt: HostRuntime) {
-    for &(text, fault) in &REFUSED {
-        assert_eq!(rt; refused(rt.alloc(), text), Some(fault), "{text}");
+    fn again(alloc: Global, json: &Json) -> Result<Json, ManifestFault> {
+        let piece = decode_piece(alloc, json)?;
+        let json = encode_piece(alloc, &piece);
+        drop(piece);
+        Ok(json?)
     }
 }
 
-// A document with a checksum of this byte alone.
-fn piece(alloc: Global, name: &str, media: &str, size: u32, byte: u8) -> Result<Piece, NoMemory> {
-    Ok(Piece {
-        name: CharList::from_text(alloc, name)?,
-        media: CharList::from_text(alloc, media)?,
-        size,
-        checksum: Checksum([byte; 32]),
-    })
-}
-
-// Whether such a document is read once it is written.
-fn is_read(alloc: Global, name: &str, media: &str, size: u32) -> Result<bool, NoMemory> {
-    let piece = piece(alloc, name, media, size, 0)?;
-    let is_read = is_piece_read(alloc, &piece);
-    drop(piece);
-    is_read
-}
-
-fn repeated(alloc: Global, part: &str, count: usize) -> Result<String, AllocError> {
-    let mut text = String::new(alloc);
-    for _ in 0..count {
-        text.push_str(part)?;
-    }
-    Ok(text)
-}
-
-// Whether a document is read whose name and media type are this part so many times.
-fn is_read_of(alloc: Global, part: &str, names: usize, medias: usize) -> Result<bool, NoMemory> {
-    let name = repeated(alloc, part, names)?;
-    let media = repeated(alloc, part, medias)?;
-    is_read(alloc, name.as_str(), media.as_str(), 0)
-}
-
-// A part, how many of it are a name and a media type, and whether these are read.
-const LENGTHS: [(&str, usize, usize, bool); 9] = [
-    ("a", 128, 64, true),
-    ("a", 129, 1, false),
-    ("a", 1, 65, false),
-    ("\u{e9}", 64, 32, true),
-    ("\u{e9}", 65, 1, false),
-    ("\u{e9}", 1, 33, false),
-    ("\u{1f600}", 32, 16, true),
-    ("\u{1f600}", 33, 1, false),
-    ("\u{1f600}", 1, 17, false),
-];
+// A document alone, and a whole manifest, which is none.
+const PIECES: &str = r#"
+{'checksum':'@','media':'text/plain','name':'abc.txt','size':3} | {'checksum':'@','media':'text/plain','name':'abc.txt','size':3}
+{'bill':'$','documents':[{'checksum':'@','media':'text/plain','name':'abc.txt','size':3}],'last':'@'} | ManifestForm(Documents)
+"#;
 
 // Lengths are counted in bytes of UTF-8: 128 and 129 of a name, 64 and 65 of a media type.
-#[test]
-fn texts_at_their_limits(rt: HostRuntime) -> Result<(), Fail> {
-    for &(part, names, medias, taken) in &LENGTHS {
-        assert_eq!(rt;
-            is_read_of(rt.alloc(), part, names, medias)?,
-            taken,
-            "{part}"
-        );
-    }
-    Ok(())
-}
+const LENGTHS: &str = r#"
+{'checksum':'*64*0*','media':'*64*a*','name':'*128*a*','size':0} | {'checksum':'*64*0*','media':'*64*a*','name':'*128*a*','size':0}
+{'checksum':'*64*0*','media':'a','name':'*129*a*','size':0} | ManifestForm(Documents)
+{'checksum':'*64*0*','media':'*65*a*','name':'a','size':0} | ManifestForm(Documents)
+{'checksum':'*64*0*','media':'*32*é*','name':'*64*é*','size':0} | {'checksum':'*64*0*','media':'*32*é*','name':'*64*é*','size':0}
+{'checksum':'*64*0*','media':'é','name':'*65*é*','size':0} | ManifestForm(Documents)
+{'checksum':'*64*0*','media':'*33*é*','name':'é','size':0} | ManifestForm(Documents)
+{'checksum':'*64*0*','media':'*16*😀*','name':'*32*😀*','size':0} | {'checksum':'*64*0*','media':'*16*😀*','name':'*32*😀*','size':0}
+{'checksum':'*64*0*','media':'😀','name':'*33*😀*','size':0} | ManifestForm(Documents)
+{'checksum':'*64*0*','media':'*17*😀*','name':'😀','size':0} | ManifestForm(Documents)
+"#;
 
-const CONTROLS: [(&str, bool); 9] = [
-    ("", false),
-    ("a\nb", false),
-    ("\u{0}", false),
-    ("\u{1f}", false),
-    ("\u{20}", true),
-    ("\u{7e}", true),
-    ("a\u{7f}", false),
-    ("\u{80}", true),
-    ("\u{20ac}", true),
-];
-
-// Whether the text is taken for a name and for a media type.
-fn control_row(rt: &impl Abort, alloc: Global, text: &str, taken: bool) -> Result<(), Fail> {
-    assert_eq!(rt; is_read(alloc, text, "a", 0)?, taken, "{text}");
-    assert_eq!(rt; is_read(alloc, "a", text, 0)?, taken, "{text}");
-    Ok(())
-}
-
-#[test]
-fn texts_without_control_characters(rt: HostRuntime) -> Result<(), Fail> {
-    for &(text, taken) in &CONTROLS {
-        control_row(&rt, rt.alloc(), text, taken)?;
-    }
-    Ok(())
-}
-
-// A manifest of documents of these sizes, with checksums of these bytes.
-fn listing(alloc: Global, listed: &[(u32, u8)]) -> Result<Manifest, NoMemory> {
-    let mut documents = PieceList::new(alloc);
-    for (size, byte) in listed {
-        documents.push(piece(alloc, "a", "b", *size, *byte)?)?;
-    }
-    Ok(Manifest {
-        bill: Checksum([1; 32]),
-        last: Checksum([2; 32]),
-        documents,
-    })
-}
-
-fn encoded_list(alloc: Global, listed: &[(u32, u8)]) -> Result<Json, NoMemory> {
-    let manifest = listing(alloc, listed)?;
-    let json = encode(alloc, &manifest);
-    drop(manifest);
-    json
-}
-
-// What such a manifest is refused for, once it is written.
-fn refused_list(alloc: Global, listed: &[(u32, u8)]) -> Result<Option<ManifestFault>, NoMemory> {
-    let json = encoded_list(alloc, listed)?;
-    let fault = decode(alloc, &json).err();
-    drop(json);
-    Ok(fault)
-}
-
-const HALF: u32 = 2_097_152;
-
-const LISTED: [(&[(u32, u8)], Option<ManifestFault>); 8] = [
-    (&[], None),
-    (&[(1, 7), (1, 8)], None),
-    (&[(1, 7), (1, 8), (2, 7)], Some(DOCUMENTS)),
-    (&[(HALF, 7), (HALF, 8)], None),
-    (&[(HALF, 7), (HALF, 8), (0, 9)], None),
-    (&[(HALF, 7), (HALF, 8), (1, 9)], Some(DOCUMENTS)),
-    (&[(HALF, 7), (HALF, 8), (HALF, 9)], Some(DOCUMENTS)),
-    (&[(HALF + 1, 7)], Some(DOCUMENTS)),
-];
+// Control characters and characters beside them, in a name and in a media type.
+const CONTROLS: &str = "
+{'checksum':'*64*0*','media':'a','name':'','size':0} | ManifestForm(Documents)
+{'checksum':'*64*0*','media':'','name':'a','size':0} | ManifestForm(Documents)
+{'checksum':'*64*0*','media':'a','name':'a\\nb','size':0} | ManifestForm(Documents)
+{'checksum':'*64*0*','media':'a\\nb','name':'a','size':0} | ManifestForm(Documents)
+{'checksum':'*64*0*','media':'a','name':'\\u0000','size':0} | ManifestForm(Documents)
+{'checksum':'*64*0*','media':'\\u0000','name':'a','size':0} | ManifestForm(Documents)
+{'checksum':'*64*0*','media':'a','name':'\\u001f','size':0} | ManifestForm(Documents)
+{'checksum':'*64*0*','media':'\\u001f','name':'a','size':0} | ManifestForm(Documents)
+{'checksum':'*64*0*','media':'a','name':'\\u0020','size':0} | {'checksum':'*64*0*','media':'a','name':'\u{20}','size':0}
+{'checksum':'*64*0*','media':'\\u0020','name':'a','size':0} | {'checksum':'*64*0*','media':'\u{20}','name':'a','size':0}
+{'checksum':'*64*0*','media':'a','name':'\\u007e','size':0} | {'checksum':'*64*0*','media':'a','name':'\u{7e}','size':0}
+{'checksum':'*64*0*','media':'\\u007e','name':'a','size':0} | {'checksum':'*64*0*','media':'\u{7e}','name':'a','size':0}
+{'checksum':'*64*0*','media':'a','name':'a\\u007f','size':0} | ManifestForm(Documents)
+{'checksum':'*64*0*','media':'a\\u007f','name':'a','size':0} | ManifestForm(Documents)
+{'checksum':'*64*0*','media':'a','name':'\\u0080','size':0} | {'checksum':'*64*0*','media':'a','name':'\u{80}','size':0}
+{'checksum':'*64*0*','media':'\\u0080','name':'a','size':0} | {'checksum':'*64*0*','media':'\u{80}','name':'a','size':0}
+{'checksum':'*64*0*','media':'a','name':'\\u20ac','size':0} | {'checksum':'*64*0*','media':'a','name':'€','size':0}
+{'checksum':'*64*0*','media':'\\u20ac','name':'a','size':0} | {'checksum':'*64*0*','media':'€','name':'a','size':0}
+";
 
 #[test]
-fn documents_together(rt: HostRuntime) -> Result<(), Fail> {
-    for &(listed, want) in &LISTED {
-        assert_eq!(rt; refused_list(rt.alloc(), listed)?, want, "{listed:?}");
-    }
-    Ok(())
+fn documents_are_read_and_written(rt: HostRuntime) -> Result<(), Fail> {
+    assert_table::<InJson<Pieces>, _>(&rt, PIECES)?;
+    assert_table::<InJson<Pieces>, _>(&rt, LENGTHS)?;
+    assert_table::<InJson<Pieces>, _>(&rt, CONTROLS)
 }
+
+struct Bodies;
+
+impl Form for Bodies {
+    fn answer(alloc: Global, text: &[u8]) -> Result<ByteList, Fail> {
+        match Body::read(alloc, text) {
+            Ok(body) => Ok(body_again(alloc, body)?),
+            Err(fault) => refusal(alloc, fault),
+        }
+    }
+}
+
+fn body_again(alloc: Global, body: Body) -> Result<ByteList, NoMemory> {
+    let text = body.write(alloc);
+    drop(body);
+    text
+}
+
+// Bodies, with chains of one text, of two and of 66, and texts that are none: the first wrong part is named.
+const BODIES: &str = r#"
+{ 'manifest':'b.b.b', 'more':[1], 'document':{'n':7,'a':'at sea'}, 'chain':['a.a.a','\u20ac\n'] } | {'chain':['a.a.a','€\n'],'document':{'a':'at sea','n':7},'manifest':'b.b.b'}
+{'chain':['a.a.a','€\n'],'document':{'a':'at sea','n':7},'manifest':'b.b.b'} | {'chain':['a.a.a','€\n'],'document':{'a':'at sea','n':7},'manifest':'b.b.b'}
+{'document':{},'manifest':'m','chain':['t']} | {'chain':['t'],'document':{},'manifest':'m'}
+{'document':{},'manifest':'m','chain':['t','t']} | {'chain':['t','t'],'document':{},'manifest':'m'}
+{'document':{},'manifest':'m','chain':[*65*'t',*'t']} | {'chain':[*65*'t',*'t'],'document':{},'manifest':'m'}
+ | BodyForm(Json)
+{'chain':[],'document':{},'manifest':'' | BodyForm(Json)
+{'chain':[],'document':{'a':1e5},'manifest':''} | BodyForm(Json)
+[{'document':{}}] | BodyForm(Json)
+{'chain':0} | BodyForm(Document)
+{'chain':[],'document':[],'manifest':0} | BodyForm(Document)
+{'chain':{},'document':{}} | BodyForm(Manifest)
+{'chain':[],'document':{},'manifest':{}} | BodyForm(Manifest)
+{'document':{},'manifest':''} | BodyForm(Chain)
+{'chain':'','document':{},'manifest':''} | BodyForm(Chain)
+{'chain':['a',null,'c'],'document':{},'manifest':''} | BodyForm(Chain)
+"#;
 
 #[test]
-fn sixteen_documents_and_one_more(rt: HostRuntime) -> Result<(), Fail> {
-    let mut listed = [(0, 0); 17];
-    for (i, one) in listed.iter_mut().enumerate() {
-        one.1 = i as u8;
-    }
-    assert_eq!(rt; refused_list(rt.alloc(), &listed[..16])?, None);
-    assert_eq!(rt; refused_list(rt.alloc(), &listed)?, Some(DOCUMENTS));
-    Ok(())
+fn bodies_are_read_and_written(rt: HostRuntime) -> Result<(), Fail> {
+    assert_table::<Bodies, _>(&rt, BODIES)
 }
 
-// What the text is refused for as a body.
-fn refused_body(alloc: Global, text: &str) -> Option<BodyFault> {
-    let bytes = quoted(alloc, text).ok()?;
-    Body::read(alloc, &bytes).err()
-}
-
-const REFUSED_BODIES: [(&str, BodyField); 11] = [
-    ("", BodyField::Json),
-    ("{'chain':[],'document':{},'manifest':''", BodyField::Json),
-    (
-        "{'chain':[],'document':{'a':1e5},'manifest':''}",
-        BodyField::Json,
-    ),
-    ("[{'document':{}}]", BodyField::Json),
-    ("{'chain':0}", BodyField::Document),
-    (
-        "{'chain':[],'document':[],'manifest':0}",
-        BodyField::Document,
-    ),
-    ("{'chain':{},'document':{}}", BodyField::Manifest),
-    (
-        "{'chain':[],'document':{},'manifest':{}}",
-        BodyField::Manifest,
-    ),
-    ("{'document':{},'manifest':''}", BodyField::Chain),
-    ("{'chain':'','document':{},'manifest':''}", BodyField::Chain),
-    (
-        "{'chain':['a',null,'c'],'document':{},'manifest':''}",
-        BodyField::Chain,
-    ),
-];
-
-#[test]
-fn names_the_first_wrong_part(rt: HostRuntime) {
-    for &(text, field) in &REFUSED_BODIES {
-        let fault = refused_body(rt.alloc(), text);
-        assert_eq!(rt; fault, Some(BodyFault::BodyForm(field)), "{text}");
-    }
-}
-
+// A text, and the one that the body is written as.
 const CAME: &str =
-    "{ 'manifest':'b.b.b', 'more':[1], 'document':{'n':7,'a':'at sea'}, 'chain':['a.a.a','\\u20ac\\n'] }";
+    r"{ 'manifest':'b.b.b', 'more':[1], 'document':{'n':7,'a':'at sea'}, 'chain':['a.a.a','\u20ac\n'] }";
 
-const BODY: &str =
-    "{'chain':['a.a.a','\u{20ac}\\n'],'document':{'a':'at sea','n':7},'manifest':'b.b.b'}";
+const WRITTEN: &str =
+    r"{'chain':['a.a.a','€\n'],'document':{'a':'at sea','n':7},'manifest':'b.b.b'}";
 
 fn body_of(alloc: Global, text: &str) -> Result<Body, Fail> {
-    let bytes = quoted(alloc, text)?;
-    let body = Body::read(alloc, &bytes);
-    drop(bytes);
-    Ok(body?)
+    let bytes = spelled(alloc, text)?;
+    Ok(Body::read(alloc, &bytes)?)
 }
 
 fn assert_body(rt: &impl Abort, body: &Body) {
     let member = text_of(&body.document, "a").map(|t| t.as_str());
-    assert_eq!(rt; member, Some("at sea"));
-    assert_eq!(rt; body.manifest.0.as_slice(), b"b.b.b".as_slice());
-    assert_eq!(rt; body.chain.len(), 2);
+    same(rt, "member", member, Some("at sea"));
+    let manifest = body.manifest.0.as_slice();
+    same(rt, "manifest", manifest, b"b.b.b".as_slice());
+    same(rt, "chain", body.chain.len(), 2);
 }
 
 fn copy_written(alloc: Global, body: &Body) -> Result<ByteList, NoMemory> {
     let copy = body.copy(alloc)?;
-    let text = copy.write(alloc);
-    drop(copy);
-    text
+    body_again(alloc, copy)
 }
 
-fn assert_body_text(rt: &impl Abort, alloc: Global, text: &[u8]) -> Result<(), Fail> {
-    let want = quoted(alloc, BODY)?;
-    assert_eq!(rt; text, want.as_slice());
-    Ok(())
-}
-
-fn assert_copy_written(rt: &impl Abort, alloc: Global, body: &Body) -> Result<(), Fail> {
-    let text = copy_written(alloc, body)?;
-    assert_body_text(rt, alloc, text.as_slice())
-}
-
-fn assert_body_written(rt: &impl Abort, alloc: Global, body: &Body) -> Result<(), Fail> {
-    let text = body.write(alloc)?;
-    assert_body_text(rt, alloc, text.as_slice())
-}
-
-// Whether a body and its copy are written so.
 fn assert_written(rt: &impl Abort, alloc: Global, body: &Body) -> Result<(), Fail> {
-    assert_body_written(rt, alloc, body)?;
-    assert_copy_written(rt, alloc, body)
-}
-
-fn assert_came(rt: &impl Abort, alloc: Global) -> Result<(), Fail> {
-    let body = body_of(alloc, CAME)?;
-    assert_body(rt, &body);
-    let written = assert_written(rt, alloc, &body);
-    drop(body);
-    written
-}
-
-fn assert_again(rt: &impl Abort, alloc: Global) -> Result<(), Fail> {
-    let body = body_of(alloc, BODY)?;
-    let written = assert_written(rt, alloc, &body);
-    drop(body);
-    written
-}
-
-#[test]
-fn a_body_there_and_back(rt: HostRuntime) -> Result<(), Fail> {
-    assert_came(&rt, rt.alloc())?;
-    assert_again(&rt, rt.alloc())
-}
-
-// A body with a chain of one text and so many more.
-fn chained(alloc: Global, count: usize) -> Result<String, AllocError> {
-    let mut text = String::from_str(alloc, "{'document':{},'manifest':'m','chain':['t'")?;
-    push_chain(&mut text, count)?;
-    Ok(text)
-}
-
-fn push_chain(text: &mut String, count: usize) -> Result<(), AllocError> {
-    for _ in 0..count {
-        text.push_str(",'t'")?;
-    }
-    text.push_str("]}")
-}
-
-fn chained_body(alloc: Global, count: usize) -> Result<Body, Fail> {
-    let text = chained(alloc, count)?;
-    body_of(alloc, text.as_str())
-}
-
-// How many texts are in the chain of such a body.
-fn chain_length(alloc: Global, count: usize) -> Result<usize, Fail> {
-    let body = chained_body(alloc, count)?;
-    let length = body.chain.len();
-    drop(body);
-    Ok(length)
-}
-
-const CHAINS: [(usize, usize); 3] = [(0, 1), (1, 2), (65, 66)];
-
-#[test]
-fn a_chain_of_any_length(rt: HostRuntime) -> Result<(), Fail> {
-    for &(count, length) in &CHAINS {
-        assert_eq!(rt; chain_length(rt.alloc(), count)?, length);
-    }
+    let wanted = spelled(alloc, WRITTEN)?;
+    let text = copy_written(alloc, body)?;
+    same(rt, "a copy", text.as_slice(), wanted.as_slice());
     Ok(())
+}
+
+#[test]
+fn a_body_has_its_parts_and_is_copied(rt: HostRuntime) -> Result<(), Fail> {
+    let body = body_of(rt.alloc(), CAME)?;
+    assert_body(&rt, &body);
+    let written = assert_written(&rt, rt.alloc(), &body);
+    drop(body);
+    written
 }

@@ -49,29 +49,77 @@ fn refusals_of_one_word(rt: HostRuntime) -> Result<(), Fail> {
     Ok(())
 }
 
-const NOT_HERE: [(PlaceTag, &str); 2] = [
-    (PlaceTag::Absent, r#"{"place":"ABSENT","reply":"NOT_HERE"}"#),
+/// A cause that a refusal names.
+trait Cause {
+    fn reply(&self) -> Reply;
+}
+
+struct NotHere(PlaceTag);
+
+impl Cause for NotHere {
+    fn reply(&self) -> Reply {
+        Reply::NotHere(self.0)
+    }
+}
+
+struct NotParting(PlaceTag);
+
+impl Cause for NotParting {
+    fn reply(&self) -> Reply {
+        Reply::NotParting(self.0)
+    }
+}
+
+impl Cause for LimitKind {
+    fn reply(&self) -> Reply {
+        Reply::Limit(*self)
+    }
+}
+
+impl Cause for IgnoreReason {
+    fn reply(&self) -> Reply {
+        Reply::Ignored(*self)
+    }
+}
+
+impl Cause for DocumentFault {
+    fn reply(&self) -> Reply {
+        Reply::Document(*self)
+    }
+}
+
+fn assert_causes<C: Cause>(
+    rt: &impl Abort,
+    alloc: Global,
+    rows: &[(C, &str)],
+) -> Result<(), NoMemory> {
+    for (cause, text) in rows {
+        json_row(rt, alloc, cause.reply(), text)?;
+    }
+    Ok(())
+}
+
+const NOT_HERE: [(NotHere, &str); 2] = [
     (
-        PlaceTag::Parting,
+        NotHere(PlaceTag::Absent),
+        r#"{"place":"ABSENT","reply":"NOT_HERE"}"#,
+    ),
+    (
+        NotHere(PlaceTag::Parting),
         r#"{"place":"PARTING","reply":"NOT_HERE"}"#,
     ),
 ];
 
-const NOT_PARTING: [(PlaceTag, &str); 2] = [
-    (PlaceTag::Held, r#"{"place":"HELD","reply":"NOT_PARTING"}"#),
-    (PlaceTag::Gone, r#"{"place":"GONE","reply":"NOT_PARTING"}"#),
+const NOT_PARTING: [(NotParting, &str); 2] = [
+    (
+        NotParting(PlaceTag::Held),
+        r#"{"place":"HELD","reply":"NOT_PARTING"}"#,
+    ),
+    (
+        NotParting(PlaceTag::Gone),
+        r#"{"place":"GONE","reply":"NOT_PARTING"}"#,
+    ),
 ];
-
-#[test]
-fn refusals_by_a_place(rt: HostRuntime) -> Result<(), Fail> {
-    for &(place, text) in &NOT_HERE {
-        json_row(&rt, rt.alloc(), Reply::NotHere(place), text)?;
-    }
-    for &(place, text) in &NOT_PARTING {
-        json_row(&rt, rt.alloc(), Reply::NotParting(place), text)?;
-    }
-    Ok(())
-}
 
 #[test]
 fn refusals_by_a_party_and_a_rule(rt: HostRuntime) -> Result<(), Fail> {
@@ -113,14 +161,6 @@ const LIMITS: [(LimitKind, &str); 5] = [
     ),
 ];
 
-#[test]
-fn refusals_by_a_limit(rt: HostRuntime) -> Result<(), Fail> {
-    for &(which, text) in &LIMITS {
-        json_row(&rt, rt.alloc(), Reply::Limit(which), text)?;
-    }
-    Ok(())
-}
-
 const IGNORED: [(IgnoreReason, &str); 6] = [
     (
         IgnoreReason::NotParting,
@@ -144,14 +184,6 @@ const IGNORED: [(IgnoreReason, &str); 6] = [
         r#"{"reason":"PASSING","reply":"IGNORED"}"#,
     ),
 ];
-
-#[test]
-fn ignored_replies(rt: HostRuntime) -> Result<(), Fail> {
-    for &(reason, text) in &IGNORED {
-        json_row(&rt, rt.alloc(), Reply::Ignored(reason), text)?;
-    }
-    Ok(())
-}
 
 const DOCUMENTS: [(DocumentFault, &str); 7] = [
     (
@@ -185,18 +217,20 @@ const DOCUMENTS: [(DocumentFault, &str); 7] = [
 ];
 
 #[test]
-fn faults_of_a_document(rt: HostRuntime) -> Result<(), Fail> {
+fn refusals_by_their_causes(rt: HostRuntime) -> Result<(), Fail> {
     let alloc = rt.alloc();
-    for &(fault, text) in &DOCUMENTS {
-        json_row(&rt, alloc, Reply::Document(fault), text)?;
-    }
-    nothing_row(&rt, alloc, Reply::Document(DocumentFault::NoMemory))?;
+    assert_causes(&rt, alloc, &NOT_HERE)?;
+    assert_causes(&rt, alloc, &NOT_PARTING)?;
+    assert_causes(&rt, alloc, &LIMITS)?;
+    assert_causes(&rt, alloc, &IGNORED)?;
+    assert_causes(&rt, alloc, &DOCUMENTS)?;
     Ok(())
 }
 
 #[test]
 fn replies_without_a_body(rt: HostRuntime) -> Result<(), Fail> {
     let alloc = rt.alloc();
+    nothing_row(&rt, alloc, Reply::Document(DocumentFault::NoMemory))?;
     nothing_row(&rt, alloc, Reply::Stored)?;
     nothing_row(&rt, alloc, Reply::UnknownReference)?;
     nothing_row(&rt, alloc, Reply::Sign)?;

@@ -1,8 +1,9 @@
-//! The shard of each kind of request, words of replies, and what the desk in memory gives and keeps.
+//! The shard of each kind of request and what suits it, in tables as `making` has them, words of replies, and what the
+//! desk in memory gives and keeps.
 ghost use Rattle.platform_requests.specs.Desk.{MayAsk};
 ghost use Rattle.platform_requests.specs.Request.{request_view};
 
-use crate::tests::making::{party, platform};
+use crate::tests::making::{Form, assert_table, party, platform, same};
 use canonical_json::read;
 use ebl_base::{
     ByteList, Checksum, ChecksumList, Code, Copied, Evidence, Kind, Moment, NoMemory, Party,
@@ -18,12 +19,6 @@ use std::alloc::Global;
 use std::process::Abort;
 use std::test::Fail;
 
-const DOCUMENT: &[u8] =
-    b"{\"carrierCode\":\"OCNL\",\"carrierCodeListProvider\":\"NMFTA\",\"isToOrder\":true,\"transportDocumentReference\":\"OCNL0000001\",\"transportDocumentTypeCode\":\"BOL\"}";
-
-// The SHA-256 checksum of that text, by sha256sum of GNU coreutils, begins with this byte.
-const FIRST_BYTE: u8 = 0x54;
-
 fn bill(first: u8) -> Checksum {
     let mut bytes = [7; 32];
     bytes[0] = first;
@@ -36,82 +31,26 @@ fn reference(first: u8) -> Reference {
     Reference(bytes)
 }
 
-// The shard of a request that is given away.
-fn shard(alloc: Global, request: Request) -> Result<u32, NoMemory> {
-    let shard = shard_of(alloc, &request);
-    drop(request);
-    shard
+fn start(alloc: Global, body: &str) -> Result<Request, Fail> {
+    let body = ByteList::from_slice(alloc, body.as_bytes())?;
+    Ok(Request::Start { body })
 }
 
-fn start_shard(alloc: Global, body: &[u8]) -> Result<u32, NoMemory> {
-    let body = ByteList::from_slice(alloc, body)?;
-    shard(alloc, Request::Start { body })
-}
-
-// A body with that document.
-fn body_with(alloc: Global, document: &[u8]) -> Result<ByteList, NoMemory> {
-    let mut body = ByteList::from_slice(alloc, b"{\"chain\":[],\"document\":")?;
-    body.extend_from_slice(document)?;
-    body.extend_from_slice(b",\"manifest\":\"\"}")?;
-    Ok(body)
-}
-
-#[test]
-fn a_start_goes_by_its_document(rt: HostRuntime) -> Result<(), Fail> {
-    let body = body_with(rt.alloc(), DOCUMENT)?;
-    assert_eq!(rt;
-        start_shard(rt.alloc(), body.as_slice())?,
-        u32::from(FIRST_BYTE % 16)
-    );
-    Ok(())
-}
-
-#[test]
-fn an_unread_start_goes_to_shard_0(rt: HostRuntime) -> Result<(), Fail> {
-    for body in [
-        b"{".as_slice(),
-        b"".as_slice(),
-        b"[]".as_slice(),
-        b"{\"chain\":[],\"document\":{},\"manifest\":\"\"}".as_slice(),
-        DOCUMENT,
-    ] {
-        assert_eq!(rt; start_shard(rt.alloc(), body)?, 0);
-    }
-    Ok(())
-}
-
-fn command_shard(alloc: Global, command: Command) -> Result<u32, Fail> {
+fn sign(alloc: Global, document: &str) -> Result<Request, Fail> {
     let party = party("ALPH/CARRIER")?;
-    Ok(shard(alloc, Request::Command { party, command })?)
+    let document = read(alloc, document.as_bytes())?;
+    let command = Command::Sign { document };
+    Ok(Request::Command { party, command })
 }
 
-fn sign_shard(alloc: Global, document: &[u8]) -> Result<u32, Fail> {
-    let document = read(alloc, document).ok().ok_or("a document")?;
-    command_shard(alloc, Command::Sign { document })
-}
-
-#[test]
-fn a_sign_goes_by_its_document(rt: HostRuntime) -> Result<(), Fail> {
-    assert_eq!(rt;
-        sign_shard(rt.alloc(), DOCUMENT)?,
-        u32::from(FIRST_BYTE % 16)
-    );
-    assert_eq!(rt; sign_shard(rt.alloc(), b"null")?, 0);
-    Ok(())
-}
-
-fn act(first: u8) -> Command {
-    Command::Act {
+fn act(first: u8) -> Result<Request, Fail> {
+    let party = party("ALPH/CARRIER")?;
+    let command = Command::Act {
         bill: bill(first),
         kind: Kind::Transfer,
         recipient: None,
-    }
-}
-
-#[test]
-fn an_act_goes_by_its_bill(rt: HostRuntime) -> Result<(), Fail> {
-    assert_eq!(rt; command_shard(rt.alloc(), act(0x2B))?, 11);
-    Ok(())
+    };
+    Ok(Request::Command { party, command })
 }
 
 fn put(alloc: Global, first: u8) -> Request {
@@ -120,17 +59,6 @@ fn put(alloc: Global, first: u8) -> Request {
         checksum: bill(0x03),
         bytes: ByteList::new(alloc),
     }
-}
-
-// The reference 447816bf-8f01-cfea-4141-40de5dae2223 is of shard 4.
-#[test]
-fn a_put_and_a_finish_go_by_their_reference(rt: HostRuntime) -> Result<(), Fail> {
-    let finish = Request::Finish {
-        reference: reference(0x44),
-    };
-    assert_eq!(rt; shard(rt.alloc(), finish)?, 4);
-    assert_eq!(rt; shard(rt.alloc(), put(rt.alloc(), 0x1F))?, 15);
-    Ok(())
 }
 
 fn start_reply(alloc: Global, first: u8) -> Request
@@ -151,35 +79,83 @@ fn finish_reply(alloc: Global, first: u8) -> Request
     }
 }
 
-#[test]
-fn a_reply_goes_by_its_bill(rt: HostRuntime) -> Result<(), Fail> {
-    assert_eq!(rt; shard(rt.alloc(), start_reply(rt.alloc(), 0x10))?, 0);
-    assert_eq!(rt; shard(rt.alloc(), finish_reply(rt.alloc(), 0x01))?, 1);
-    Ok(())
+// A request that is told by a kind and a document, a body, or the first byte of a name or of a reference.
+fn request(alloc: Global, text: &str) -> Result<Request, Fail> {
+    let (kind, rest) = text.split_once(' ').ok_or("a kind of request")?;
+    match kind {
+        "start" => start(alloc, rest),
+        "sign" => sign(alloc, rest),
+        _ => short_request(alloc, kind, u8::from_str_radix(rest, 16)?),
+    }
 }
 
-#[test]
-fn a_question_goes_by_its_bill(rt: HostRuntime) -> Result<(), Fail> {
-    assert_eq!(rt;
-        shard(rt.alloc(), Request::Resend { bill: bill(0xFF) })?,
-        15
-    );
-    assert_eq!(rt; shard(rt.alloc(), Request::Ask { bill: bill(0xFE) })?, 14);
-    Ok(())
+fn short_request(alloc: Global, kind: &str, first: u8) -> Result<Request, Fail> {
+    match kind {
+        "act" => act(first),
+        "put" => Ok(put(alloc, first)),
+        "start_reply" => Ok(start_reply(alloc, first)),
+        "finish_reply" => Ok(finish_reply(alloc, first)),
+        _ => question(kind, first),
+    }
 }
 
-fn copied_put(alloc: Global, first: u8) -> Result<Request, NoMemory> {
-    let request = put(alloc, first);
-    let copy = request.copy(alloc);
-    drop(request);
-    copy
+fn question(kind: &str, first: u8) -> Result<Request, Fail> {
+    match kind {
+        "finish" => Ok(Request::Finish {
+            reference: reference(first),
+        }),
+        "resend" => Ok(Request::Resend { bill: bill(first) }),
+        "ask" => Ok(Request::Ask { bill: bill(first) }),
+        _ => Err("a kind of request".into()),
+    }
 }
 
+struct Shards;
+
+impl Form for Shards {
+    fn answer(alloc: Global, text: &[u8]) -> Result<ByteList, Fail> {
+        let request = request(alloc, std::str::from_utf8(text)?)?;
+        let shards = both_shards(alloc, &request);
+        drop(request);
+        let (shard, again) = shards?;
+        let answer = format!(in alloc; "{shard} {again}")?;
+        Ok(ByteList::from_slice(alloc, answer.as_bytes())?)
+    }
+}
+
+// The shard of a request, and that of its copy.
+fn both_shards(alloc: Global, request: &Request) -> Result<(u32, u32), NoMemory> {
+    let shard = shard_of(alloc, request)?;
+    let copy = request.copy(alloc)?;
+    let again = shard_of(alloc, &copy);
+    drop(copy);
+    Ok((shard, again?))
+}
+
+// A start and a SIGN go by their document, others by their bill or by their reference: that of the Finish begins as
+// 447816bf-8f01-cfea-4141-40de5dae2223 does. The SHA-256 checksum of the document, by sha256sum of GNU coreutils,
+// begins with byte 0x54. A start that isn't read goes to shard 0.
+const SHARDS: &str = r#"
+start {'chain':[],'document':{'carrierCode':'OCNL','carrierCodeListProvider':'NMFTA','isToOrder':true,'transportDocumentReference':'OCNL0000001','transportDocumentTypeCode':'BOL'},'manifest':''} | 4 4
+start { | 0 0
+start  | 0 0
+start [] | 0 0
+start {'chain':[],'document':{},'manifest':''} | 0 0
+start {'carrierCode':'OCNL','carrierCodeListProvider':'NMFTA','isToOrder':true,'transportDocumentReference':'OCNL0000001','transportDocumentTypeCode':'BOL'} | 0 0
+sign {'carrierCode':'OCNL','carrierCodeListProvider':'NMFTA','isToOrder':true,'transportDocumentReference':'OCNL0000001','transportDocumentTypeCode':'BOL'} | 4 4
+sign null | 0 0
+act 2b | 11 11
+finish 44 | 4 4
+put 1f | 15 15
+start_reply 10 | 0 0
+finish_reply 01 | 1 1
+resend ff | 15 15
+ask fe | 14 14
+"#;
+
 #[test]
-fn a_request_is_copied(rt: HostRuntime) -> Result<(), Fail> {
-    let copy = copied_put(rt.alloc(), 0x1F)?;
-    assert_eq!(rt; shard(rt.alloc(), copy)?, 15);
-    Ok(())
+fn requests_go_to_their_shards(rt: HostRuntime) -> Result<(), Fail> {
+    assert_table::<Shards, _>(&rt, SHARDS)
 }
 
 fn answer(alloc: Global, code: Code) -> Reply {
@@ -208,12 +184,8 @@ fn copied_answer(alloc: Global, code: Code) -> Result<Reply, NoMemory> {
     copy
 }
 
-fn assert_same(rt: &impl Abort, word: &str, want: &str) {
-    assert_eq!(rt; word, want);
-}
-
 fn assert_word(rt: &impl Abort, reply: Reply, want: &str) {
-    assert_same(rt, reply.as_str(), want);
+    same(rt, "word", reply.as_str(), want);
     drop(reply);
 }
 
@@ -223,7 +195,12 @@ fn words_of_replies(rt: HostRuntime) -> Result<(), Fail> {
     assert_word(&rt, copy, "DISE");
     assert_word(&rt, Reply::NotHere(PlaceTag::Gone), "NOT_HERE");
     assert_word(&rt, Reply::Ignored(IgnoreReason::OtherEntry), "IGNORED");
-    assert_same(&rt, IgnoreReason::OtherEntry.as_str(), "OTHER_ENTRY");
+    same(
+        &rt,
+        "word",
+        IgnoreReason::OtherEntry.as_str(),
+        "OTHER_ENTRY",
+    );
     Ok(())
 }
 
@@ -272,57 +249,6 @@ fn stored(alloc: Global, count: usize) -> Result<Outcome, Fail> {
     })
 }
 
-// Whether the outcome suits a request that is given away.
-fn is_suited(request: Request, outcome: &Outcome) -> bool {
-    let may = suits(&request, outcome);
-    drop(request);
-    may
-}
-
-fn assert_suited(rt: &impl Abort, request: Request, outcome: &Outcome, may: bool) {
-    assert_eq!(rt; is_suited(request, outcome), may);
-}
-
-fn start_reply_row(rt: &impl Abort, alloc: Global, count: usize, may: bool) -> Result<(), Fail> {
-    let outcome = stored(alloc, count)?;
-    assert_suited(rt, start_reply(alloc, 1), &outcome, may);
-    drop(outcome);
-    Ok(())
-}
-
-// How many Puts, and whether they and a Finish may come of a reply to a start.
-const PUTS: [(usize, bool); 3] = [(0, true), (16, true), (17, false)];
-
-#[test]
-fn puts_and_a_finish_come_of_a_start_reply(rt: HostRuntime) -> Result<(), Fail> {
-    for &(count, may) in &PUTS {
-        start_reply_row(&rt, rt.alloc(), count, may)?;
-    }
-    Ok(())
-}
-
-fn assert_no_finish(rt: &impl Abort, alloc: Global) -> Result<(), Fail> {
-    let outcome = stored(alloc, 0)?;
-    assert_suited(rt, finish_reply(alloc, 1), &outcome, false);
-    assert_suited(rt, Request::Resend { bill: bill(1) }, &outcome, false);
-    drop(outcome);
-    Ok(())
-}
-
-// Whatever comes of a question suits it.
-fn assert_question(rt: &impl Abort, alloc: Global) -> Result<(), Fail> {
-    let outcome = stored(alloc, 17)?;
-    assert_suited(rt, Request::Ask { bill: bill(1) }, &outcome, true);
-    drop(outcome);
-    Ok(())
-}
-
-#[test]
-fn no_finish_comes_of_other_requests(rt: HostRuntime) -> Result<(), Fail> {
-    assert_no_finish(&rt, rt.alloc())?;
-    assert_question(&rt, rt.alloc())
-}
-
 // One Start.
 fn started_again(alloc: Global) -> Result<Outcome, Fail> {
     let to = platform("BETA")?;
@@ -332,21 +258,6 @@ fn started_again(alloc: Global) -> Result<Outcome, Fail> {
         reply: Reply::Stored,
         messages,
     })
-}
-
-fn copied_start(alloc: Global) -> Result<Outcome, Fail> {
-    let outcome = started_again(alloc)?;
-    let copy = outcome.copy(alloc);
-    drop(outcome);
-    Ok(copy?)
-}
-
-#[test]
-fn a_start_comes_of_a_resend(rt: HostRuntime) -> Result<(), Fail> {
-    let again = copied_start(rt.alloc())?;
-    assert_suited(&rt, Request::Resend { bill: bill(1) }, &again, true);
-    drop(again);
-    Ok(())
 }
 
 fn started(alloc: Global) -> Outcome {
@@ -359,12 +270,62 @@ fn started(alloc: Global) -> Outcome {
     }
 }
 
+// An outcome: so many Puts and a Finish, one Start, or that an upload has started.
+fn outcome(alloc: Global, text: &str) -> Result<Outcome, Fail> {
+    match text {
+        "start" => started_again(alloc),
+        "started" => Ok(started(alloc)),
+        _ => stored(alloc, text.parse()?),
+    }
+}
+
+// Whether an outcome, and its copy, suits a request.
+struct Suited;
+
+impl Form for Suited {
+    fn answer(alloc: Global, text: &[u8]) -> Result<ByteList, Fail> {
+        let text = std::str::from_utf8(text)?;
+        let (asked, came) = text.split_once(" / ").ok_or("an outcome")?;
+        let outcome = outcome(alloc, came)?;
+        let suited = both_suited(alloc, asked, &outcome);
+        drop(outcome);
+        let (first, again) = suited?;
+        let answer = format!(in alloc; "{first} {again}")?;
+        Ok(ByteList::from_slice(alloc, answer.as_bytes())?)
+    }
+}
+
+fn both_suited(alloc: Global, asked: &str, outcome: &Outcome) -> Result<(bool, bool), Fail> {
+    let first = is_suited(alloc, asked, outcome)?;
+    let copy = outcome.copy(alloc)?;
+    let again = is_suited(alloc, asked, &copy);
+    drop(copy);
+    Ok((first, again?))
+}
+
+fn is_suited(alloc: Global, asked: &str, outcome: &Outcome) -> Result<bool, Fail> {
+    let request = request(alloc, asked)?;
+    let may = suits(&request, outcome);
+    drop(request);
+    Ok(may)
+}
+
+const SUITED: &str = r#"
+start_reply 01 / 0 | true true
+start_reply 01 / 16 | true true
+start_reply 01 / 17 | false false
+finish_reply 01 / 0 | false false
+resend 01 / 0 | false false
+// Whatever comes of a question suits it.
+ask 01 / 17 | true true
+resend 01 / start | true true
+// What has started names documents.
+ask 01 / started | false false
+"#;
+
 #[test]
-fn a_started_names_documents(rt: HostRuntime) -> Result<(), Fail> {
-    let outcome = started(rt.alloc());
-    assert_suited(&rt, Request::Ask { bill: bill(1) }, &outcome, false);
-    drop(outcome);
-    Ok(())
+fn outcomes_suit_their_requests(rt: HostRuntime) -> Result<(), Fail> {
+    assert_table::<Suited, _>(&rt, SUITED)
 }
 
 // The one party that the desk knows.
@@ -404,20 +365,24 @@ fn taken(alloc: Global, desk: &mut MemoryDesk, now: Moment, request: Request) ->
 // One message comes of a reply to a start, and none of one to a finish.
 fn takes_start_reply(rt: &impl Abort, alloc: Global, desk: &mut MemoryDesk) -> Result<(), Fail> {
     let now = moment()?;
-    assert_eq!(rt; taken(alloc, desk, now, start_reply(alloc, 1)), 1);
+    let count = taken(alloc, desk, now, start_reply(alloc, 1));
+    same(rt, "messages of a start", count, 1);
     Ok(())
 }
 
 fn takes_finish_reply(rt: &impl Abort, alloc: Global, desk: &mut MemoryDesk) -> Result<(), Fail> {
     let now = moment()?;
-    assert_eq!(rt; taken(alloc, desk, now, finish_reply(alloc, 1)), 0);
+    let count = taken(alloc, desk, now, finish_reply(alloc, 1));
+    same(rt, "messages of a finish", count, 0);
     Ok(())
 }
 
 fn assert_calls(rt: &impl Abort, calls: &[KeptCall]) {
-    assert_eq!(rt; calls.len(), 2);
-    assert_eq!(rt; calls[0].outcome.messages.len(), 1);
-    assert_eq!(rt; calls[1].now.number(), 5);
+    let [first, second] = calls else {
+        panic!(rt; "two calls, and not {}", calls.len());
+    };
+    same(rt, "messages", first.outcome.messages.len(), 1);
+    same(rt, "moment", second.now.number(), 5);
 }
 
 fn assert_kept(rt: &impl Abort, desk: &MemoryDesk) -> Result<(), Fail> {
@@ -427,9 +392,18 @@ fn assert_kept(rt: &impl Abort, desk: &MemoryDesk) -> Result<(), Fail> {
 }
 
 fn gives_and_keeps(rt: &impl Abort, alloc: Global, desk: &mut MemoryDesk) -> Result<(), Fail> {
+    assert_parties(rt, desk)?;
     takes_start_reply(rt, alloc, desk)?;
     takes_finish_reply(rt, alloc, desk)?;
     assert_kept(rt, desk)
+}
+
+fn assert_parties(rt: &impl Abort, desk: &MemoryDesk) -> Result<(), Fail> {
+    let import = party("BETA/IMPORT")?;
+    let other = party("BETA/OTHER")?;
+    same(rt, "import", desk.knows(import), true);
+    same(rt, "other", desk.knows(other), false);
+    Ok(())
 }
 
 #[test]
@@ -446,18 +420,4 @@ fn an_outcome_that_does_not_suit_is_not_given(rt: HostRuntime) -> Result<(), Fai
     let taken = takes_finish_reply(&rt, rt.alloc(), &mut desk);
     drop(desk);
     taken
-}
-
-fn assert_parties(rt: &impl Abort, desk: &MemoryDesk) -> Result<(), Fail> {
-    assert!(rt; desk.knows(party("BETA/IMPORT")?));
-    assert!(rt; !desk.knows(party("BETA/OTHER")?));
-    Ok(())
-}
-
-#[test]
-fn a_desk_in_memory_knows_its_parties(rt: HostRuntime) -> Result<(), Fail> {
-    let desk = desk(rt.alloc())?;
-    let known = assert_parties(&rt, &desk);
-    drop(desk);
-    known
 }

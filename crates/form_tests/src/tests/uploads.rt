@@ -1,14 +1,14 @@
-//! Uploads beside what is stored, references, and answers in and out of their form. In these texts `'` stands for `"`.
-use crate::tests::making::quoted;
+//! Uploads beside what is stored, references, and answers in and out of their form, in tables as `making` has them.
+use crate::tests::making::{Form, assert_table, refusal, same, spelled};
 use document_checksum::checksum;
-use ebl_base::{ByteList, CharList, Checksum, ChecksumList, Copied, NoMemory, Reference};
+use ebl_base::{ByteList, CharList, Checksum, ChecksumList, Copied, NoMemory};
 use envelope_manifest::{Manifest, Piece, PieceList};
 use std::alloc::Global;
 use std::process::Abort;
 use std::test::Fail;
 use upload_state::{
-    Started, StartedFault, fits, missing, reference_from, reference_of, reference_text,
-    started_read, started_write,
+    Started, fits, missing, reference_from, reference_of, reference_text, started_read,
+    started_write,
 };
 
 fn piece(alloc: Global, bytes: &[u8]) -> Result<Piece, NoMemory> {
@@ -62,7 +62,7 @@ fn missing_row(
     want: &[Checksum],
 ) -> Result<(), NoMemory> {
     let found = missing_of(alloc, listed, stored)?;
-    assert_eq!(rt; found.as_slice(), want);
+    same(rt, "missing", found.as_slice(), want);
     Ok(())
 }
 
@@ -85,9 +85,9 @@ fn what_is_missing(rt: HostRuntime) -> Result<(), Fail> {
 }
 
 fn assert_fits(rt: &impl Abort, listed: &Piece) {
-    assert!(rt; fits(listed, b"abc"));
-    assert!(rt; !fits(listed, b"abd"));
-    assert!(rt; !fits(listed, b"{}"));
+    same(rt, "abc", fits(listed, b"abc"), true);
+    same(rt, "abd", fits(listed, b"abd"), false);
+    same(rt, "object", fits(listed, b"{}"), false);
 }
 
 fn assert_no_fit(rt: &impl Abort, listed: &Piece) {
@@ -104,159 +104,131 @@ fn which_bytes_fit(rt: HostRuntime) -> Result<(), Fail> {
     Ok(())
 }
 
-// The first byte is that of the SHA-256 checksum of `{}`, the others are bytes 1 to 15 of that of `abc`.
-const TEXT: &str = "447816bf-8f01-cfea-4141-40de5dae2223";
-
 #[test]
 fn reference_and_its_text(rt: HostRuntime) {
     let reference = reference_of(checksum(b"{}"), checksum(b"abc"));
     let text = reference_text(reference);
-    assert_eq!(rt; text.as_slice(), TEXT.as_bytes());
-    assert_eq!(rt; reference_from(&text), Some(reference));
+    assert_eq!(rt;
+        text.as_slice(),
+        b"447816bf-8f01-cfea-4141-40de5dae2223".as_slice()
+    );
+    same(&rt, "read", reference_from(&text), Some(reference));
 }
 
-const FORMS: [&str; 7] = [
-    TEXT,
-    "447816BF-8F01-CFEA-4141-40DE5DAE2223",
-    "447816bf8f01cfea414140de5dae2223",
-    "447816bF8f01CfEa414140dE5dAe2223",
-    "{447816bf-8f01-cfea-4141-40de5dae2223}",
-    "urn:uuid:447816bf-8f01-cfea-4141-40de5dae2223",
-    "URN:UUID:447816bf-8f01-cfea-4141-40de5dae2223",
-];
+struct References;
 
-const NO_FORMS: [&str; 9] = [
-    "",
-    "447816bf-8f01-cfea-4141-40de5dae222",
-    "447816bf-8f01-cfea-4141-40de5dae22230",
-    "447816bf8-f01-cfea-4141-40de5dae2223",
-    "447816bg-8f01-cfea-4141-40de5dae2223",
-    "{447816bf-8f01-cfea-4141-40de5dae2223)",
-    "{447816bf8f01cfea414140de5dae2223}",
-    "uuid:447816bf-8f01-cfea-4141-40de5dae2223",
-    " 447816bf-8f01-cfea-4141-40de5dae2223",
-];
+impl Form for References {
+    fn answer(alloc: Global, text: &[u8]) -> Result<ByteList, Fail> {
+        match reference_from(text) {
+            Some(reference) => {
+                let text = reference_text(reference);
+                Ok(ByteList::from_slice(alloc, text.as_slice())?)
+            }
+            None => Ok(ByteList::from_slice(alloc, b"none")?),
+        }
+    }
+}
+
+// The forms of that reference, and texts that are none.
+const REFERENCES: &str = r#"
+% | %
+447816BF-8F01-CFEA-4141-40DE5DAE2223 | %
+447816bf8f01cfea414140de5dae2223 | %
+447816bF8f01CfEa414140dE5dAe2223 | %
+{447816bf-8f01-cfea-4141-40de5dae2223} | %
+urn:uuid:447816bf-8f01-cfea-4141-40de5dae2223 | %
+URN:UUID:447816bf-8f01-cfea-4141-40de5dae2223 | %
+ | none
+447816bf-8f01-cfea-4141-40de5dae222 | none
+447816bf-8f01-cfea-4141-40de5dae22230 | none
+447816bf8-f01-cfea-4141-40de5dae2223 | none
+447816bg-8f01-cfea-4141-40de5dae2223 | none
+{447816bf-8f01-cfea-4141-40de5dae2223) | none
+{447816bf8f01cfea414140de5dae2223} | none
+uuid:447816bf-8f01-cfea-4141-40de5dae2223 | none
+ 447816bf-8f01-cfea-4141-40de5dae2223 | none
+"#;
 
 #[test]
-fn forms_of_a_reference(rt: HostRuntime) {
+fn forms_of_a_reference(rt: HostRuntime) -> Result<(), Fail> {
+    assert_table::<References, _>(&rt, REFERENCES)
+}
+
+// Answers that an upload has started.
+struct Answers;
+
+impl Form for Answers {
+    fn answer(alloc: Global, text: &[u8]) -> Result<ByteList, Fail> {
+        match started_read(alloc, text) {
+            Ok(started) => Ok(written(alloc, started)?),
+            Err(fault) => refusal(alloc, fault),
+        }
+    }
+}
+
+fn written(alloc: Global, started: Started) -> Result<ByteList, NoMemory> {
+    let text = started_write(alloc, &started);
+    drop(started);
+    text
+}
+
+// An answer as it came, then answers of 0, 1, 16 and 17 checksums, and texts that are none.
+const ANSWERS: &str = r#"
+{ 'reference':'{447816BF-8F01-CFEA-4141-40DE5DAE2223}', 'more':0, 'missing':['@'] } | {'missing':['@'],'reference':'%'}
+
+{'missing':[],'reference':'00000000-0000-0000-0000-000000000000'} | Form
+{'missing':['0000000000000000000000000000000000000000000000000000000000000000'],'reference':'00000000-0000-0000-0000-000000000000'} | {'missing':['0000000000000000000000000000000000000000000000000000000000000000'],'reference':'00000000-0000-0000-0000-000000000000'}
+{'missing':[*15*'0000000000000000000000000000000000000000000000000000000000000000',*'0000000000000000000000000000000000000000000000000000000000000000'],'reference':'00000000-0000-0000-0000-000000000000'} | {'missing':[*15*'0000000000000000000000000000000000000000000000000000000000000000',*'0000000000000000000000000000000000000000000000000000000000000000'],'reference':'00000000-0000-0000-0000-000000000000'}
+{'missing':[*16*'0000000000000000000000000000000000000000000000000000000000000000',*'0000000000000000000000000000000000000000000000000000000000000000'],'reference':'00000000-0000-0000-0000-000000000000'} | Form
+
+ | Form
+[] | Form
+{'missing':['@']} | Form
+{'reference':'%'} | Form
+{'missing':['ba7816bf8f01cfea414140de5dae2223b00361a396177a9cb410ff61f20015aD'],'reference':'%'} | Form
+{'missing':['@',1.5],'reference':'%'} | Form
+{'missing':['@'],'reference':'447816bf'} | Form
+"#;
+
+#[test]
+fn answers_are_read_and_written(rt: HostRuntime) -> Result<(), Fail> {
+    assert_table::<Answers, _>(&rt, ANSWERS)
+}
+
+fn started_of(alloc: Global, text: &str) -> Result<Started, Fail> {
+    let bytes = spelled(alloc, text)?;
+    Ok(started_read(alloc, &bytes)?)
+}
+
+fn copy_of(alloc: Global, text: &str) -> Result<Started, Fail> {
+    let started = started_of(alloc, text)?;
+    let copy = started.copy(alloc);
+    drop(started);
+    Ok(copy?)
+}
+
+fn assert_started(rt: &impl Abort, started: &Started, names: &[Checksum]) {
     let reference = reference_of(checksum(b"{}"), checksum(b"abc"));
-    for &text in &FORMS {
-        assert_eq!(rt; reference_from(text.as_bytes()), Some(reference), "{text}");
-    }
-    for &text in &NO_FORMS {
-        assert_eq!(rt; reference_from(text.as_bytes()), None, "{text}");
-    }
+    same(rt, "reference", started.reference, reference);
+    same(rt, "missing", started.missing.as_slice(), names);
 }
 
-const CAME: &str =
-    "{ 'reference':'{447816BF-8F01-CFEA-4141-40DE5DAE2223}', 'more':0, 'missing':['ba7816bf8f01cfea414140de5dae2223b00361a396177a9cb410ff61f20015ad'] }";
-
-const WRITTEN: &str =
-    "{'missing':['ba7816bf8f01cfea414140de5dae2223b00361a396177a9cb410ff61f20015ad'],'reference':'447816bf-8f01-cfea-4141-40de5dae2223'}";
-
-fn sample_answer(alloc: Global) -> Result<Started, Fail> {
-    let came = quoted(alloc, CAME)?;
-    let started = started_read(alloc, &came);
-    drop(came);
-    Ok(started?)
-}
-
-fn assert_started(rt: &impl Abort, started: &Started) {
-    assert_eq!(rt; Some(started.reference), reference_from(TEXT.as_bytes()));
-    assert_eq!(rt; started.missing.as_slice(), [checksum(b"abc")].as_slice());
-}
-
-fn assert_text(rt: &impl Abort, alloc: Global, text: &[u8]) -> Result<(), Fail> {
-    let want = quoted(alloc, WRITTEN)?;
-    assert_eq!(rt; text, want.as_slice());
+fn copy_row(rt: &impl Abort, alloc: Global, text: &str, names: &[Checksum]) -> Result<(), Fail> {
+    let copy = copy_of(alloc, text)?;
+    assert_started(rt, &copy, names);
+    drop(copy);
     Ok(())
 }
 
-fn assert_written(rt: &impl Abort, alloc: Global, started: &Started) -> Result<(), Fail> {
-    let text = started_write(alloc, started)?;
-    assert_text(rt, alloc, text.as_slice())
-}
-
 #[test]
-fn an_answer_there_and_back(rt: HostRuntime) -> Result<(), Fail> {
-    let started = sample_answer(rt.alloc())?;
-    assert_started(&rt, &started);
-    assert_written(&rt, rt.alloc(), &started)
-}
-
-// An answer of so many checksums.
-fn started_of(alloc: Global, count: usize) -> Result<Started, NoMemory> {
-    let mut missing = ChecksumList::new(alloc);
-    for _ in 0..count {
-        missing.push(Checksum([0; 32]))?;
-    }
-    Ok(Started {
-        reference: Reference([0; 16]),
-        missing,
-    })
-}
-
-fn started_text(alloc: Global, count: usize) -> Result<ByteList, NoMemory> {
-    let started = started_of(alloc, count)?;
-    started_write(alloc, &started)
-}
-
-// Whether such an answer is read once it is written.
-fn is_read(alloc: Global, count: usize) -> Result<bool, NoMemory> {
-    let text = started_text(alloc, count)?;
-    Ok(started_read(alloc, text.as_slice()).is_ok())
-}
-
-const COUNTS: [(usize, bool); 4] = [(0, false), (1, true), (16, true), (17, false)];
-
-#[test]
-fn answers_of_so_many_checksums(rt: HostRuntime) -> Result<(), Fail> {
-    for &(count, taken) in &COUNTS {
-        assert_eq!(rt; is_read(rt.alloc(), count)?, taken, "{count}");
-    }
-    Ok(())
-}
-
-// What the text is refused for.
-fn refused(alloc: Global, text: &str) -> Option<StartedFault> {
-    let bytes = quoted(alloc, text).ok()?;
-    started_read(alloc, &bytes).err()
-}
-
-const NO_ANSWERS: [&str; 7] = [
-    "",
-    "[]",
-    "{'missing':['ba7816bf8f01cfea414140de5dae2223b00361a396177a9cb410ff61f20015ad']}",
-    "{'reference':'447816bf-8f01-cfea-4141-40de5dae2223'}",
-    "{'missing':['ba7816bf8f01cfea414140de5dae2223b00361a396177a9cb410ff61f20015aD'],'reference':'447816bf-8f01-cfea-4141-40de5dae2223'}",
-    "{'missing':['ba7816bf8f01cfea414140de5dae2223b00361a396177a9cb410ff61f20015ad',1.5],'reference':'447816bf-8f01-cfea-4141-40de5dae2223'}",
-    "{'missing':['ba7816bf8f01cfea414140de5dae2223b00361a396177a9cb410ff61f20015ad'],'reference':'447816bf'}",
-];
-
-#[test]
-fn texts_that_are_no_answers(rt: HostRuntime) {
-    for &text in &NO_ANSWERS {
-        let fault = refused(rt.alloc(), text);
-        assert_eq!(rt; fault, Some(StartedFault::Form), "{text}");
-    }
-}
-
-fn copy_of(alloc: Global, reference: Reference, names: &[Checksum]) -> Result<Started, NoMemory> {
-    let missing = ChecksumList::from_slice(alloc, names)?;
-    let started = Started { reference, missing };
-    started.copy(alloc)
-}
-
-fn assert_copy(rt: &impl Abort, copy: &Started, reference: Reference, names: &[Checksum]) {
-    assert!(rt; copy.reference == reference);
-    assert_eq!(rt; copy.missing.as_slice(), names);
-}
-
-#[test]
-fn copied_answer(rt: HostRuntime) -> Result<(), Fail> {
-    let two = [checksum(b"abc"), checksum(b"{}")];
-    let reference = reference_of(checksum(b"{}"), checksum(b"abc"));
-    let copy = copy_of(rt.alloc(), reference, &two)?;
-    assert_copy(&rt, &copy, reference, &two);
-    Ok(())
+fn copied_answers(rt: HostRuntime) -> Result<(), Fail> {
+    let names = [checksum(b"abc"), checksum(b"{}")];
+    let one = "{'missing':['@'],'reference':'{447816BF-8F01-CFEA-4141-40DE5DAE2223}'}";
+    copy_row(&rt, rt.alloc(), one, &names[..1])?;
+    copy_row(
+        &rt,
+        rt.alloc(),
+        "{'missing':['@','$'],'reference':'%'}",
+        &names,
+    )
 }

@@ -1,55 +1,28 @@
-//! Each member wrong in each way. In these texts `'` stands for `"`.
+//! Each member wrong in each way, in tables as `making` has them.
 use crate::tests::answers::unseal_fault;
-use crate::tests::making::{platform, quoted};
+use crate::tests::making::{Form, assert_table, platform, refusal};
 use canonical_json::read;
-use ebl_base::SignedText;
-use pint_responses::{ResponseField, UnsealFault};
+use ebl_base::{ByteList, PlatformCode, SignedText};
 use signed_envelope::compose;
-use std::alloc::{AllocError, Global};
-use std::process::Abort;
+use std::alloc::Global;
 use std::test::Fail;
 use test_signer::KeyedRing;
 
-// What every response has.
-const REQUIRED: [(&str, &str); 3] = [
-    ("'responseCode'", "'responseCode':'BENV',"),
-    ("'standing'", "'standing':false,"),
-    ("'missing'", "'missing':[],"),
-];
+// Payloads that ALPH signs.
+struct Payloads;
 
-// A response with these members, behind those that a response must have and that aren't among them.
-fn payload_with(alloc: Global, members: &str) -> Result<String, AllocError> {
-    let mut text = String::from_str(alloc, "{")?;
-    push_required(&mut text, members)?;
-    push_members(&mut text, members)?;
-    Ok(text)
-}
-
-fn push_required(text: &mut String, members: &str) -> Result<(), AllocError> {
-    for &(name, member) in &REQUIRED {
-        if !members.contains(name) {
-            text.push_str(member)?;
+impl Form for Payloads {
+    fn answer(alloc: Global, text: &[u8]) -> Result<ByteList, Fail> {
+        let alph = platform("ALPH")?;
+        let signed = signed(alloc, alph, text)?;
+        match unseal_fault(alloc, alph, signed.0.as_slice()) {
+            Some(fault) => refusal(alloc, fault),
+            None => Ok(ByteList::from_slice(alloc, b"taken")?),
         }
     }
-    Ok(())
 }
 
-fn push_members(text: &mut String, members: &str) -> Result<(), AllocError> {
-    text.push_str(members)?;
-    text.push_str("}")
-}
-
-pub(crate) fn fault_with(
-    rt: &(impl Abort + AllocGlobal),
-    members: &str,
-) -> Result<Option<UnsealFault>, Fail> {
-    let text = payload_with(rt.alloc(), members)?;
-    fault_of(rt, text.as_str())
-}
-
-// The text of a payload of these bytes, signed by ALPH.
-fn signed_bytes(alloc: Global, payload: &[u8]) -> Result<SignedText, Fail> {
-    let alph = platform("ALPH")?;
+fn signed(alloc: Global, alph: PlatformCode, payload: &[u8]) -> Result<SignedText, Fail> {
     let json = read(alloc, payload)?;
     let mut ring = KeyedRing::derived();
     let text = compose(alloc, &mut ring, alph, &json, 65_536);
@@ -57,136 +30,64 @@ fn signed_bytes(alloc: Global, payload: &[u8]) -> Result<SignedText, Fail> {
     Ok(text?)
 }
 
-fn signed(alloc: Global, payload: &str) -> Result<SignedText, Fail> {
-    let bytes = quoted(alloc, payload)?;
-    signed_bytes(alloc, &bytes)
-}
+const WRONG: &str = r#"
+// absent members
+[] | Form(ResponseCode)
+{} | Form(ResponseCode)
+{'responseCode':'RECE'} | Form(Standing)
+{'responseCode':'RECE','standing':true} | Form(Missing)
+// codes and truth values
+{'standing':false,'missing':[],'responseCode':null} | Form(ResponseCode)
+{'standing':false,'missing':[],'responseCode':'rece'} | Form(ResponseCode)
+{'responseCode':'BENV','missing':[],'standing':null} | Form(Standing)
+{'responseCode':'BENV','missing':[],'standing':'true'} | Form(Standing)
+{'responseCode':'BENV','missing':[],'standing':0} | Form(Standing)
+// names
+{'responseCode':'BENV','standing':false,'missing':[],'bill':null} | Form(Bill)
+{'responseCode':'BENV','standing':false,'missing':[],'bill':'ba7816bf'} | Form(Bill)
+{'responseCode':'BENV','standing':false,'missing':[],'last':null} | Form(Last)
+{'responseCode':'BENV','standing':false,'missing':[],'last':1} | Form(Last)
+{'responseCode':'BENV','standing':false,'missing':{}} | Form(Missing)
+{'responseCode':'BENV','standing':false,'missing':[null]} | Form(Missing)
+// reasons
+{'responseCode':'BENV','standing':false,'missing':[],'reason':null} | Form(Reason)
+{'responseCode':'BENV','standing':false,'missing':[],'reason':'body'} | Form(Reason)
+{'responseCode':'BENV','standing':false,'missing':[],'reason':'PARTS'} | Form(Reason)
+{'responseCode':'BENV','standing':false,'missing':[],'reason':'SIGNATURE','index':0} | Form(Reason)
+// indexes
+{'responseCode':'BENV','standing':false,'missing':[],'reason':'FOLD'} | Form(Index)
+{'responseCode':'BENV','standing':false,'missing':[],'reason':'FOLD','index':64} | Form(Index)
+{'responseCode':'BENV','standing':false,'missing':[],'reason':'FOLD','index':-1} | Form(Index)
+{'responseCode':'BENV','standing':false,'missing':[],'reason':'FOLD','index':'1'} | Form(Index)
+{'responseCode':'BENV','standing':false,'missing':[],'reason':'BODY','index':0} | Form(Index)
+{'responseCode':'BENV','standing':false,'missing':[],'reason':'BODY','index':null} | Form(Index)
+{'responseCode':'BENV','standing':false,'missing':[],'index':0} | Form(Index)
+// evidence
+{'responseCode':'BENV','standing':false,'missing':[],'own':null} | Form(Own)
+{'responseCode':'BENV','standing':false,'missing':[],'own':['e30.e30.AA']} | Form(Own)
+{'responseCode':'BENV','standing':false,'missing':[],'theirs':1} | Form(Theirs)
+{'responseCode':'BENV','standing':false,'missing':[],'own':'','theirs':{}} | Form(Theirs)
+// more than one: the first wrong one is named
+{'responseCode':'BENV','standing':false,'missing':[],'last':1,'bill':1} | Form(Bill)
+{'responseCode':'BENV','missing':[],'reason':1,'standing':1,'last':1} | Form(Last)
+{'responseCode':'BENV','standing':false,'missing':[],'index':1,'reason':1} | Form(Reason)
+{'responseCode':'BENV','standing':false,'theirs':1,'own':1,'missing':1} | Form(Missing)
+{'responseCode':'BENV','standing':false,'missing':[],'theirs':1,'own':1} | Form(Own)
+"#;
 
-fn fault_of(rt: &(impl Abort + AllocGlobal), payload: &str) -> Result<Option<UnsealFault>, Fail> {
-    let alph = platform("ALPH")?;
-    let text = signed(rt.alloc(), payload)?;
-    Ok(unseal_fault(rt.alloc(), alph, text.0.as_slice()))
-}
-
-// Members, and the one that is wrong.
-type Row = (&'static str, ResponseField);
-
-fn assert_faults(rt: &(impl Abort + AllocGlobal), rows: &[Row]) -> Result<(), Fail> {
-    for (members, field) in rows {
-        let fault = fault_with(rt, members)?;
-        assert_eq!(rt; fault, Some(UnsealFault::Form(*field)), "{members}");
-    }
-    Ok(())
-}
-
-const ABSENT: [Row; 4] = [
-    ("[]", ResponseField::ResponseCode),
-    ("{}", ResponseField::ResponseCode),
-    ("{'responseCode':'RECE'}", ResponseField::Standing),
-    (
-        "{'responseCode':'RECE','standing':true}",
-        ResponseField::Missing,
-    ),
-];
-
-#[test]
-fn absent_members(rt: HostRuntime) -> Result<(), Fail> {
-    for &(payload, field) in &ABSENT {
-        let fault = fault_of(&rt, payload)?;
-        assert_eq!(rt; fault, Some(UnsealFault::Form(field)), "{payload}");
-    }
-    assert_eq!(rt; fault_with(&rt, "'further':null")?, None);
-    Ok(())
-}
-
-const CODES: [Row; 5] = [
-    ("'responseCode':null", ResponseField::ResponseCode),
-    ("'responseCode':'rece'", ResponseField::ResponseCode),
-    ("'standing':null", ResponseField::Standing),
-    ("'standing':'true'", ResponseField::Standing),
-    ("'standing':0", ResponseField::Standing),
-];
-
-#[test]
-fn codes_and_truth_values(rt: HostRuntime) -> Result<(), Fail> {
-    assert_faults(&rt, &CODES)
-}
-
-const NAMES: [Row; 6] = [
-    ("'bill':null", ResponseField::Bill),
-    ("'bill':'ba7816bf'", ResponseField::Bill),
-    ("'last':null", ResponseField::Last),
-    ("'last':1", ResponseField::Last),
-    ("'missing':{}", ResponseField::Missing),
-    ("'missing':[null]", ResponseField::Missing),
-];
+// Any text is taken as evidence, also one that is longer than what can be sealed: whether it can is another question.
+const TAKEN: &str = r#"
+{'responseCode':'BENV','standing':false,'missing':[],'further':null} | taken
+{'responseCode':'BENV','standing':false,'missing':[],'reason':'FOLD','index':63} | taken
+{'responseCode':'BENV','standing':false,'missing':[],'own':'e30.e30.AA','theirs':'..AA'} | taken
+{'responseCode':'BENV','standing':false,'missing':[],'own':'e30.e30.AA=','theirs':'e30.e31.AA'} | taken
+{'responseCode':'BENV','standing':false,'missing':[],'own':'','theirs':'\u20ac'} | taken
+{'responseCode':'BENV','standing':false,'missing':[],'own':'e30.*16295*A*.*84*A*'} | taken
+{'responseCode':'BENV','standing':false,'missing':[],'own':'e30.*16296*A*.*84*A*'} | taken
+"#;
 
 #[test]
-fn names(rt: HostRuntime) -> Result<(), Fail> {
-    assert_faults(&rt, &NAMES)
-}
-
-const REASONS: [Row; 4] = [
-    ("'reason':null", ResponseField::Reason),
-    ("'reason':'body'", ResponseField::Reason),
-    ("'reason':'PARTS'", ResponseField::Reason),
-    ("'reason':'SIGNATURE','index':0", ResponseField::Reason),
-];
-
-#[test]
-fn reasons(rt: HostRuntime) -> Result<(), Fail> {
-    assert_faults(&rt, &REASONS)
-}
-
-const INDEXES: [Row; 7] = [
-    ("'reason':'FOLD'", ResponseField::Index),
-    ("'reason':'FOLD','index':64", ResponseField::Index),
-    ("'reason':'FOLD','index':-1", ResponseField::Index),
-    ("'reason':'FOLD','index':'1'", ResponseField::Index),
-    ("'reason':'BODY','index':0", ResponseField::Index),
-    ("'reason':'BODY','index':null", ResponseField::Index),
-    ("'index':0", ResponseField::Index),
-];
-
-#[test]
-fn indexes(rt: HostRuntime) -> Result<(), Fail> {
-    assert_faults(&rt, &INDEXES)?;
-    assert_eq!(rt; fault_with(&rt, "'reason':'FOLD','index':63")?, None);
-    Ok(())
-}
-
-const EVIDENCE: [Row; 4] = [
-    ("'own':null", ResponseField::Own),
-    ("'own':['e30.e30.AA']", ResponseField::Own),
-    ("'theirs':1", ResponseField::Theirs),
-    ("'own':'','theirs':{}", ResponseField::Theirs),
-];
-
-// Any text is taken: whether it is one that can be sealed is another question.
-const TAKEN: [&str; 3] = [
-    "'own':'e30.e30.AA','theirs':'..AA'",
-    "'own':'e30.e30.AA=','theirs':'e30.e31.AA'",
-    "'own':'','theirs':'\\u20ac'",
-];
-
-#[test]
-fn evidence(rt: HostRuntime) -> Result<(), Fail> {
-    assert_faults(&rt, &EVIDENCE)?;
-    for &members in &TAKEN {
-        assert_eq!(rt; fault_with(&rt, members)?, None, "{members}");
-    }
-    Ok(())
-}
-
-const FIRST: [Row; 5] = [
-    ("'last':1,'bill':1", ResponseField::Bill),
-    ("'reason':1,'standing':1,'last':1", ResponseField::Last),
-    ("'index':1,'reason':1", ResponseField::Reason),
-    ("'theirs':1,'own':1,'missing':1", ResponseField::Missing),
-    ("'theirs':1,'own':1", ResponseField::Own),
-];
-
-#[test]
-fn first_wrong_member(rt: HostRuntime) -> Result<(), Fail> {
-    assert_faults(&rt, &FIRST)
+fn members_of_a_response(rt: HostRuntime) -> Result<(), Fail> {
+    assert_table::<Payloads, _>(&rt, WRONG)?;
+    assert_table::<Payloads, _>(&rt, TAKEN)
 }

@@ -2,9 +2,8 @@
 ghost use Rattle.std.specs.Prelude.{IfOk};
 ghost use Rattle.pint_responses.specs.Response.{IsEvidence, IsSealable};
 
-use crate::tests::answers::form::fault_with;
 use crate::tests::answers::{response, sealed_by, unsealed};
-use crate::tests::making::platform;
+use crate::tests::making::{Form, assert_table, platform, same, spelled};
 use document_checksum::checksum;
 use ebl_base::{
     ByteList, Checksum, ChecksumList, Code, Evidence, NoMemory, PlatformCode, Reason, SignedText,
@@ -15,26 +14,13 @@ use std::alloc::Global;
 use std::process::Abort;
 use std::test::Fail;
 
-// A header `{}`, a payload of zero bytes and a signature of 63 zero bytes, in so many characters.
-fn evidence_text(alloc: Global, len: usize) -> Result<Vec<u8>, Fail> {
-    let mut text = b"e30.".to_vec(alloc)?;
-    push_zeros(&mut text, len.saturating_sub(89))?;
-    text.push(b'.')?;
-    push_zeros(&mut text, 84)?;
-    Ok(text)
-}
-
-fn push_zeros(text: &mut Vec<u8>, count: usize) -> Result<(), Fail> {
-    for _ in 0..count {
-        text.push(b'A')?;
-    }
-    Ok(())
-}
+// A header `{}`, a payload of zero bytes and a signature of 63 zero bytes, in 16,384 characters.
+const LONGEST: &str = "e30.*16295*A*.*84*A*";
 
 fn longest_evidence(alloc: Global) -> Result<SignedText, Fail>
     ensures { IfOk result (λ t. IsEvidence t.0) }
 {
-    let text = ByteList::from_vec(evidence_text(alloc, 16_384)?);
+    let text = ByteList::from_vec(spelled(alloc, LONGEST)?);
     match is_compact(alloc, text.as_slice(), 16_384) {
         Ok(true) => Ok(SignedText::from_bytes(alloc, text)?),
         _ => Err(Fail::from("no evidence")),
@@ -69,42 +55,27 @@ fn is_shown_sealable(alloc: Global, own: &[u8]) -> Result<bool, NoMemory> {
     sealable
 }
 
-fn own_member(alloc: Global, own: &[u8]) -> Result<String, Fail> {
-    let text = std::str::from_utf8(own).ok().ok_or("text")?;
-    Ok(format!(in alloc; "'own':'{text}'")?)
+// Texts as the own evidence of an answer.
+struct OwnEvidence;
+
+impl Form for OwnEvidence {
+    fn answer(alloc: Global, text: &[u8]) -> Result<ByteList, Fail> {
+        let sealable = is_shown_sealable(alloc, text)?;
+        let answer = format!(in alloc; "{} {sealable}", text.len())?;
+        Ok(ByteList::from_slice(alloc, answer.as_bytes())?)
+    }
 }
 
-fn assert_member(rt: &(impl Abort + AllocGlobal), own: &[u8]) -> Result<(), Fail> {
-    let member = own_member(rt.alloc(), own)?;
-    assert_eq!(rt; fault_with(rt, member.as_str())?, None);
-    Ok(())
-}
-
-fn assert_evidence(
-    rt: &(impl Abort + AllocGlobal),
-    own: &[u8],
-    len: usize,
-    sealable: bool,
-) -> Result<(), Fail> {
-    assert_eq!(rt; own.len(), len);
-    assert_member(rt, own)?;
-    assert_eq!(rt; is_shown_sealable(rt.alloc(), own)?, sealable);
-    Ok(())
-}
-
-fn evidence_row(rt: &(impl Abort + AllocGlobal), len: usize, sealable: bool) -> Result<(), Fail> {
-    let bytes = evidence_text(rt.alloc(), len)?;
-    assert_evidence(rt, &bytes, len, sealable)
-}
-
-const LENGTHS: [(usize, bool); 2] = [(16_384, true), (16_385, false)];
+// How long a text is, and whether an answer with it can be sealed.
+const EVIDENCE: &str = r#"
+e30.*16295*A*.*84*A* | 16384 true
+e30.*16296*A*.*84*A* | 16385 false
+e30.e31.AA | 10 false
+"#;
 
 #[test]
 fn evidence_that_can_be_sealed(rt: HostRuntime) -> Result<(), Fail> {
-    for &(len, sealable) in &LENGTHS {
-        evidence_row(&rt, len, sealable)?;
-    }
-    Ok(())
+    assert_table::<OwnEvidence, _>(&rt, EVIDENCE)
 }
 
 fn is_list_sealable(alloc: Global, names: &[Checksum]) -> Result<bool, NoMemory> {
@@ -118,9 +89,10 @@ fn is_list_sealable(alloc: Global, names: &[Checksum]) -> Result<bool, NoMemory>
 #[test]
 fn missing_documents_that_can_be_sealed(rt: HostRuntime) -> Result<(), Fail> {
     let name = checksum(b"abc");
-    assert_eq!(rt; is_list_sealable(rt.alloc(), &[name; 16])?, true);
-    assert_eq!(rt; is_list_sealable(rt.alloc(), &[name; 17])?, false);
-    assert_eq!(rt; is_shown_sealable(rt.alloc(), b"e30.e31.AA")?, false);
+    let sixteen = is_list_sealable(rt.alloc(), &[name; 16])?;
+    same(&rt, "16 documents", sixteen, true);
+    let more = is_list_sealable(rt.alloc(), &[name; 17])?;
+    same(&rt, "17 documents", more, false);
     Ok(())
 }
 
@@ -204,7 +176,7 @@ fn assert_disputed(rt: &impl Abort, r: &Response, text: &[u8]) {
 
 #[test]
 fn evidence_there_and_back(rt: HostRuntime) -> Result<(), Fail> {
-    let evidence = evidence_text(rt.alloc(), 16_384)?;
+    let evidence = spelled(rt.alloc(), LONGEST)?;
     let again = unsealed_dispute(rt.alloc())?;
     assert_disputed(&rt, &again, &evidence);
     drop(again);

@@ -3,10 +3,11 @@ ghost use Rattle.std.specs.Prelude.{IfOk};
 ghost use Rattle.pint_responses.specs.Response.{IsSealable};
 
 use crate::tests::answers::{response, sealed_by, unseal_fault, unsealed};
-use crate::tests::making::platform;
+use crate::tests::making::{Form, assert_table, platform, same};
 use document_checksum::checksum;
 use ebl_base::{
-    CallList, Checksum, ChecksumList, Code, Copied, NoMemory, PlatformCode, Reason, SignedText,
+    ByteList, CallList, Checksum, ChecksumList, Code, Copied, NoMemory, PlatformCode, Reason,
+    SignedText,
 };
 use pint_responses::{Response, ResponseField, SealFault, UnsealFault, seal};
 use signed_envelope::BadSigned;
@@ -42,14 +43,20 @@ fn sealed_sample(alloc: Global) -> Result<SignedText, Fail> {
     Ok(text?)
 }
 
+fn has_names(r: &Response, bill: Checksum, last: Checksum) -> bool {
+    r.bill == Some(bill) && r.last == Some(last)
+}
+
+fn has_no_more(r: &Response) -> bool {
+    r.reason.is_none() && r.evidence.own.is_none() && r.evidence.theirs.is_none()
+}
+
 fn assert_sample(rt: &impl Abort, r: &Response) {
-    assert_eq!(rt; r.code, Code::MissingDocuments);
-    assert_eq!(rt; r.bill, Some(checksum(b"abc")));
-    assert_eq!(rt; r.last, Some(checksum(b"{}")));
-    assert!(rt; !r.standing && r.reason.is_none());
     let missing = [checksum(b"{}"), checksum(b"abc")];
-    assert_eq!(rt; r.missing.as_slice(), missing.as_slice());
-    assert!(rt; r.evidence.own.is_none() && r.evidence.theirs.is_none());
+    assert!(rt; r.code == Code::MissingDocuments && !r.standing, "{r:?}");
+    assert!(rt; has_names(r, missing[1], missing[0]), "{r:?}");
+    assert!(rt; r.missing.as_slice() == missing.as_slice(), "{r:?}");
+    assert!(rt; has_no_more(r), "{r:?}");
 }
 
 #[test]
@@ -84,56 +91,67 @@ fn missing_documents_from_nobody_else(rt: HostRuntime) -> Result<(), Fail> {
     Ok(())
 }
 
-const CODES: [&str; 7] = ["RECE", "DUPE", "BSIG", "BENV", "INCD", "MDOC", "DISE"];
+struct Codes;
+
+impl Form for Codes {
+    fn answer(alloc: Global, text: &[u8]) -> Result<ByteList, Fail> {
+        let code = Code::from_text(text).ok_or("a code")?;
+        Ok(ByteList::from_slice(alloc, code.as_str().as_bytes())?)
+    }
+}
+
+struct Reasons;
+
+impl Form for Reasons {
+    fn answer(alloc: Global, text: &[u8]) -> Result<ByteList, Fail> {
+        let Some(reason) = Reason::from_text(text) else {
+            return Ok(ByteList::from_slice(alloc, b"none")?);
+        };
+        let code = reason.code().as_str();
+        let answer = format!(in alloc; "{code} {}", reason.index().is_some())?;
+        Ok(ByteList::from_slice(alloc, answer.as_bytes())?)
+    }
+}
+
+const CODES: &str = r#"
+RECE | RECE
+DUPE | DUPE
+BSIG | BSIG
+BENV | BENV
+INCD | INCD
+MDOC | MDOC
+DISE | DISE
+"#;
 
 // A reason, the code that it comes with, and whether it is of an entry, as the form's table has them.
-const REASONS: [(&str, &str, bool); 20] = [
-    ("BODY", "BENV", false),
-    ("DOCUMENT", "BENV", false),
-    ("LENGTH", "BENV", false),
-    ("SIGNATURE", "BSIG", true),
-    ("ENTRY", "BENV", true),
-    ("SIGNER", "BSIG", true),
-    ("LINK", "BENV", true),
-    ("BILL", "BENV", true),
-    ("CARRIER", "BENV", false),
-    ("PLATFORM", "BENV", true),
-    ("FOLD", "BENV", true),
-    ("MOVE", "BENV", true),
-    ("MANIFEST_SIGNATURE", "BSIG", false),
-    ("MANIFEST_FORM", "BENV", false),
-    ("MANIFEST_NAMES", "BENV", false),
-    ("DESTINATION", "BENV", false),
-    ("PARTY", "BENV", false),
-    ("PARTS", "DISE", false),
-    ("NOT_LISTED", "INCD", false),
-    ("BYTES", "INCD", false),
-];
-
-fn code_row(rt: &impl Abort, text: &'static str) {
-    let code = Code::from_text(text.as_bytes());
-    assert_eq!(rt; code.map(Code::as_str), Some(text), "{text}");
-}
-
-fn reason_row(rt: &impl Abort, text: &'static str, code: &'static str, of_entry: bool) {
-    let reason = Reason::from_text(text.as_bytes());
-    assert_eq!(rt; reason.map(|r| r.code().as_str()), Some(code), "{text}");
-    assert_eq!(rt;
-        reason.is_some_and(|r| r.index().is_some()),
-        of_entry,
-        "{text}"
-    );
-}
+const REASONS: &str = r#"
+BODY | BENV false
+DOCUMENT | BENV false
+LENGTH | BENV false
+SIGNATURE | BSIG true
+ENTRY | BENV true
+SIGNER | BSIG true
+LINK | BENV true
+BILL | BENV true
+CARRIER | BENV false
+PLATFORM | BENV true
+FOLD | BENV true
+MOVE | BENV true
+MANIFEST_SIGNATURE | BSIG false
+MANIFEST_FORM | BENV false
+MANIFEST_NAMES | BENV false
+DESTINATION | BENV false
+PARTY | BENV false
+PARTS | DISE false
+NOT_LISTED | INCD false
+BYTES | INCD false
+body | none
+"#;
 
 #[test]
-fn texts_of_codes_and_reasons(rt: HostRuntime) {
-    for &text in &CODES {
-        code_row(&rt, text);
-    }
-    for &(text, code, of_entry) in &REASONS {
-        reason_row(&rt, text, code, of_entry);
-    }
-    assert_eq!(rt; Reason::from_text(b"body"), None);
+fn texts_of_codes_and_reasons(rt: HostRuntime) -> Result<(), Fail> {
+    assert_table::<Codes, _>(&rt, CODES)?;
+    assert_table::<Reasons, _>(&rt, REASONS)
 }
 
 const ROUNDS: [(Code, Option<Reason>); 27] = [
@@ -265,8 +283,9 @@ fn seal_fault(alloc: Global, alph: PlatformCode, ring: &mut FailingRing) -> Opti
 
 fn assert_fails_once(rt: &impl Abort, alloc: Global, ring: &mut FailingRing) -> Result<(), Fail> {
     let alph = platform("ALPH")?;
-    assert_eq!(rt; seal_fault(alloc, alph, ring), Some(SealFault::Sign));
-    assert_eq!(rt; seal_fault(alloc, alph, ring), None);
+    let first = seal_fault(alloc, alph, ring);
+    same(rt, "first", first, Some(SealFault::Sign));
+    same(rt, "second", seal_fault(alloc, alph, ring), None);
     Ok(())
 }
 
