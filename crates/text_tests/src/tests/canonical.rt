@@ -2,6 +2,7 @@
 ghost use Rattle.std.specs.Prelude.{◌<◌, IfOk, length};
 
 use crate::tests::comparing::{is_refused, is_rewritten, is_written, same, same_bytes};
+use crate::tests::making::{Form, assert_table, shown};
 use canonical_json::{
     Json, JsonList, Member, MemberList, ReadError, append, canonical_reads, decimal_of,
     equal_texts_have_equal_values, flag_of, formerly_read_is_read_alike, int_of, is_lawful,
@@ -13,19 +14,54 @@ use std::alloc::{AllocError, Global};
 use std::process::Abort;
 use std::test::Fail;
 
-// RFC 8785, sections 3.2.2 and 3.2.3, and rows worked by hand from them.
-const TEXTS: [(&[u8], &[u8]); 12] = [
-    (b"{}", b"{}"),
-    (b" [ ] ", b"[]"),
-    // Long enough for the kit's writer.
-    (
-        b"\"0123456789012345678901234567890123456789012345678901234567890123456789\\u000a\\\"\\/\xc3\xa9\"",
-        b"\"0123456789012345678901234567890123456789012345678901234567890123456789\\n\\\"/\xc3\xa9\"",
-    ),
-    (
-        b"{\"string\": \"\\u20ac$\\u000F\\u000aA'\\u0042\\u0022\\u005c\\\\\\\"\\/\", \"literals\": [null, true, false]}",
-        b"{\"literals\":[null,true,false],\"string\":\"\xe2\x82\xac$\\u000f\\nA'B\\\"\\\\\\\\\\\"/\"}",
-    ),
+// What a text is read as, written again, or why it isn't read.
+struct Canonical;
+
+impl Form for Canonical {
+    fn answer(alloc: Global, text: &[u8]) -> Result<ByteList, Fail> {
+        match read(alloc, text) {
+            Ok(json) => lawful_text(alloc, json),
+            Err(fault) => no_value(alloc, text, fault),
+        }
+    }
+}
+
+fn lawful_text(alloc: Global, json: Json) -> Result<ByteList, Fail> {
+    let lawful = is_lawful(&json);
+    let text = write(alloc, &json);
+    drop(json);
+    if lawful {
+        Ok(text?)
+    } else {
+        Err("a value that is read is lawful".into())
+    }
+}
+
+fn no_value(alloc: Global, text: &[u8], fault: ReadError) -> Result<ByteList, Fail> {
+    match read_if_any(alloc, text)? {
+        Some(json) => {
+            drop(json);
+            Err("what isn't read is no value".into())
+        }
+        None => shown(alloc, fault),
+    }
+}
+
+// RFC 8785, sections 3.2.2 and 3.2.3, and rows worked by hand from them. The third is long enough for the kit's writer.
+const TEXTS: &str = r#"
+{} | {}
+ [ ]  | []
+"0123456789012345678901234567890123456789012345678901234567890123456789\u000a\"\/é" | "0123456789012345678901234567890123456789012345678901234567890123456789\n\"/é"
+{"string": "\u20ac$\u000F\u000aA'\u0042\u0022\u005c\\\"\/", "literals": [null, true, false]} | {"literals":[null,true,false],"string":"€$\u000f\nA'B\"\\\\\"/"}
+9007199254740991 | 9007199254740991
+-9007199254740991 | -9007199254740991
+[0,10,-1,100000000000] | [0,10,-1,100000000000]
+{"b":1,"a":2} | {"a":2,"b":1}
+{"aa":1,"a":2,"":3,"B":4} | {"":3,"B":4,"a":2,"aa":1}
+"#;
+
+// The same for what is written with control characters.
+const CONTROLS: [(&[u8], &[u8]); 3] = [
     (
         b"{\"\\u20ac\": \"Euro Sign\", \"\\r\": \"Carriage Return\", \"\\ufb33\": \"Hebrew Letter Dalet With Dagesh\", \"1\": \"One\", \"\\ud83d\\ude00\": \"Emoji: Grinning Face\", \"\\u0080\": \"Control\", \"\\u00f6\": \"Latin Small Letter O With Diaeresis\"}",
         b"{\"\\r\":\"Carriage Return\",\"1\":\"One\",\"\xc2\x80\":\"Control\",\"\xc3\xb6\":\"Latin Small Letter O With Diaeresis\",\"\xe2\x82\xac\":\"Euro Sign\",\"\xf0\x9f\x98\x80\":\"Emoji: Grinning Face\",\"\xef\xac\xb3\":\"Hebrew Letter Dalet With Dagesh\"}",
@@ -38,60 +74,62 @@ const TEXTS: [(&[u8], &[u8]); 12] = [
         b"\"\\u0000\\u0008\\u0009\\u000A\\u000C\\u000D\\u001F\\u0020\\u007F\\/\"",
         b"\"\\u0000\\b\\t\\n\\f\\r\\u001f \x7f/\"",
     ),
-    (b"9007199254740991", b"9007199254740991"),
-    (b"-9007199254740991", b"-9007199254740991"),
-    (b"[0,10,-1,100000000000]", b"[0,10,-1,100000000000]"),
-    (b"{\"b\":1,\"a\":2}", b"{\"a\":2,\"b\":1}"),
-    (
-        b"{\"aa\":1,\"a\":2,\"\":3,\"B\":4}",
-        b"{\"\":3,\"B\":4,\"a\":2,\"aa\":1}",
-    ),
 ];
 
-fn text_row(rt: &impl Abort, alloc: Global, text: &[u8], want: &[u8]) -> Result<(), Fail> {
-    let json = read(alloc, text)?;
-    assert!(rt; is_lawful(&json));
-    is_written(rt, alloc, &json, want)?;
+fn control_row(rt: &impl Abort, alloc: Global, text: &[u8], want: &[u8]) -> Result<(), Fail> {
+    let came = Canonical::answer(alloc, text)?;
+    same_bytes(rt, came.as_slice(), want);
     Ok(())
 }
 
 #[test]
 fn the_text_is_that_of_rfc_8785(rt: HostRuntime) -> Result<(), Fail> {
-    for &(text, want) in &TEXTS {
-        text_row(&rt, rt.alloc(), text, want)?;
+    for &(text, want) in &CONTROLS {
+        control_row(&rt, rt.alloc(), text, want)?;
     }
-    Ok(())
+    assert_table::<Canonical, _>(&rt, TEXTS)
 }
 
 // RFC 8259 and RFC 3629 say which texts are none; 2^53 - 1 and the forms of numbers are this crate's limits.
-const NONE: [&[u8]; 41] = [
-    b"",
-    b" ",
-    b"{",
-    b"[1,]",
-    b"{\"a\":1,}",
-    b"{a:1}",
-    b"'a'",
-    b"tru",
-    b"True",
-    b"NaN",
-    b"{} {}",
-    b"1 2",
-    b"[]x",
+const NONE: &str = r#"
+ | NotJson
+  | NotJson
+{ | NotJson
+[1,] | NotJson
+{"a":1,} | NotJson
+{a:1} | NotJson
+'a' | NotJson
+tru | NotJson
+True | NotJson
+NaN | NotJson
+{} {} | NotJson
+1 2 | NotJson
+[]x | NotJson
+// truncated and unknown escapes
+"\ | NotJson
+"\" | NotJson
+"\u" | NotJson
+"\u12" | NotJson
+"\u123g" | NotJson
+"\x41" | NotJson
+// lone surrogates, in either half
+"\ud800" | NotJson
+"\udc00" | NotJson
+"\ud83d\ud83d" | NotJson
+"\ud83d\u0041" | NotJson
+"\ude00\ud83d" | NotJson
+// numbers
+01 | NotJson
+-01 | NotJson
++1 | NotJson
+.5 | NotJson
+1. | NotJson
+1e | NotJson
+"#;
+
+// The same for what no row of a text can hold.
+const NO_ROWS: [&[u8]; 11] = [
     b"\xef\xbb\xbf{}",
-    // truncated and unknown escapes
-    b"\"\\",
-    b"\"\\\"",
-    b"\"\\u\"",
-    b"\"\\u12\"",
-    b"\"\\u123g\"",
-    b"\"\\x41\"",
-    // lone surrogates, in either half
-    b"\"\\ud800\"",
-    b"\"\\udc00\"",
-    b"\"\\ud83d\\ud83d\"",
-    b"\"\\ud83d\\u0041\"",
-    b"\"\\ude00\\ud83d\"",
     // no UTF-8: overlong, above U+10FFFF, a surrogate, a stray byte
     b"\"\xc0\xaf\"",
     b"\"\xe0\x80\xaf\"",
@@ -104,110 +142,73 @@ const NONE: [&[u8]; 41] = [
     b"\"\x00\"",
     b"\"\n\"",
     b"\"\x1f\"",
-    // numbers
-    b"01",
-    b"-01",
-    b"+1",
-    b".5",
-    b"1.",
-    b"1e",
 ];
 
-const OTHERS: [(&[u8], ReadError); 21] = [
-    (b"{\"a\":1,\"\\u0061\":2}", ReadError::Repeated),
-    (b"{\"\":1,\"b\":{\"\":1,\"\":2}}", ReadError::Repeated),
-    (b"{\"/\":1,\"b\":2,\"\\/\":1}", ReadError::Repeated),
-    (
-        b"{\"\xf0\x9f\x98\x80\":1,\"\\uD83D\\ude00\":1}",
-        ReadError::Repeated,
-    ),
-    (b"{\"\\t\":1e3,\"\\u0009\":1}", ReadError::Repeated),
-    (
-        b"[1e400,{\"a\":9007199254740992,\"a\":1}]",
-        ReadError::Repeated,
-    ),
-    (b"1e3", ReadError::Fraction),
-    (b"1E-3", ReadError::Fraction),
-    (b"0e0", ReadError::Fraction),
-    (b"1e400", ReadError::Fraction),
-    (b"0.0000001", ReadError::Fraction),
-    (b"123456789012345.6", ReadError::Fraction),
-    (b"[9007199254740992,{\"a\":1e0}]", ReadError::Fraction),
-    (b"9007199254740992", ReadError::Range),
-    (b"9007199254740992.0", ReadError::Range),
-    (b"-9007199254740992", ReadError::Range),
-    (b"9223372036854775808", ReadError::Range),
-    (b"18446744073709551616", ReadError::Range),
-    (b"-9223372036854775809", ReadError::Range),
-    (
-        b"100000000000000000000000000000000000000000.000",
-        ReadError::Range,
-    ),
-    (b"{\"a\":[9007199254740992]}", ReadError::Range),
-];
-
-fn is_no_value(rt: &impl Abort, alloc: Global, text: &[u8]) -> Result<(), NoMemory> {
-    let value = read_if_any(alloc, text)?;
-    assert!(rt; value.is_none());
-    Ok(())
-}
+const OTHERS: &str = r#"
+{"a":1,"\u0061":2} | Repeated
+{"":1,"b":{"":1,"":2}} | Repeated
+{"/":1,"b":2,"\/":1} | Repeated
+{"😀":1,"\uD83D\ude00":1} | Repeated
+{"\t":1e3,"\u0009":1} | Repeated
+[1e400,{"a":9007199254740992,"a":1}] | Repeated
+1e3 | Fraction
+1E-3 | Fraction
+0e0 | Fraction
+1e400 | Fraction
+0.0000001 | Fraction
+123456789012345.6 | Fraction
+[9007199254740992,{"a":1e0}] | Fraction
+9007199254740992 | Range
+9007199254740992.0 | Range
+-9007199254740992 | Range
+9223372036854775808 | Range
+18446744073709551616 | Range
+-9223372036854775809 | Range
+100000000000000000000000000000000000000000.000 | Range
+{"a":[9007199254740992]} | Range
+"#;
 
 #[test]
 fn each_refusal_has_its_cause(rt: HostRuntime) -> Result<(), Fail> {
-    for &text in &NONE {
+    for &text in &NO_ROWS {
         is_refused(&rt, rt.alloc(), text, ReadError::NotJson);
     }
-    for &(text, want) in &OTHERS {
-        is_refused(&rt, rt.alloc(), text, want);
-        is_no_value(&rt, rt.alloc(), text)?;
-    }
-    Ok(())
+    assert_table::<Canonical, _>(&rt, NONE)?;
+    assert_table::<Canonical, _>(&rt, OTHERS)
 }
 
 // RFC 8785, section 3.2.2.3, with rows of its appendix B in our range, and the edges of a decimal.
-const NUMBERS: [(&[u8], &[u8]); 25] = [
-    (b"24000.50", b"24000.5"),
-    (b"-0", b"0"),
-    (b"-0.00", b"0"),
-    (b"1.0", b"1"),
-    (b"-1.000000000000000000000000000000", b"-1"),
-    (b"0.000001", b"0.000001"),
-    (b"-0.0000033333333333333333", b"-"),
-    (b"333333333.3333333", b"-"),
-    (b"333333333.333333", b"333333333.333333"),
-    (b"-333333333.333333", b"-333333333.333333"),
-    (b"4.50", b"4.5"),
-    (b"0.002", b"0.002"),
-    (b"12345678901234.5", b"12345678901234.5"),
-    (b"999999999999999.0", b"999999999999999"),
-    (b"9007199254740991.000", b"9007199254740991"),
-    (b"-9007199254740991.0", b"-9007199254740991"),
-    (b"99999999999999.9", b"99999999999999.9"),
-    (b"999999999999999.9", b"-"),
-    (b"0.1", b"0.1"),
-    (b"-0.10", b"-0.1"),
-    (b"0.00000123456789012345", b"0.00000123456789012345"),
-    (b"0.000001234567890123456", b"-"),
-    (b"0.000000999999999999999", b"-"),
-    (b"10.0000000000000", b"10"),
-    (b"0.123456789012345000", b"0.123456789012345"),
-];
-
-fn number_row(rt: &impl Abort, alloc: Global, text: &[u8], want: &[u8]) -> Result<(), Fail> {
-    if want == b"-".as_slice() {
-        is_refused(rt, alloc, text, ReadError::Fraction);
-        Ok(())
-    } else {
-        is_rewritten(rt, alloc, text, want)
-    }
-}
+const NUMBERS: &str = r#"
+24000.50 | 24000.5
+-0 | 0
+-0.00 | 0
+1.0 | 1
+-1.000000000000000000000000000000 | -1
+0.000001 | 0.000001
+-0.0000033333333333333333 | Fraction
+333333333.3333333 | Fraction
+333333333.333333 | 333333333.333333
+-333333333.333333 | -333333333.333333
+4.50 | 4.5
+0.002 | 0.002
+12345678901234.5 | 12345678901234.5
+999999999999999.0 | 999999999999999
+9007199254740991.000 | 9007199254740991
+-9007199254740991.0 | -9007199254740991
+99999999999999.9 | 99999999999999.9
+999999999999999.9 | Fraction
+0.1 | 0.1
+-0.10 | -0.1
+0.00000123456789012345 | 0.00000123456789012345
+0.000001234567890123456 | Fraction
+0.000000999999999999999 | Fraction
+10.0000000000000 | 10
+0.123456789012345000 | 0.123456789012345
+"#;
 
 #[test]
 fn a_number_is_read_exactly(rt: HostRuntime) -> Result<(), Fail> {
-    for &(text, want) in &NUMBERS {
-        number_row(&rt, rt.alloc(), text, want)?;
-    }
-    Ok(())
+    assert_table::<Canonical, _>(&rt, NUMBERS)
 }
 
 // The text of a decimal, which is lawful or not.
@@ -260,126 +261,97 @@ fn each_scale_has_its_edge(rt: HostRuntime) -> Result<(), Fail> {
     Ok(())
 }
 
-// The text of a value that nests so deep in one kind of brackets.
-fn nested(
-    alloc: Global,
-    open: &[u8],
-    middle: &[u8],
-    close: u8,
-    depth: usize,
-) -> Result<Vec<u8>, AllocError> {
-    let mut text = Vec::new(alloc);
-    for _ in 0..depth {
-        text.extend_from_slice(open)?;
-    }
-    text.extend_from_slice(middle)?;
-    for _ in 0..depth {
-        text.push(close).map_err(|_| AllocError)?;
-    }
-    Ok(text)
-}
-
-fn nests(
-    rt: &impl Abort,
-    alloc: Global,
-    open: &[u8],
-    middle: &[u8],
-    close: u8,
-) -> Result<(), Fail> {
-    let deepest = nested(alloc, open, middle, close, 127)?;
-    is_rewritten(rt, alloc, &deepest, &deepest)
-}
-
-fn nests_no_deeper(
-    rt: &impl Abort,
-    alloc: Global,
-    open: &[u8],
-    middle: &[u8],
-    close: u8,
-) -> Result<(), AllocError> {
-    let deeper = nested(alloc, open, middle, close, 128)?;
-    is_refused(rt, alloc, &deeper, ReadError::NotJson);
-    Ok(())
-}
+const NESTED: &str = r#"
+*127*[**127*]* | *127*[**127*]*
+*128*[**128*]* | NotJson
+*127*{"a":*1*127*}* | *127*{"a":*1*127*}*
+*128*{"a":*1*128*}* | NotJson
+"#;
 
 #[test]
 fn a_value_nests_127_deep(rt: HostRuntime) -> Result<(), Fail> {
-    nests(&rt, rt.alloc(), b"[", b"", b']')?;
-    nests_no_deeper(&rt, rt.alloc(), b"[", b"", b']')?;
-    nests(&rt, rt.alloc(), b"{\"a\":", b"1", b'}')?;
-    nests_no_deeper(&rt, rt.alloc(), b"{\"a\":", b"1", b'}')?;
-    Ok(())
+    assert_table::<Canonical, _>(&rt, NESTED)
 }
 
-fn assert_text_found(rt: &impl Abort, json: &Json) {
-    assert_eq!(rt; text_of(json, "t").map(|t| t.as_str()), Some("at sea"));
-}
+// Whether a value nests within 0, 1, 2, 3 and 4.
+struct Depths;
 
-fn assert_found(rt: &impl Abort, json: &Json) {
-    assert_text_found(rt, json);
-    same(rt, "n", int_of(json, "n"), Some(-7));
-    same(rt, "d", decimal_of(json, "d"), Some((-25, 2)));
-    same(rt, "f", flag_of(json, "f"), Some(false));
-    same(rt, "l", list_of(json, "l").map(|l| l.len()), Some(2));
-    assert!(rt; matches!(member_of(json, "o"), Some(Json::Object(_))));
-}
-
-// A text, and how deep its value nests, counted by hand.
-const DEPTHS: [(&[u8], usize); 6] = [
-    (b"null", 0),
-    (b"[]", 1),
-    (b"{}", 1),
-    (b"{\"a\":{\"b\":1},\"c\":[]}", 2),
-    (b"[0,[],[{}]]", 3),
-    (b"[{\"a\":[null]}]", 3),
-];
-
-fn assert_nests(rt: &impl Abort, json: &Json, depth: usize) {
-    for most in 0..5 {
-        assert_eq!(rt;
-            nests_within(json, most),
-            depth <= most,
-            "{depth} within {most}"
-        );
+impl Form for Depths {
+    fn answer(alloc: Global, text: &[u8]) -> Result<ByteList, Fail> {
+        let json = read(alloc, text)?;
+        let marks = marks(alloc, &json);
+        drop(json);
+        Ok(marks?)
     }
 }
+
+fn marks(alloc: Global, json: &Json) -> Result<ByteList, NoMemory> {
+    let mut marks = ByteList::new(alloc);
+    for most in 0..5 {
+        marks.push(if nests_within(json, most) { b'+' } else { b'-' })?;
+    }
+    Ok(marks)
+}
+
+// The depths are counted by hand.
+const DEPTHS: &str = r#"
+null | +++++
+[] | -++++
+{} | -++++
+{"a":{"b":1},"c":[]} | --+++
+[0,[],[{}]] | ---++
+[{"a":[null]}] | ---++
+"#;
 
 #[test]
 fn values_nest_within_their_depth(rt: HostRuntime) -> Result<(), Fail> {
-    for &(text, depth) in &DEPTHS {
-        let json = read(rt.alloc(), text)?;
-        assert_nests(&rt, &json, depth);
+    assert_table::<Depths, _>(&rt, DEPTHS)
+}
+
+// What this object has under a name: a text, a whole number, a decimal, a truth value, the length of a list, and
+// whether it is an object.
+struct Members;
+
+const OBJECT: &[u8] =
+    b"{\"d\":-0.25,\"f\":false,\"l\":[1,2],\"n\":-7,\"o\":{\"x\":null},\"t\":\"at sea\"}";
+
+impl Form for Members {
+    fn answer(alloc: Global, name: &[u8]) -> Result<ByteList, Fail> {
+        let name = std::str::from_utf8(name)?;
+        let json = read(alloc, OBJECT)?;
+        let found = found(alloc, &json, name);
+        drop(json);
+        found
     }
-    Ok(())
 }
 
-// A name under which there is no text, no number and no list.
-fn absent_row(rt: &impl Abort, json: &Json, name: &str) {
-    assert!(rt; text_of(json, name).is_none());
-    assert!(rt; int_of(json, name).is_none());
-    assert!(rt; decimal_of(json, name).is_none());
-    assert!(rt; list_of(json, name).is_none());
+fn found(alloc: Global, json: &Json, name: &str) -> Result<ByteList, Fail> {
+    let text = text_of(json, name).map(|t| t.as_str());
+    let int = int_of(json, name);
+    let decimal = decimal_of(json, name);
+    let flag = flag_of(json, name);
+    let length = list_of(json, name).map(|l| l.len());
+    let object = matches!(member_of(json, name), Some(Json::Object(_)));
+    let answer = format!(in alloc; "{text:?} {int:?} {decimal:?} {flag:?} {length:?} {object}")?;
+    Ok(ByteList::from_slice(alloc, answer.as_bytes())?)
 }
 
-const ABSENT: [&str; 4] = ["f", "x", "", "tt"];
-
-fn assert_not_found(rt: &impl Abort, json: &Json) {
-    for &name in &ABSENT {
-        absent_row(rt, json, name);
-    }
-    assert!(rt; flag_of(json, "t").is_none());
-    assert!(rt; member_of(&Json::Null, "t").is_none());
-}
+const FOUND: &str = r#"
+t | Some("at sea") None None None None false
+n | None Some(-7) None None None false
+d | None None Some((-25, 2)) None None false
+f | None None None Some(false) None false
+l | None None None None Some(2) false
+o | None None None None None true
+x | None None None None None false
+ | None None None None None false
+tt | None None None None None false
+"#;
 
 #[test]
 fn members_are_found_by_their_names(rt: HostRuntime) -> Result<(), Fail> {
-    let json = read(
-        rt.alloc(),
-        b"{\"d\":-0.25,\"f\":false,\"l\":[1,2],\"n\":-7,\"o\":{\"x\":null},\"t\":\"at sea\"}",
-    )?;
-    assert_found(&rt, &json);
-    assert_not_found(&rt, &json);
-    Ok(())
+    assert!(rt; member_of(&Json::Null, "t").is_none());
+    assert_table::<Members, _>(&rt, FOUND)
 }
 
 fn members_in(alloc: Global, text: &[u8]) -> Result<Vec<Member>, Fail> {

@@ -1,138 +1,127 @@
 //! Which texts have parts. `signed_texts` shows the rest.
-use crate::tests::comparing::{same, same_bytes};
-use ebl_base::{Copied, Signature};
+use crate::tests::comparing::same;
+use crate::tests::making::{Form, assert_table, shown};
+use ebl_base::{ByteList, Copied, Signature};
 use signed_envelope::{BadSigned, Parts, SplitFault, is_compact, split};
-use std::alloc::{AllocError, Global};
-use std::process::Abort;
+use std::alloc::Global;
 use std::test::Fail;
 
-// `{}`, `{}` and one zero byte.
-const GOOD: &str = "e30.e30.AA";
-
-fn assert_good(rt: &impl Abort, parts: &Parts) {
-    same_bytes(rt, parts.header.as_slice(), b"{}");
-    same_bytes(rt, parts.payload.as_slice(), b"{}");
-    same_bytes(rt, parts.signature.as_bytes(), &[0]);
-    assert_eq!(rt; parts.input_len, 7);
+// A text behind its room.
+fn room_and_text(text: &[u8]) -> Result<(usize, &[u8]), Fail> {
+    let (room, text) = std::str::from_utf8(text)?.split_once(' ').ok_or("a room")?;
+    Ok((room.parse()?, text.as_bytes()))
 }
 
-#[test]
-fn parts(rt: HostRuntime) -> Result<(), Fail> {
-    let parts = split(rt.alloc(), GOOD.as_bytes(), 10)?;
-    assert_good(&rt, &parts);
-    Ok(())
-}
+// The header, the payload, the bytes of the signature, and the length of what is signed.
+struct InParts;
 
-#[test]
-fn parts_of_no_bytes(rt: HostRuntime) -> Result<(), Fail> {
-    let parts = split(rt.alloc(), b"..AA", 10)?;
-    assert!(rt; parts.header.is_empty());
-    assert!(rt; parts.payload.is_empty());
-    Ok(())
-}
-
-// A text with a signature of so many characters.
-fn with_signature(alloc: Global, count: usize) -> Result<Vec<u8>, AllocError> {
-    let mut text = b"e30.e30.".to_vec(alloc)?;
-    for _ in 0..count {
-        text.push(b'A')?;
+impl Form for InParts {
+    fn answer(alloc: Global, text: &[u8]) -> Result<ByteList, Fail> {
+        let (room, text) = room_and_text(text)?;
+        match split(alloc, text, room) {
+            Ok(parts) => copied(alloc, parts),
+            Err(fault) => shown(alloc, fault),
+        }
     }
-    Ok(text)
 }
 
-fn has_longest_signature(rt: &impl Abort, alloc: Global, text: &[u8]) -> Result<(), Fail> {
-    let parts = split(alloc, text, 1000)?;
-    assert_eq!(rt; parts.signature.as_bytes().len(), 64);
-    Ok(())
+fn copied(alloc: Global, parts: Parts) -> Result<ByteList, Fail> {
+    let answer = with_copy(alloc, &parts);
+    drop(parts);
+    answer
 }
 
-fn fault_of(alloc: Global, text: &[u8], most: usize) -> Option<SplitFault> {
-    split(alloc, text, most).err()
+fn with_copy(alloc: Global, parts: &Parts) -> Result<ByteList, Fail> {
+    let copy = parts.copy(alloc)?;
+    let again = parts_of(alloc, &copy);
+    drop(copy);
+    let again = again?;
+    let answer = parts_of(alloc, parts)?;
+    if answer.as_slice() == again.as_slice() {
+        Ok(answer)
+    } else {
+        Err("a copy has the same parts".into())
+    }
 }
 
-fn assert_longest(rt: &impl Abort, alloc: Global) -> Result<(), Fail> {
-    let longest = with_signature(alloc, 86)?;
-    has_longest_signature(rt, alloc, &longest)
+fn parts_of(alloc: Global, parts: &Parts) -> Result<ByteList, Fail> {
+    let header = std::str::from_utf8(parts.header.as_slice())?;
+    let payload = std::str::from_utf8(parts.payload.as_slice())?;
+    let signature = parts.signature.as_bytes();
+    let answer = format!(in alloc; "{header} {payload} {signature:?} {}", parts.input_len)?;
+    Ok(ByteList::from_slice(alloc, answer.as_bytes())?)
 }
 
-fn assert_too_long(rt: &impl Abort, alloc: Global) -> Result<(), AllocError> {
-    let longer = with_signature(alloc, 87)?;
-    let fault = fault_of(alloc, &longer, 1000);
-    assert_eq!(rt; fault, Some(SplitFault::NotCompact));
-    Ok(())
-}
+// The first has `{}`, `{}` and one zero byte, the second no bytes, and the third the longest signature.
+const PARTS: &str = r#"
+10 e30.e30.AA | {} {} [0] 7
+10 ..AA |   [0] 1
+1000 e30.e30.*86*A* | {} {} [*63*0, *0] 7
+1000 e30.e30.*87*A* | NotCompact
+9 e30.e30.AA | NotCompact
+"#;
+
+const OTHERS: &str = "
+100  | NotCompact
+100 . | NotCompact
+100 .. | NotCompact
+100 e30 | NotCompact
+100 e30.e30 | NotCompact
+100 e30.e30. | NotCompact
+100 e30.e30.AA. | NotCompact
+100 e30.e30.AA.AA | NotCompact
+// Padding.
+100 e30=.e30.AA | NotCompact
+100 e30.e30=.AA | NotCompact
+100 e30.e30.AA== | NotCompact
+// Bits at the end that are not zero.
+100 e31.e30.AA | NotCompact
+100 e30.e31.AA | NotCompact
+100 e30.e30.AB | NotCompact
+// A character alone.
+100 e.e30.AA | NotCompact
+100 e30.e30.A | NotCompact
+// The other alphabet of base64, and no alphabet.
+100 ey+-.e30.AA | NotCompact
+100 e30.ey/-.AA | NotCompact
+100 e3 .e30.AA | NotCompact
+100  e30.e30.AA | NotCompact
+100 e30.e30.\u{e9}A | NotCompact
+";
 
 #[test]
-fn longest_signature(rt: HostRuntime) -> Result<(), Fail> {
-    assert_longest(&rt, rt.alloc())?;
-    assert_too_long(&rt, rt.alloc())?;
-    Ok(())
+fn parts_of_texts(rt: HostRuntime) -> Result<(), Fail> {
+    let line = split(rt.alloc(), b"e30.e30.AA\n", 100).err();
+    same(&rt, "a line", line, Some(SplitFault::NotCompact));
+    assert_table::<InParts, _>(&rt, PARTS)?;
+    assert_table::<InParts, _>(&rt, OTHERS)
 }
 
 #[test]
 fn lengths_of_no_signature(rt: HostRuntime) {
-    assert_eq!(rt; Signature::try_new(&[0; 65]), None);
-    assert_eq!(rt; Signature::try_new(&[]), None);
+    same(&rt, "65 bytes", Signature::try_new(&[0; 65]), None);
+    same(&rt, "no bytes", Signature::try_new(&[]), None);
+    same(&rt, "word", BadSigned::WrongKey.as_str(), "WRONG_KEY");
 }
 
-const NOT_COMPACT: [&str; 22] = [
-    "",
-    ".",
-    "..",
-    "e30",
-    "e30.e30",
-    "e30.e30.",
-    "e30.e30.AA.",
-    "e30.e30.AA.AA",
-    // Padding.
-    "e30=.e30.AA",
-    "e30.e30=.AA",
-    "e30.e30.AA==",
-    // Bits at the end that are not zero.
-    "e31.e30.AA",
-    "e30.e31.AA",
-    "e30.e30.AB",
-    // A character alone.
-    "e.e30.AA",
-    "e30.e30.A",
-    // The other alphabet of base64, and no alphabet.
-    "ey+-.e30.AA",
-    "e30.ey/-.AA",
-    "e3 .e30.AA",
-    "e30.e30.AA\n",
-    " e30.e30.AA",
-    "e30.e30.\u{e9}A",
-];
+struct Compact;
 
-#[test]
-fn other_forms(rt: HostRuntime) {
-    for &text in &NOT_COMPACT {
-        let fault = fault_of(rt.alloc(), text.as_bytes(), 100);
-        same(&rt, text, fault, Some(SplitFault::NotCompact));
+impl Form for Compact {
+    fn answer(alloc: Global, text: &[u8]) -> Result<ByteList, Fail> {
+        let (room, text) = room_and_text(text)?;
+        let compact = is_compact(alloc, text, room)?;
+        shown(alloc, compact)
     }
-    assert!(rt; fault_of(rt.alloc(), GOOD.as_bytes(), 9).is_some());
 }
 
-#[test]
-fn copied_parts(rt: HostRuntime) -> Result<(), Fail> {
-    let copy = split(rt.alloc(), GOOD.as_bytes(), 10)?.copy(rt.alloc())?;
-    assert_good(&rt, &copy);
-    Ok(())
-}
-
-// A text, its room, and whether it is compact.
-const COMPACT: [(&str, usize, bool); 3] = [
-    (GOOD, 10, true),
-    (GOOD, 9, false),
-    ("e30.e31.AA", 10, false),
-];
+// A room and a text, and whether it is compact.
+const COMPACT: &str = r#"
+10 e30.e30.AA | true
+9 e30.e30.AA | false
+10 e30.e31.AA | false
+"#;
 
 #[test]
 fn compact_texts(rt: HostRuntime) -> Result<(), Fail> {
-    for &(text, most, want) in &COMPACT {
-        let compact = is_compact(rt.alloc(), text.as_bytes(), most)?;
-        same(&rt, text, compact, want);
-    }
-    assert_eq!(rt; BadSigned::WrongKey.as_str(), "WRONG_KEY");
-    Ok(())
+    assert_table::<Compact, _>(&rt, COMPACT)
 }

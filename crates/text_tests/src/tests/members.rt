@@ -13,19 +13,23 @@ use std::process::Abort;
 use std::test::Fail;
 
 fn assert_members(rt: &impl Abort, object: &Json) {
-    assert!(rt; required_platform(object, "at") == PlatformCode::try_new(b"ALPH"));
-    assert!(rt; required_platform(object, "by").is_none());
-    assert!(rt; required_party(object, "by") == Party::from_text(b"ALPH/EXPORT"));
-    assert!(rt; required_party(object, "at").is_none());
-    assert!(rt; required_checksum(object, "at").is_none());
+    let alph = PlatformCode::try_new(b"ALPH");
+    let export = Party::from_text(b"ALPH/EXPORT");
+    same(rt, "platform at", required_platform(object, "at"), alph);
+    same(rt, "platform by", required_platform(object, "by"), None);
+    same(rt, "party by", required_party(object, "by"), export);
+    same(rt, "party at", required_party(object, "at"), None);
+    same(rt, "checksum at", required_checksum(object, "at"), None);
 }
 
 fn assert_optional_members(rt: &impl Abort, object: &Json) {
-    assert!(rt; optional_party(object, "by") == Ok(Party::from_text(b"ALPH/EXPORT")));
-    assert!(rt; optional_party(object, "to") == Ok(None));
-    assert!(rt; optional_party(object, "none") == Err(Malformed));
-    assert!(rt; optional_checksum(object, "none") == Err(Malformed));
-    assert!(rt; optional_text(object, "n").is_err());
+    let export = Party::from_text(b"ALPH/EXPORT");
+    same(rt, "party by", optional_party(object, "by"), Ok(export));
+    same(rt, "party to", optional_party(object, "to"), Ok(None));
+    same(rt, "party", optional_party(object, "none"), Err(Malformed));
+    let checksum = optional_checksum(object, "none");
+    same(rt, "checksum", checksum, Err(Malformed));
+    same(rt, "no text", optional_text(object, "n").is_err(), true);
 }
 
 #[test]

@@ -10,9 +10,10 @@ use test_signer::{FailingRing, KeyedRing};
 
 fn assert_verified(rt: &impl Abort, ring: &KeyedRing, signature: Signature) {
     let alph = code(rt, "ALPH");
-    assert!(rt; ring.verify(alph, b"input", signature));
-    assert!(rt; !ring.verify(code(rt, "BETA"), b"input", signature));
-    assert!(rt; !ring.verify(alph, b"inputs", signature));
+    let beta = code(rt, "BETA");
+    same(rt, "input", ring.verify(alph, b"input", signature), true);
+    same(rt, "beta", ring.verify(beta, b"input", signature), false);
+    same(rt, "inputs", ring.verify(alph, b"inputs", signature), false);
 }
 
 #[test]
@@ -31,9 +32,9 @@ fn one_key_signs_for_its_platform_alone(rt: HostRuntime) -> Result<(), Fail> {
     let beta = code(&rt, "BETA");
     let mut ring = KeyedRing::one_key(alph, [7; 64]);
     let signature = ring.sign(alph, b"input")?;
-    assert!(rt; ring.verify(alph, b"input", signature));
-    assert!(rt; !ring.verify(beta, b"input", signature));
-    assert_eq!(rt; ring.sign(beta, b"input"), Err(Failed));
+    same(&rt, "alph", ring.verify(alph, b"input", signature), true);
+    same(&rt, "beta", ring.verify(beta, b"input", signature), false);
+    same(&rt, "signed", ring.sign(beta, b"input"), Err(Failed));
     Ok(())
 }
 
