@@ -51,12 +51,21 @@ def widths(texts):
         if name.endswith(CODE + SCRIPTS):
             if "/proofs/" in name:
                 continue
-            # A raw text may go over several lines.
-            text = re.sub(r'r#".*?"#', lambda it: '""' + "\n" * it.group().count("\n"), text, flags=re.S)
-            for number, line in enumerate(text.split("\n"), 1):
-                bare = re.sub(r'"(\\.|[^"\\])*"', '""', line)
-                if len(bare) > WIDTH and not re.match(r"\s*(pub |ghost )?use ", line):
-                    yield "%s:%d" % (name, number), "is %d columns wide" % len(bare)
+            for number, line in enumerate(without_texts(name, text).split("\n"), 1):
+                if len(line) > WIDTH and not re.match(r"\s*(pub |ghost )?use ", line):
+                    yield "%s:%d" % (name, number), "is %d columns wide" % len(line)
+
+
+# In Rattle, what isn't code: a raw text and a text, which may go over several lines, a character, a comment.
+NO_CODE = re.compile(r'''r(#*)".*?"\1|"(?:\\.|[^"\\])*"|'(?:\\[^\n]|[^'\\\n])'|//[^\n]*''', re.S)
+
+
+def without_texts(name, text):
+    """The code without what stands between quotes, line by line."""
+    if not name.endswith(".rt"):
+        return re.sub(r'"(\\.|[^"\\\n])*"', '""', text)
+    return NO_CODE.sub(lambda it: it.group() if it.group().startswith("//") else '""' + "\n" * it.group().count("\n"),
+                       text)
 
 
 def crates_named(texts):
