@@ -1,13 +1,10 @@
 //! One call again and again, over what a file holds: what bench/hot.py and bench/frames.py measure.
 #![tactic(auto)]
 
-mod forms;
-mod frames;
-mod signed;
-mod texts;
+mod calls;
 
+use calls::{call_of, called};
 use ebl_edge::words;
-use std::alloc::Global;
 use std::fs;
 use std::process::ExitCode;
 
@@ -32,36 +29,13 @@ fn run(rt: &HostRuntime) -> Option<bool> {
     let [call, file, rounds] = words.as_slice() else {
         return Some(false);
     };
-    let rounds = rounds.as_str().parse::<u32>().ok()?;
+    let (Some(call), Ok(rounds)) = (call_of(call.as_str()), rounds.as_str().parse::<u32>()) else {
+        return Some(false);
+    };
     let bytes = fs::read(rt, file.as_str()).ok()?;
-    called(rt.alloc(), call.as_str(), &bytes, rounds)
-}
-
-// Whether a call was done. What it gave is dropped.
-fn done<T: Drop, E: Drop>(answer: Result<T, E>) -> Option<()> {
-    match answer {
-        Ok(_) => Some(()),
-        Err(_) => None,
+    if called(rt.alloc(), call, &bytes, rounds) {
+        Some(true)
+    } else {
+        None
     }
-}
-
-// Whether there is such a call; none where it refused the bytes.
-fn called(alloc: Global, call: &str, bytes: &[u8], rounds: u32) -> Option<bool> {
-    match call {
-        "checksum" => texts::checksum_often(bytes, rounds)?,
-        "read" => texts::read_often(alloc, bytes, rounds)?,
-        "write" => texts::write_often(alloc, bytes, rounds)?,
-        "entry_decode" => forms::decode_entry_often(alloc, bytes, rounds)?,
-        "entry_encode" => forms::encode_entry_often(alloc, bytes, rounds)?,
-        "manifest_decode" => forms::decode_manifest_often(alloc, bytes, rounds)?,
-        "body_read" => forms::read_body_often(alloc, bytes, rounds)?,
-        "body_write" => forms::write_body_often(alloc, bytes, rounds)?,
-        "verify" => signed::verify_often(alloc, bytes, rounds)?,
-        "seal" => signed::seal_often(alloc, bytes, rounds)?,
-        "unseal" => signed::unseal_often(alloc, bytes, rounds)?,
-        "frame_read" => frames::read_often(alloc, bytes, rounds)?,
-        "frame_write" => frames::write_often(alloc, bytes, rounds)?,
-        _ => return Some(false),
-    }
-    Some(true)
 }
