@@ -1,7 +1,7 @@
 #!/usr/bin/env python3
 """What checking a chain costs, by its length and by the transactions of its entries.
 
-Builds chain_bench, counts the instructions that callgrind sees in a run with few rounds and in one with more, and
+Builds library_bench, counts the instructions that callgrind sees in a run with few rounds and in one with more, and
 prints instructions for each entry, and microseconds of the same difference in plain runs. The check is linear where
 these stay alike down a column. Words: none.
 """
@@ -9,7 +9,7 @@ from measure import best, difference, instructions, proved
 
 
 def main():
-    program = proved("chain_bench", ["1", "1", "1"])
+    program = proved("library_bench", ["chain", "1", "1", "1"])
     print("| entries | transactions an entry | instructions an entry | microseconds an entry |")
     print("|---|---|---|---|")
     for transactions in (1, 32):
@@ -17,7 +17,7 @@ def main():
             rounds = max(2, 64 // entries)
 
             def words(times):
-                return [program, str(entries), str(transactions), str(times)]
+                return [program, "chain", str(entries), str(transactions), str(times)]
 
             what = "%d entries of %d transactions" % (entries, transactions)
             counted = difference(instructions(words(2 * rounds)), instructions(words(rounds)), what)

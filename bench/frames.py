@@ -1,8 +1,8 @@
 #!/usr/bin/env python3
 """What the frame of a Begun costs to write and to read, beside reading its body's JSON once and hashing it once.
 
-Builds hot_bench, makes Begun records whose chains have 1, 8 or 64 entries, and counts the instructions that callgrind
-sees in a run with few rounds and in one with more. Words: none.
+Builds library_bench, makes Begun records whose chains have 1, 8 or 64 entries, and counts the instructions that
+callgrind sees in a run with few rounds and in one with more. Words: none.
 """
 import os
 import struct
@@ -24,10 +24,10 @@ def main():
                 file.write(text)
             with open(paths["frame"], "wb") as file:
                 file.write(b"\x07" + struct.pack(">I", len(text)) + text)
-            program = proved("hot_bench", ["frame_read", paths["frame"], "1"])
+            program = proved("library_bench", ["call", "frame_read", paths["frame"], "1"])
 
             def counted(call, path):
-                many, few = (instructions([program, call, paths[path], rounds]) for rounds in ("40", "20"))
+                many, few = (instructions([program, "call", call, paths[path], rounds]) for rounds in ("40", "20"))
                 return difference(many, few, call) // 20
 
             read, write = counted("frame_read", "frame"), counted("frame_write", "frame")

@@ -1,8 +1,8 @@
 #!/usr/bin/env python3
 """Single calls by instructions, beside a stock program that does the same.
 
-Builds hot_bench and hot_peer, and counts the instructions that callgrind sees in a run with few rounds of a call and
-in one with more, so that starts don't count. Words: none.
+Builds library_bench and hot_peer, and counts the instructions that callgrind sees in a run with few rounds of a call
+and in one with more, so that starts don't count. Words: none.
 """
 import os
 import tempfile
@@ -43,8 +43,8 @@ def main():
             with open(path, "wb") as file:
                 file.write(given)
             counts = []
-            for program in (proved("hot_bench", [call, path, "1"]), stock):
-                many, few = (instructions([program, call, path, rounds]) for rounds in ("40", "20"))
+            for words in ([proved("library_bench", ["call", call, path, "1"]), "call"], [stock]):
+                many, few = (instructions([*words, call, path, rounds]) for rounds in ("40", "20"))
                 counts.append(difference(many, few, call) // 20)
             print("| %s | %s | %d | %d | %d | %.2f |" % (call, what, len(given), *counts, counts[0] / counts[1]),
                   flush=True)

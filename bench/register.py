@@ -1,7 +1,7 @@
 #!/usr/bin/env python3
 """What a register costs, by how many bills it has, and by how many entries a bill has.
 
-Builds register_bench, and counts the instructions that callgrind sees in runs that add a frame more of each of ten
+Builds library_bench, and counts the instructions that callgrind sees in runs that add a frame more of each of ten
 bills, or ask a look-up more of each of them: the difference of two runs is the cost of ten. First with 10, 100, 1,000
 and 10,000 bills, whose chain has two entries when it comes back; then with 1,000 bills and chains of 2, 16 and 64
 entries. Then the memory that a bill takes, its frames included, whose texts are empty.
@@ -24,7 +24,7 @@ ENTRIES = (2, 16, 64)
 def words(program, bills, rows, events, asked, entries):
     # The runs that are compared have words of one length: these move the stack, and memcpy takes more instructions for
     # some places of what it copies there, 333,000 of 209,000,000 with 10,000 bills.
-    return [program, str(bills), str(rows), str(events), "%02d" % asked, "%02d" % entries]
+    return [program, "register", str(bills), str(rows), str(events), "%02d" % asked, "%02d" % entries]
 
 
 def costs(program, bills, entries):
@@ -64,7 +64,7 @@ def memory(program, events, entries):
 
 def main():
     given = sys.argv[1:]
-    program = os.path.abspath(given[0]) if given else proved("register_bench", ["1", "1", "5", "14", "2"])
+    program = os.path.abspath(given[0]) if given else proved("library_bench", ["register", "1", "1", "5", "14", "2"])
     table(["{:,} bills".format(bills) for bills in SIZES], [costs(program, bills, 2) for bills in SIZES])
     table(["%d entries" % entries for entries in ENTRIES], [costs(program, 1000, entries) for entries in ENTRIES])
     for what, events, entries in (("signed and issued", 0, 2), ("that went to another platform", 3, 2),

@@ -1,4 +1,4 @@
-//! What hot_bench does, by the usual Rust crates: one call again and again, over what a file holds.
+//! What `library_bench call` does, by the usual Rust crates: one call again and again, over what a file holds.
 //!
 //! It tests less: limits of lengths and the order of refusals are left out.
 mod forms;

@@ -1,6 +1,7 @@
 //! Single calls, made again and again over what a file holds.
 ghost use Rattle.std.specs.Prelude.{◌≡◌, [], None};
 
+use crate::done;
 use bill_diary::Frame;
 use canonical_json::{Json, read, write};
 use document_checksum::checksum;
@@ -10,6 +11,7 @@ use pint_responses::{Response, seal, unseal};
 use record_bytes::{frame_read, frame_write};
 use signed_envelope::verify_text;
 use std::alloc::Global;
+use std::fs;
 use test_signer::KeyedRing;
 
 /// The calls.
@@ -57,8 +59,19 @@ pub(crate) fn call_of(word: &str) -> Option<Call> {
     None
 }
 
-/// Whether a call was done so often over the bytes.
-pub(crate) fn called(alloc: Global, call: Call, bytes: &[u8], rounds: u32) -> bool {
+/// Makes the call so often over what the file holds. None comes where the file could not be read, or the call refused
+/// what it holds.
+pub(crate) fn call_over(rt: &HostRuntime, call: Call, file: &str, rounds: u32) -> Option<()> {
+    let bytes = fs::read(rt, file).ok()?;
+    if called(rt.alloc(), call, &bytes, rounds) {
+        Some(())
+    } else {
+        None
+    }
+}
+
+// Whether a call was done so often over the bytes.
+fn called(alloc: Global, call: Call, bytes: &[u8], rounds: u32) -> bool {
     match call {
         Call::Write | Call::EntryDecode | Call::ManifestDecode => {
             over_json(alloc, call, bytes, rounds)
@@ -69,11 +82,6 @@ pub(crate) fn called(alloc: Global, call: Call, bytes: &[u8], rounds: u32) -> bo
         Call::Seal => over_answer(alloc, bytes, rounds),
         _ => over_bytes(alloc, call, bytes, rounds),
     }
-}
-
-// Whether a call was done. What it gave is dropped.
-fn done<T: Drop, E: Drop>(answer: Result<T, E>) -> bool {
-    answer.is_ok()
 }
 
 fn over_bytes(alloc: Global, call: Call, bytes: &[u8], rounds: u32) -> bool {

@@ -1,53 +1,29 @@
 //! A family of two platforms, in which every bill went from the one to the other.
+use crate::acts::transaction;
 use bill_diary::{Diary, Frame, Record};
 use closed_family::{DiaryList, Family, Member};
 use ebl_base::{
-    ByteList, Chain, ChainLink, Checksum, Copied, Entry, Items, Kind, Moment, Party, PlatformCode,
-    SignedText, Transaction, TransactionList,
+    ByteList, Chain, ChainLink, Checksum, Copied, Entry, Items, Kind, PlatformCode, SignedText,
+    TransactionList,
 };
 use envelope_manifest::Manifest;
 use std::alloc::Global;
 
-/// The family, with so many bills, all of the first shard. Its texts are short and of no form.
-pub(crate) fn family(alloc: Global, bills: u16) -> Option<Family> {
-    let mut family = Items::new(alloc);
-    family
-        .push(member(alloc, b"ALPH", sent(alloc, bills)?)?)
-        .ok()?;
-    family
-        .push(member(alloc, b"BETA", came(alloc, bills)?)?)
-        .ok()?;
-    Some(family)
+/// Adds the two platforms, with so many bills, all of the first shard. Their texts are short and of no form.
+pub(crate) fn fill(alloc: Global, family: &mut Family, bills: u16) -> Option<()> {
+    put_member(family, b"ALPH", diaries(alloc, bills, false))?;
+    put_member(family, b"BETA", diaries(alloc, bills, true))
 }
 
-// The diary in which so many bills are sent.
-fn sent(alloc: Global, bills: u16) -> Option<Diary> {
-    let mut diary = Items::new(alloc);
-    for number in 0..bills {
-        send(alloc, &mut diary, number)?;
-    }
-    Some(diary)
+fn put_member(family: &mut Family, platform: &[u8], diaries: Option<DiaryList>) -> Option<()> {
+    let diaries = diaries?;
+    let platform = PlatformCode::try_new(platform)?;
+    family.push(Member { platform, diaries }).ok()
 }
 
-// The one in which they are taken.
-fn came(alloc: Global, bills: u16) -> Option<Diary> {
-    let mut diary = Items::new(alloc);
-    for number in 0..bills {
-        take(alloc, &mut diary, number)?;
-    }
-    Some(diary)
-}
-
-// A platform with this diary in its first shard.
-fn member(alloc: Global, platform: &[u8], diary: Diary) -> Option<Member> {
-    let diaries = diaries(alloc, diary)?;
-    Some(Member {
-        platform: PlatformCode::try_new(platform)?,
-        diaries,
-    })
-}
-
-fn diaries(alloc: Global, first: Diary) -> Option<DiaryList> {
+// Sixteen diaries, of which the first one has the bills.
+fn diaries(alloc: Global, bills: u16, taken: bool) -> Option<DiaryList> {
+    let first = first_diary(alloc, bills, taken)?;
     let mut diaries = Items::new(alloc);
     diaries.push(first).ok()?;
     for _ in 1..16 {
@@ -56,20 +32,37 @@ fn diaries(alloc: Global, first: Diary) -> Option<DiaryList> {
     Some(diaries)
 }
 
-fn write(diary: &mut Diary, frame: Frame) -> Option<()> {
-    diary.push(frame).ok()
+// The diary in which so many bills are sent, or in which they are taken.
+fn first_diary(alloc: Global, bills: u16, taken: bool) -> Option<Diary> {
+    let mut diary = Items::new(alloc);
+    for number in 0..bills {
+        put_bill(alloc, &mut diary, number, taken)?;
+    }
+    Some(diary)
+}
+
+fn put_bill(alloc: Global, diary: &mut Diary, number: u16, taken: bool) -> Option<()> {
+    if taken {
+        take(alloc, diary, number)
+    } else {
+        send(alloc, diary, number)
+    }
 }
 
 // The bill of this number is signed, parted and settled.
 fn send(alloc: Global, diary: &mut Diary, number: u16) -> Option<()> {
-    write(diary, Frame::One(signed(alloc, number)?))?;
-    write(diary, Frame::One(parted(alloc, number)?))?;
+    write(diary, signed(alloc, number))?;
+    write(diary, parted(alloc, number))?;
     let (bill, entry) = (name(0, number), name(1, number));
-    write(diary, Frame::One(Record::Settled { bill, entry }))
+    write(diary, Some(Record::Settled { bill, entry }))
+}
+
+fn write(diary: &mut Diary, record: Option<Record>) -> Option<()> {
+    diary.push(Frame::One(record?)).ok()
 }
 
 fn signed(alloc: Global, number: u16) -> Option<Record> {
-    let transaction = transaction(Kind::Sign, b"ALPH/CARRIER", None)?;
+    let transaction = transaction(Kind::Sign, "ALPH/CARRIER", None, 0)?;
     Some(Record::Signed {
         bill: name(0, number),
         document: text(alloc, b'd', number)?,
@@ -89,7 +82,7 @@ fn parted(alloc: Global, number: u16) -> Option<Record> {
 
 // It is taken.
 fn take(alloc: Global, diary: &mut Diary, number: u16) -> Option<()> {
-    write(diary, Frame::BegunTaken(begun(alloc, number)?))
+    diary.push(Frame::BegunTaken(begun(alloc, number)?)).ok()
 }
 
 fn begun(alloc: Global, number: u16) -> Option<Record> {
@@ -129,23 +122,10 @@ fn entry(alloc: Global, number: u16) -> Option<Entry> {
 }
 
 fn transactions(alloc: Global) -> Option<TransactionList> {
-    let sign = transaction(Kind::Sign, b"ALPH/CARRIER", None)?;
-    let issue = transaction(Kind::Issue, b"ALPH/CARRIER", Some(b"ALPH/EXPORT"))?;
-    let transfer = transaction(Kind::Transfer, b"ALPH/EXPORT", Some(b"BETA/IMPORT"))?;
+    let sign = transaction(Kind::Sign, "ALPH/CARRIER", None, 0)?;
+    let issue = transaction(Kind::Issue, "ALPH/CARRIER", Some("ALPH/EXPORT"), 0)?;
+    let transfer = transaction(Kind::Transfer, "ALPH/EXPORT", Some("BETA/IMPORT"), 0)?;
     TransactionList::from_slice(alloc, &[sign, issue, transfer]).ok()
-}
-
-fn transaction(kind: Kind, actor: &[u8], recipient: Option<&[u8]>) -> Option<Transaction> {
-    let recipient = match recipient {
-        Some(party) => Some(Party::from_text(party)?),
-        None => None,
-    };
-    Some(Transaction {
-        kind,
-        actor: Party::from_text(actor)?,
-        recipient,
-        time: Moment::try_new(0)?,
-    })
 }
 
 // The manifest of that entry.

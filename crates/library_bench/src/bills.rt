@@ -9,9 +9,46 @@ use std::alloc::Global;
 use title_register::Register;
 use upload_state::reference_of;
 
-/// A register, who acts in it, and when, and how many entries a chain has that comes back.
+/// Signs and issues so many bills, adds the first so many of five frames of each of the rows' bills, and asks the
+/// look-up of a number once a row. None comes where memory ran out.
+pub(crate) fn register_bills(
+    alloc: Global,
+    bills: u32,
+    rows: u32,
+    events: u32,
+    asked: u32,
+    entries: u8,
+) -> Option<()> {
+    let mut made = Bills::new(alloc, entries)?;
+    carry_out(alloc, &mut made, bills, rows, events, asked)
+}
+
+// The bills are lent, so that they are dropped at one place and not at each `?`.
+fn carry_out(
+    alloc: Global,
+    made: &mut Bills,
+    bills: u32,
+    rows: u32,
+    events: u32,
+    asked: u32,
+) -> Option<()> {
+    for number in 0..bills {
+        made.fill(alloc, number).ok()?;
+    }
+    for number in 0..rows {
+        made.add_frames(alloc, number, events).ok()?;
+    }
+    let mut answers = 0u32;
+    for number in 0..rows {
+        answers = answers.wrapping_add(made.ask(number, asked));
+    }
+    // An answer that nothing reads could be left out.
+    if answers == u32::MAX { None } else { Some(()) }
+}
+
+// A register, who acts in it, and when, and how many entries a chain has that comes back.
 #[derive(Drop)]
-pub(crate) struct Bills {
+struct Bills {
     register: Register,
     carrier: Party,
     exporter: Party,
@@ -40,8 +77,8 @@ fn manifest(alloc: Global, bill: Checksum, last: Checksum) -> Manifest {
 }
 
 impl Bills {
-    /// No bill.
-    pub(crate) fn new(alloc: Global, entries: u8) -> Option<Bills> {
+    // No bill.
+    fn new(alloc: Global, entries: u8) -> Option<Bills> {
         let carrier = Party::from_text(b"ALPH/CARRIER")?;
         let exporter = Party::from_text(b"ALPH/EXPORT")?;
         let importer = Party::from_text(b"BETA/IMPORT")?;
@@ -110,8 +147,8 @@ impl Bills {
         Items::from_slice(alloc, &[if number % 2 == 1 { there } else { back }])
     }
 
-    /// A bill more, signed and issued.
-    pub(crate) fn fill(&mut self, alloc: Global, number: u32) -> Option<()> {
+    // A bill more, signed and issued.
+    fn fill(&mut self, alloc: Global, number: u32) -> Result<(), NoMemory> {
         let bill = name(number, 0);
         let transaction = self.transaction(Kind::Sign, self.carrier, None);
         let signed = Record::Signed {
@@ -119,34 +156,28 @@ impl Bills {
             document: Items::new(alloc),
             transaction,
         };
-        self.write(alloc, Frame::One(signed)).ok()?;
+        self.write(alloc, Frame::One(signed))?;
         let transaction = self.transaction(Kind::Issue, self.carrier, Some(self.exporter));
         self.write(alloc, Frame::One(Record::Acted { bill, transaction }))
-            .ok()
     }
 
-    /// The first so many of five frames, of the bill of this number.
-    pub(crate) fn row(&mut self, alloc: Global, number: u32, events: u32) -> Option<()> {
-        if events == 0 {
-            return Some(());
+    // The first so many of five frames, of the bill of this number.
+    fn add_frames(&mut self, alloc: Global, number: u32, events: u32) -> Result<(), NoMemory> {
+        for event in 0..5 {
+            if event < events {
+                self.add(alloc, number, event)?;
+            }
         }
-        self.endorse(alloc, number).ok()?;
-        if events == 1 {
-            return Some(());
+        Ok(())
+    }
+
+    fn add(&mut self, alloc: Global, number: u32, event: u32) -> Result<(), NoMemory> {
+        match event {
+            1 => self.part(alloc, number),
+            2 => self.settle(alloc, number),
+            3 => self.come_back(alloc, number),
+            _ => self.endorse(alloc, number),
         }
-        self.part(alloc, number).ok()?;
-        if events == 2 {
-            return Some(());
-        }
-        self.settle(alloc, number).ok()?;
-        if events == 3 {
-            return Some(());
-        }
-        self.come_back(alloc, number).ok()?;
-        if events == 4 {
-            return Some(());
-        }
-        self.endorse(alloc, number).ok()
     }
 
     // The bill parts by its first entry.
@@ -195,8 +226,8 @@ impl Bills {
         Chain::from_vec(alloc, links)
     }
 
-    /// Whether a look-up of a bill finds something, as a number; 0 where no look-up has this number.
-    pub(crate) fn ask(&self, number: u32, asked: u32) -> u32 {
+    // Whether a look-up of a bill finds something, as a number; 0 where no look-up has this number.
+    fn ask(&self, number: u32, asked: u32) -> u32 {
         let register = &self.register;
         let bill = name(number, 0);
         let entry = name(number, self.entries);
