@@ -2,13 +2,13 @@
 //! and bench/takes.py measures.
 #![tactic(auto)]
 
+mod asking;
 mod failing;
 mod serving;
 
-use disk_model::{Disk, FileDisk};
 use ebl_edge::words;
-use failing::{scene, starts};
-use serving::{fill, serve, start};
+use failing::fail;
+use serving::on_file;
 use std::process::ExitCode;
 
 const USAGE: &str = "usage:
@@ -20,7 +20,10 @@ const USAGE: &str = "usage:
 The first two open the journal first, and write how many frames it has.";
 
 fn main(rt: HostRuntime) -> ExitCode {
-    match run(&rt) {
+    let Ok(words) = words(&rt) else {
+        return ExitCode::FAILURE;
+    };
+    match run(&rt, words.as_slice()) {
         Some(true) => ExitCode::SUCCESS,
         Some(false) => {
             let _ = eprintln!(rt; "{USAGE}");
@@ -31,37 +34,24 @@ fn main(rt: HostRuntime) -> ExitCode {
 }
 
 // Whether the words were right; none where the work failed.
-fn run(rt: &HostRuntime) -> Option<bool> {
-    let words = words(rt).ok()?;
-    match words.as_slice() {
+fn run(rt: &HostRuntime, words: &[String]) -> Option<bool> {
+    match words {
         [word, folder, file, count] if word.as_str() == "serve" => {
-            let count = count.as_str().parse::<u32>().ok()?;
-            let mut shard = start(rt.alloc(), disk(rt, folder.as_str(), file.as_str())?)?;
-            println!(rt; "opened {}", shard.diary().as_slice().len()).ok()?;
-            serve(rt, &mut shard, count)?;
-            Some(true)
+            let Ok(count) = count.as_str().parse::<u32>() else {
+                return Some(false);
+            };
+            on_file(rt, folder.as_str(), file.as_str(), Some(count))?;
         }
         [word, folder, file] if word.as_str() == "fill" => {
-            let mut shard = start(rt.alloc(), disk(rt, folder.as_str(), file.as_str())?)?;
-            fill(rt.alloc(), &mut shard)?;
-            println!(rt; "opened {}", shard.diary().as_slice().len()).ok()?;
-            Some(true)
+            on_file(rt, folder.as_str(), file.as_str(), None)?;
         }
         [word, call] if word.as_str() == "fail" => {
-            let (mut beta, body) = scene(rt.alloc(), call.as_str().parse::<u64>().ok()?)?;
-            for _ in 0..3 {
-                let reply = starts(rt.alloc(), &mut beta, &body)?;
-                println!(rt; "{}", reply.as_str()).ok()?;
-            }
-            Some(true)
+            let Ok(call) = call.as_str().parse::<u64>() else {
+                return Some(false);
+            };
+            fail(rt, call)?;
         }
-        _ => Some(false),
+        _ => return Some(false),
     }
-}
-
-// A file as a disk on which nothing is pending.
-fn disk(rt: &HostRuntime, folder: &str, file: &str) -> Option<FileDisk> {
-    let mut disk = FileDisk::open(rt, folder, file).ok()?;
-    disk.sync().ok()?;
-    Some(disk)
+    Some(true)
 }
