@@ -14,7 +14,10 @@ const USAGE: &str = "usage: shard_bench BILLS ROWS REQUESTS
   transferred at the first, received at the second, and settled at the first: the first REQUESTS of these six";
 
 fn main(rt: HostRuntime) -> ExitCode {
-    match run(&rt) {
+    let Ok(words) = words(&rt) else {
+        return ExitCode::FAILURE;
+    };
+    match run(rt.alloc(), words.as_slice()) {
         Some(true) => ExitCode::SUCCESS,
         Some(false) => {
             let _ = eprintln!(rt; "{USAGE}");
@@ -24,42 +27,30 @@ fn main(rt: HostRuntime) -> ExitCode {
     }
 }
 
-// How many bills are signed first, how many rows follow, and how many requests of each.
-#[derive(Clone, Copy)]
-struct Counts {
-    bills: u32,
-    rows: u32,
-    requests: u32,
-}
-
 // Whether the words were right; none where a request wasn't done.
-fn run(rt: &HostRuntime) -> Option<bool> {
-    let Some(counts) = read_counts(&words(rt).ok()?) else {
+fn run(alloc: Global, words: &[String]) -> Option<bool> {
+    let [bills, rows, requests] = words else {
         return Some(false);
     };
-    let mut pair = Pair::new(rt.alloc())?;
-    carry_out(rt.alloc(), &mut pair, counts)
+    let (Some(bills), Some(rows), Some(requests)) = (number(bills), number(rows), number(requests))
+    else {
+        return Some(false);
+    };
+    let mut pair = Pair::new(alloc)?;
+    carry_out(alloc, &mut pair, bills, rows, requests)
 }
 
-// The three counts, if the words are such.
-fn read_counts(words: &[String]) -> Option<Counts> {
-    let [bills, rows, requests] = words else {
-        return None;
-    };
-    Some(Counts {
-        bills: bills.as_str().parse().ok()?,
-        rows: rows.as_str().parse().ok()?,
-        requests: requests.as_str().parse().ok()?,
-    })
+fn number(word: &String) -> Option<u32> {
+    word.as_str().parse().ok()
 }
 
 // True, once all is done. It borrows the pair, so that the pair is dropped at one place and not at each `?`.
-fn carry_out(alloc: Global, pair: &mut Pair, counts: Counts) -> Option<bool> {
-    for number in 0..counts.bills {
+fn carry_out(alloc: Global, pair: &mut Pair, bills: u32, rows: u32, requests: u32) -> Option<bool> {
+    for number in 0..bills {
         pair.fill(alloc, number)?;
     }
-    for number in 0..counts.rows {
-        pair.row(alloc, counts.bills.checked_add(number)?, counts.requests)?;
+    for number in 0..rows {
+        pair.row(alloc, bills.checked_add(number)?, requests)?;
     }
     Some(true)
 }

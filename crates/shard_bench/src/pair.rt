@@ -1,13 +1,13 @@
 //! Two platforms of one shard each, between which bills go.
-ghost use Rattle.ebl_base.specs.Party.{IsParty};
+ghost use Rattle.std.specs.Prelude.{IfSome};
 ghost use Rattle.holder_commands.specs.Command.{command_view};
 ghost use Rattle.holder_commands.specs.Form.{IsCommand};
 ghost use Rattle.transfer_judge.specs.PlannedTexts.{Nests};
 
-use crate::texts::{acting, party, roster, signing};
-use ebl_base::{ByteList, Checksum, Code, Moment, Party, PlaceTag, PlatformCode, SignedText};
+use crate::texts::{acting, roster, signing};
+use ebl_base::{ByteList, Checksum, Code, Moment, Party, PlaceTag, PlatformCode};
 use holder_commands::Command;
-use platform_requests::{Message, MessageList, Outcome, Reply, Request};
+use platform_requests::{Message, MessageList, Outcome, Reply, Request, View};
 use std::alloc::Global;
 use test_signer::KeyedRing;
 use transfer_core::Shard;
@@ -29,17 +29,21 @@ pub(crate) struct Pair {
 impl Pair {
     /// Two platforms that have written nothing down.
     pub(crate) fn new(alloc: Global) -> Option<Pair> {
+        let (alph, beta) = (
+            PlatformCode::try_new(b"ALPH")?,
+            PlatformCode::try_new(b"BETA")?,
+        );
+        let (one, other) = (roster(alloc)?, roster(alloc)?);
         Some(Pair {
-            alph: blank(alloc, b"ALPH")?,
-            beta: blank(alloc, b"BETA")?,
+            alph: Shard::new(alloc, alph, one, KeyedRing::derived()),
+            beta: Shard::new(alloc, beta, other, KeyedRing::derived()),
         })
     }
 
     /// A bill more in the diary of each, which is signed there.
     pub(crate) fn fill(&mut self, alloc: Global, number: u32) -> Option<()> {
-        self.sign(alloc, number)?;
-        let command = signing(alloc, "BECO", number)?;
-        signed(ask(alloc, &mut self.beta, party("BETA/CARRIER")?, command)?)?;
+        sign(alloc, &mut self.alph, "ALPH/CARRIER", "ALCO", number)?;
+        sign(alloc, &mut self.beta, "BETA/CARRIER", "BECO", number)?;
         Some(())
     }
 
@@ -49,127 +53,132 @@ impl Pair {
         if requests == 0 {
             return Some(());
         }
-        let bill = self.sign(alloc, number)?;
-        let parted = self.part(alloc, bill, requests - 1)?;
+        let bill = sign(alloc, &mut self.alph, "ALPH/CARRIER", "ALCO", number)?;
+        let sent = part(alloc, &mut self.alph, bill, requests - 1)?;
         if requests < 5 {
+            drop(sent);
             return Some(());
         }
-        self.hand_over(alloc, bill, parted, requests == 5)
-    }
-
-    // So many of the three commands behind the signing, and what the last one of them sends.
-    fn part(&mut self, alloc: Global, bill: Checksum, commands: u32) -> Option<MessageList> {
-        let mut messages = MessageList::new(alloc);
-        for &(word, by, to) in ACTS.iter().take(commands as usize) {
-            messages = self.act(alloc, bill, word, by, to)?;
-        }
-        Some(messages)
-    }
-
-    // The bill is received, and settled unless that is left out.
-    fn hand_over(
-        &mut self,
-        alloc: Global,
-        bill: Checksum,
-        messages: MessageList,
-        unsettled: bool,
-    ) -> Option<()> {
-        let reply = self.start(alloc, messages)?;
-        if unsettled {
+        let answer = receive(alloc, &mut self.beta, sent)?;
+        if requests < 6 {
             return Some(());
         }
-        self.settle(alloc, bill, reply)
+        settle(alloc, &mut self.alph, bill, answer)
     }
+}
 
-    fn sign(&mut self, alloc: Global, number: u32) -> Option<Checksum> {
-        let command = signing(alloc, "ALCO", number)?;
-        signed(ask(alloc, &mut self.alph, party("ALPH/CARRIER")?, command)?)
+fn sign(
+    alloc: Global,
+    shard: &mut Shard<KeyedRing>,
+    by: &str,
+    carrier: &str,
+    number: u32,
+) -> Option<Checksum> {
+    let (view, sent) = ask(alloc, shard, by, signing(alloc, carrier, number))?;
+    drop(sent);
+    Some(view.bill)
+}
+
+// So many of the three commands behind the signing, and what the last one of them sends.
+fn part(
+    alloc: Global,
+    alph: &mut Shard<KeyedRing>,
+    bill: Checksum,
+    commands: u32,
+) -> Option<MessageList> {
+    let mut sent = MessageList::new(alloc);
+    for &(word, by, to) in ACTS.iter().take(commands as usize) {
+        drop(sent);
+        let (_, more) = ask(alloc, alph, by, acting(alloc, bill, word, to))?;
+        sent = more;
     }
+    Some(sent)
+}
 
-    fn act(
-        &mut self,
-        alloc: Global,
-        bill: Checksum,
-        word: &str,
-        by: &str,
-        to: &str,
-    ) -> Option<MessageList> {
-        let command = acting(alloc, bill, word, to)?;
-        let Outcome { reply, messages } = ask(alloc, &mut self.alph, party(by)?, command)?;
-        match reply {
-            Reply::Done(_) => Some(messages),
-            _ => None,
-        }
-    }
+// The start comes to BETA, and is received there; its answer.
+fn receive(alloc: Global, beta: &mut Shard<KeyedRing>, sent: MessageList) -> Option<ByteList> {
+    let body = body_in(sent)?;
+    let Some(now) = Moment::try_new(2000) else {
+        return None;
+    };
+    let outcome = beta.take(alloc, now, Request::Start { body });
+    let answer = received(alloc, &outcome.reply);
+    drop(outcome);
+    answer
+}
 
-    // The start comes to BETA, and is received there.
-    fn start(&mut self, alloc: Global, messages: MessageList) -> Option<SignedText> {
-        let mut messages = messages.into_vec();
-        let Some(Message::Start { body, .. }) = messages.pop() else {
-            return None;
-        };
-        let Outcome { reply, .. } = self
-            .beta
-            .take(alloc, Moment::try_new(2000)?, Request::Start { body });
-        match reply {
-            Reply::Answer { response, text } => match response.code {
-                Code::Received => Some(text),
-                _ => None,
-            },
-            _ => None,
-        }
-    }
-
-    // The answer comes to ALPH, which has the bill no more.
-    fn settle(&mut self, alloc: Global, bill: Checksum, reply: SignedText) -> Option<()> {
-        let bytes = ByteList::from_slice(alloc, reply.0.as_slice()).ok()?;
-        let Outcome { reply, .. } = self.alph.take(
-            alloc,
-            Moment::try_new(3000)?,
-            Request::StartReply { bill, bytes },
-        );
-        match reply {
-            Reply::Done(view) => match view.place {
-                PlaceTag::Gone => Some(()),
-                _ => None,
-            },
-            _ => None,
+fn body_in(sent: MessageList) -> Option<ByteList> {
+    let mut messages = sent.into_vec();
+    match messages.pop() {
+        Some(Message::Start { body, .. }) => Some(body),
+        other => {
+            drop(other);
+            None
         }
     }
 }
 
-// The bill that was signed.
-fn signed(outcome: Outcome) -> Option<Checksum> {
-    let Outcome { reply, .. } = outcome;
+fn received(alloc: Global, reply: &Reply) -> Option<ByteList> {
     match reply {
-        Reply::Done(view) => Some(view.bill),
+        Reply::Answer { response, text } => match response.code {
+            Code::Received => ByteList::from_slice(alloc, text.0.as_slice()).ok(),
+            _ => None,
+        },
         _ => None,
     }
 }
 
-fn blank(alloc: Global, code: &[u8]) -> Option<Shard<KeyedRing>> {
-    Some(Shard::new(
-        alloc,
-        PlatformCode::try_new(code)?,
-        roster(alloc)?,
-        KeyedRing::derived(),
-    ))
+// The answer comes to ALPH, which has the bill no more.
+fn settle(
+    alloc: Global,
+    alph: &mut Shard<KeyedRing>,
+    bill: Checksum,
+    bytes: ByteList,
+) -> Option<()> {
+    let Some(now) = Moment::try_new(3000) else {
+        return None;
+    };
+    let (view, sent) = done(alph.take(alloc, now, Request::StartReply { bill, bytes }))?;
+    drop(sent);
+    match view.place {
+        PlaceTag::Gone => Some(()),
+        _ => None,
+    }
 }
 
-// What comes of a party's command at a shard.
+// What comes of a party's command at a shard, if there is a command and it is done.
 fn ask(
     alloc: Global,
     shard: &mut Shard<KeyedRing>,
-    party: Party,
-    command: Command,
-) -> Option<Outcome>
-    requires by { IsParty party }
-    requires form { IsCommand (command_view command) }
-    requires nests { Nests (command_view command) }
+    by: &str,
+    command: Option<Command>,
+) -> Option<(View, MessageList)>
+    requires form { IfSome command (λ command. IsCommand (command_view command)) }
+    requires nests { IfSome command (λ command. Nests (command_view command)) }
 {
+    let party = Party::from_text(by.as_bytes())?;
     let now = Moment::try_new(1000)?;
+    let command = command?;
     if !shard.has_attempts(&command) {
+        drop(command);
         return None;
     }
-    Some(shard.take(alloc, now, Request::Command { party, command }))
+    done(shard.take(alloc, now, Request::Command { party, command }))
+}
+
+// Where a request was done, the bill as it stands, and what is sent.
+fn done(outcome: Outcome) -> Option<(View, MessageList)> {
+    let Outcome { reply, messages } = outcome;
+    let view = match &reply {
+        Reply::Done(view) => Some(*view),
+        _ => None,
+    };
+    drop(reply);
+    match view {
+        Some(view) => Some((view, messages)),
+        None => {
+            drop(messages);
+            None
+        }
+    }
 }
