@@ -1,7 +1,7 @@
 #!/usr/bin/env python3
 """What a request costs at a shard in memory, by how many bills its diary has.
 
-Builds shard_bench, and for diaries of 10, 100 and 1,000 bills that were signed there counts the instructions that
+Builds shard_trial, and for diaries of 10, 100 and 1,000 bills that were signed there counts the instructions that
 callgrind sees in runs with more and more of the six requests by which eight bills go from one platform to another: the
 difference of two runs is the cost of one kind of request. Then the shares of a whole row. Words: none.
 """
@@ -38,7 +38,7 @@ def counts(words, inclusive):
 def grown(program, bills, inclusive):
     """The same of eight rows, by function."""
     # Of one length, since a longer word moves the stack, and with it what memcpy takes.
-    few, many = (counts([program, str(bills), "%02d" % rows, "6"], inclusive) for rows in (ROWS, 2 * ROWS))
+    few, many = (counts([program, "requests", str(bills), "%02d" % rows, "6"], inclusive) for rows in (ROWS, 2 * ROWS))
     return {name: count - few.get(name, 0) for name, count in many.items()}
 
 
@@ -58,11 +58,12 @@ def shares(program, bills):
 
 
 def main():
-    program = proved("shard_bench", ["1", "1", "6"])
+    program = proved("shard_trial", ["requests", "1", "1", "6"])
     print("| bills | " + " | ".join(REQUESTS) + " | a row |")
     print("|---|" + "---|" * (len(REQUESTS) + 1))
     for bills in (10, 100, 1000):
-        upto = [instructions([program, str(bills), str(ROWS), str(count)]) for count in range(len(REQUESTS) + 1)]
+        upto = [instructions([program, "requests", str(bills), str(ROWS), str(count)])
+                for count in range(len(REQUESTS) + 1)]
         costs = [difference(upto[at + 1], upto[at], "%s with %d bills" % (request, bills)) // ROWS
                  for at, request in enumerate(REQUESTS)]
         print("| {:,} | ".format(bills) + " | ".join("{:,}".format(cost) for cost in costs)

@@ -58,10 +58,3 @@ pub(crate) fn ask<D: Disk>(
     }
     Some(shard.take(alloc, now, Request::Command { party, command }))
 }
-
-/// The word of the reply. By a call the outcome is dropped in one step.
-pub(crate) fn word_of(outcome: Outcome) -> &'static str {
-    let word = outcome.reply.as_str();
-    drop(outcome);
-    word
-}

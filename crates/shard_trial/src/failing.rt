@@ -1,9 +1,10 @@
 //! A shard on a disk in memory of which a call fails.
-use crate::asking::{act, word_of};
+use crate::asking::act;
+use crate::outcomes::{body_in, done, word_of};
 use disk_model::{Failures, MemoryDisk};
 use ebl_base::{ByteList, CallList, Moment, PlatformCode};
 use journaled_shard::JournaledShard;
-use platform_requests::{Message, Outcome, Request};
+use platform_requests::Request;
 use sample_bills::roster;
 use std::alloc::Global;
 use test_signer::KeyedRing;
@@ -12,7 +13,7 @@ type Shard = JournaledShard<MemoryDisk, KeyedRing>;
 
 /// A start that ALPH sends comes three times to BETA's shard, on a disk of which the call of this number fails. Each
 /// reply is written.
-pub(crate) fn fail(rt: &HostRuntime, call: u64) -> Option<()> {
+pub(crate) fn fail_at(rt: &HostRuntime, call: u64) -> Option<()> {
     let body = body(rt.alloc())?;
     let mut beta = open(rt.alloc(), b"BETA", &[call])?;
     start_thrice(rt, &mut beta, &body)
@@ -41,20 +42,8 @@ fn body(alloc: Global) -> Option<ByteList> {
 fn send(alloc: Global, alph: &mut Shard) -> Option<ByteList> {
     drop(act(alloc, alph, 1, 0)?);
     drop(act(alloc, alph, 1, 1)?);
-    body_in(act(alloc, alph, 1, 2)?)
-}
-
-fn body_in(outcome: Outcome) -> Option<ByteList> {
-    let Outcome { reply, messages } = outcome;
-    drop(reply);
-    let mut messages = messages.into_vec();
-    match messages.pop() {
-        Some(Message::Start { body, .. }) => Some(body),
-        other => {
-            drop(other);
-            None
-        }
-    }
+    let (_, sent) = done(act(alloc, alph, 1, 2)?)?;
+    body_in(sent)
 }
 
 // A platform's shard on a blank disk of which the listed calls fail, and the writes among them leave their bytes.

@@ -1,5 +1,6 @@
 //! A shard on a file, and what it is asked by how many frames it has.
-use crate::asking::{act, ask, word_of};
+use crate::asking::{act, ask};
+use crate::outcomes::word_of;
 use disk_model::{Disk, FileDisk};
 use ebl_base::{ByteList, MAX_DOCUMENT_SIZE, PlatformCode};
 use journaled_shard::JournaledShard;

@@ -4,10 +4,11 @@ ghost use Rattle.holder_commands.specs.Command.{command_view};
 ghost use Rattle.holder_commands.specs.Form.{IsCommand};
 ghost use Rattle.transfer_judge.specs.PlannedTexts.{Nests};
 
+use crate::outcomes::{body_in, done};
 use crate::texts::{acting, roster, signing};
 use ebl_base::{ByteList, Checksum, Code, Moment, Party, PlaceTag, PlatformCode};
 use holder_commands::Command;
-use platform_requests::{Message, MessageList, Outcome, Reply, Request, View};
+use platform_requests::{MessageList, Reply, Request, View};
 use std::alloc::Global;
 use test_signer::KeyedRing;
 use transfer_core::Shard;
@@ -19,16 +20,34 @@ const ACTS: [(&str, &str, &str); 3] = [
     ("TRANSFER", "ALPH/EXPORT", "BETA/IMPORT"),
 ];
 
-/// Two platforms of one shard each.
+/// So many bills are signed at each of the two; then so many more go from the one to the other, by so many of six
+/// requests. None where one wasn't done.
+pub(crate) fn request_often(alloc: Global, bills: u32, rows: u32, requests: u32) -> Option<()> {
+    let mut pair = Pair::new(alloc)?;
+    carry_out(alloc, &mut pair, bills, rows, requests)
+}
+
+// It borrows the pair, so that the pair is dropped at one place and not at each `?`.
+fn carry_out(alloc: Global, pair: &mut Pair, bills: u32, rows: u32, requests: u32) -> Option<()> {
+    for number in 0..bills {
+        pair.fill(alloc, number)?;
+    }
+    for number in 0..rows {
+        pair.row(alloc, bills.checked_add(number)?, requests)?;
+    }
+    Some(())
+}
+
+// Two platforms of one shard each.
 #[derive(Drop)]
-pub(crate) struct Pair {
+struct Pair {
     alph: Shard<KeyedRing>,
     beta: Shard<KeyedRing>,
 }
 
 impl Pair {
-    /// Two platforms that have written nothing down.
-    pub(crate) fn new(alloc: Global) -> Option<Pair> {
+    // Two platforms that have written nothing down.
+    fn new(alloc: Global) -> Option<Pair> {
         let (alph, beta) = (
             PlatformCode::try_new(b"ALPH")?,
             PlatformCode::try_new(b"BETA")?,
@@ -40,16 +59,16 @@ impl Pair {
         })
     }
 
-    /// A bill more in the diary of each, which is signed there.
-    pub(crate) fn fill(&mut self, alloc: Global, number: u32) -> Option<()> {
+    // A bill more in the diary of each, which is signed there.
+    fn fill(&mut self, alloc: Global, number: u32) -> Option<()> {
         sign(alloc, &mut self.alph, "ALPH/CARRIER", "ALCO", number)?;
         sign(alloc, &mut self.beta, "BETA/CARRIER", "BECO", number)?;
         Some(())
     }
 
-    /// The bill of this number, by so many requests: it is signed, issued, endorsed and transferred at ALPH, received
-    /// at BETA, and settled at ALPH. None where one of them isn't done.
-    pub(crate) fn row(&mut self, alloc: Global, number: u32, requests: u32) -> Option<()> {
+    // The bill of this number, by so many requests: it is signed, issued, endorsed and transferred at ALPH, received
+    // at BETA, and settled at ALPH. None where one of them isn't done.
+    fn row(&mut self, alloc: Global, number: u32, requests: u32) -> Option<()> {
         if requests == 0 {
             return Some(());
         }
@@ -107,17 +126,6 @@ fn receive(alloc: Global, beta: &mut Shard<KeyedRing>, sent: MessageList) -> Opt
     answer
 }
 
-fn body_in(sent: MessageList) -> Option<ByteList> {
-    let mut messages = sent.into_vec();
-    match messages.pop() {
-        Some(Message::Start { body, .. }) => Some(body),
-        other => {
-            drop(other);
-            None
-        }
-    }
-}
-
 fn received(alloc: Global, reply: &Reply) -> Option<ByteList> {
     match reply {
         Reply::Answer { response, text } => match response.code {
@@ -164,21 +172,4 @@ fn ask(
         return None;
     }
     done(shard.take(alloc, now, Request::Command { party, command }))
-}
-
-// Where a request was done, the bill as it stands, and what is sent.
-fn done(outcome: Outcome) -> Option<(View, MessageList)> {
-    let Outcome { reply, messages } = outcome;
-    let view = match &reply {
-        Reply::Done(view) => Some(*view),
-        _ => None,
-    };
-    drop(reply);
-    match view {
-        Some(view) => Some((view, messages)),
-        None => {
-            drop(messages);
-            None
-        }
-    }
 }
