@@ -1,9 +1,9 @@
 #!/usr/bin/env python3
 """What an HTTP session costs beside stock Rust, by instructions, and how it grows with a body.
 
-Builds http_bench (the product's session over standard input and output) and http_peer (the same by httparse, http and
-serde_json), gives both the same sessions of two lengths, compares what they write, and prints the instructions that
-callgrind counts for a request, from the difference of the two lengths.
+Builds http_trial (whose session is the product's over standard input and output) and http_peer (the same by httparse,
+http and serde_json), gives both the same sessions of two lengths, compares what they write, and prints the instructions
+that callgrind counts for a request, from the difference of the two lengths.
 """
 import tempfile
 
@@ -36,7 +36,7 @@ ROWS = (
 
 def main():
     with tempfile.TemporaryDirectory() as folder:
-        programs = [proved("http_bench", [])], [peer("http_peer", folder)]
+        programs = [proved("http_trial", ["session"]), "session"], [peer("http_peer", folder)]
         print("| request | bytes | instructions a request | the peer's | rate | a byte | the peer's |")
         print("|---|---|---|---|---|---|---|")
         for name, request, count in ROWS:

@@ -1,7 +1,7 @@
 #!/usr/bin/env python3
-"""Exchanges of pint_client with Python's http.server over sockets on loopback, by the program pint_ask.
+"""Exchanges of pint_client with Python's http.server over sockets on loopback, by the program http_trial.
 
-    python3 interop/http_exchange.py crates/pint_ask/out/pint_ask
+    python3 interop/http_exchange.py crates/http_trial/out/http_trial
 
 The server answers each message in several ways; what it was asked, and what the program printed, are compared with what
 they must be. The last line is 'N passed, M failed', and the exit is 1 if something failed.
@@ -81,7 +81,8 @@ def main():
         wanted = PATHS[kind] + ([("host", "pint"), ("content-length", str(len(body)))], body)
         for case in CASES:
             Handler.case, Handler.asked = case[:4], None
-            ended = subprocess.run([program, address, kind, str(size)], stdout=subprocess.PIPE, text=True, timeout=WAIT)
+            ended = subprocess.run([program, "ask", address, kind, str(size)],
+                                   stdout=subprocess.PIPE, text=True, timeout=WAIT)
             if ended.stdout != case[4] + "\n" or Handler.asked != wanted:
                 failed += 1
                 print("%s %d, status %d %s: printed %r and must print %r; asked as it must: %s" % (

@@ -42,7 +42,8 @@ class Server:
     """The program, which serves so many links; `end` tells how the next of them ended."""
 
     def __init__(self, program, links, *outcomes):
-        self.process = subprocess.Popen([program, "127.0.0.1:0", str(links), *outcomes], stdout=subprocess.PIPE, text=True)
+        self.process = subprocess.Popen([program, "serve", "127.0.0.1:0", str(links), *outcomes],
+                                        stdout=subprocess.PIPE, text=True)
         line = self.process.stdout.readline()
         self.port = int(re.fullmatch(r"serving 127\.0\.0\.1:(\d+)\n", line).group(1))
 
@@ -95,14 +96,14 @@ def with_the_page(program):
         block = re.search(r"```\n(\$ crates/http_trial.*?)```", file.read(), re.S).group(1)
     lines = re.split(r"^\$ ", block, flags=re.M)[1:]
     words = shlex.split(lines[0].rstrip("&\n "))
-    server = Server(program, *words[2:])
+    server = Server(program, *words[3:])
     for line in lines[1:]:
         asked, reply = line.split("\n", 1)
-        asked = asked.replace(words[1], "127.0.0.1:%d" % server.port)
+        asked = asked.replace(words[2], "127.0.0.1:%d" % server.port)
         ended = subprocess.run(shlex.split(asked), stdout=subprocess.PIPE, timeout=WAIT)
         check(asked, ended.stdout.decode().replace("\r\n", "\n").rstrip("\n"), reply.rstrip("\n"))
         check(asked + ", the link's end", server.end(), "Closed")
-    check("the page's lines", len(lines), 1 + int(words[2]))
+    check("the page's lines", len(lines), 1 + int(words[3]))
     check("the page's server", server.close(), 0)
 
 

@@ -1,5 +1,5 @@
-//! A session server in stock Rust, by httparse, http and serde_json: what http_bench is measured beside. It reads one
-//! session from standard input, and writes the replies to standard output.
+//! A session server in stock Rust, by httparse, http and serde_json: what `http_trial session` is measured beside. It
+//! reads one session from standard input, and writes the replies to standard output.
 use http::StatusCode;
 use std::collections::BTreeMap;
 use std::io::{self, Read, Write};
@@ -246,7 +246,7 @@ fn serve(input: &mut impl Read, output: &mut impl Write) -> io::Result<()> {
 }
 
 fn main() -> io::Result<()> {
-    // Standard input and output as they are, with no buffer between, as http_bench has them.
+    // Standard input and output as they are, with no buffer between, as `http_trial session` has them.
     use std::os::fd::FromRawFd;
     let mut input = std::mem::ManuallyDrop::new(unsafe { std::fs::File::from_raw_fd(0) });
     let mut output = std::mem::ManuallyDrop::new(unsafe { std::fs::File::from_raw_fd(1) });

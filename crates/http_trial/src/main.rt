@@ -1,27 +1,36 @@
-//! Serves links over sockets from a desk in memory: what interop/http_peers.py talks to.
+//! HTTP with other programs: links served over sockets from a desk in memory, which interop/http_peers.py talks to; a
+//! message to an address, for interop/http_exchange.py; and one link over standard input and output, which
+//! bench/sessions.py measures.
 #![tactic(auto)]
 
+mod asking;
+mod duplex;
 mod outcomes;
+mod same_desk;
+mod serving;
+mod session;
 
-use ebl_base::{Moment, NoMemory, Party};
-use ebl_edge::{StreamLink, SystemClock, words};
-use outcomes::outcome_of;
-use pint_http::serve_link;
-use platform_requests::MemoryDesk;
-use std::alloc::Global;
+use asking::ask;
+use ebl_edge::words;
+use serving::serve;
+use session::serve_input;
 use std::io;
-use std::io::ErrorKind;
-use std::net::TcpListener;
 use std::process::ExitCode;
 
 const USAGE: &str = "usage:
-  http_trial ADDRESS LINKS [OUTCOME..]    serves so many links, one after another, and writes how each ended
-
-The desk gives these outcomes, one a request, as STARTED or UNKNOWN_REFERENCE, and UNKNOWN_REFERENCE behind the last.
-It knows the party BETA/IMPORT.";
+  http_trial serve ADDRESS LINKS [OUTCOME..]
+    serves so many links, one after another, and writes how each ended. The desk gives these outcomes, one a request, as
+    STARTED or UNKNOWN_REFERENCE, and UNKNOWN_REFERENCE behind the last. It knows the party BETA/IMPORT.
+  http_trial ask ADDRESS start|put|finish SIZE
+    sends a message with so many bytes, and writes the status of the reply and the length of its body
+  http_trial session
+    serves one link over standard input and output, from a desk that shows the same bill whatever it is asked";
 
 fn main(rt: HostRuntime) -> ExitCode {
-    match run(&rt) {
+    let Ok(words) = words(&rt) else {
+        return ExitCode::FAILURE;
+    };
+    match run(&rt, words.as_slice()) {
         Ok(true) => ExitCode::SUCCESS,
         Ok(false) => {
             let _ = eprintln!(rt; "{USAGE}");
@@ -35,50 +44,14 @@ fn main(rt: HostRuntime) -> ExitCode {
 }
 
 // Whether the words were right.
-fn run(rt: &HostRuntime) -> io::Result<bool> {
-    let words = words(rt)?;
-    let [address, links, outcomes @ ..] = words.as_slice() else {
+fn run(rt: &HostRuntime, words: &[String]) -> io::Result<bool> {
+    let [trial, rest @ ..] = words else {
         return Ok(false);
     };
-    let Ok(links) = links.as_str().parse::<u32>() else {
-        return Ok(false);
-    };
-    match desk(rt.alloc(), outcomes) {
-        Ok(Some(mut desk)) => serve(rt, address.as_str(), links, &mut desk),
-        Ok(None) => Ok(false),
-        Err(NoMemory) => Err(ErrorKind::OutOfMemory.into()),
+    match trial.as_str() {
+        "serve" => serve(rt, rest),
+        "ask" => ask(rt, rest),
+        "session" => serve_input(rt, rest),
+        _ => Ok(false),
     }
-}
-
-// A desk with these outcomes, which knows `BETA/IMPORT`.
-fn desk(alloc: Global, words: &[String]) -> Result<Option<MemoryDesk>, NoMemory> {
-    let mut outcomes = Vec::new(alloc);
-    for word in words.iter().rev() {
-        match outcome_of(alloc, word.as_str())? {
-            Some(outcome) => outcomes.push(outcome)?,
-            None => return Ok(None),
-        }
-    }
-    let mut parties = Vec::new(alloc);
-    if let Some(party) = Party::from_text(b"BETA/IMPORT") {
-        parties.push(party)?;
-    }
-    Ok(Some(MemoryDesk::new(alloc, outcomes, parties)))
-}
-
-// True, once so many links have ended.
-fn serve(rt: &HostRuntime, address: &str, links: u32, desk: &mut MemoryDesk) -> io::Result<bool> {
-    let listener = TcpListener::bind(rt, address)?;
-    println!(rt; "serving {}", listener.local_addr()?)?;
-    let Some(first) = Moment::try_new(0) else {
-        return Ok(true);
-    };
-    let mut clock = SystemClock::new(rt, first);
-    for _ in 0..links {
-        let (stream, _) = listener.accept()?;
-        let mut link = StreamLink::new(stream);
-        let end = serve_link(rt.alloc(), &mut link, desk, &mut clock);
-        println!(rt; "{end:?}")?;
-    }
-    Ok(true)
 }

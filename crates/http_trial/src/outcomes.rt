@@ -14,20 +14,21 @@ const CHECKSUM: Checksum = Checksum([0x44; 32]);
 /// reply says is always the same; a signed text is `a.b.c`, which nobody signed.
 pub(crate) fn outcome_of(alloc: Global, word: &str) -> Result<Option<Outcome>, NoMemory> {
     let reply = match word {
-        "DONE" => absent(),
-        "STARTED" => started(alloc)?,
-        "STORED" => Reply::Stored,
-        "RECE" => answer(alloc, Code::Received)?,
-        "DISE" => answer(alloc, Code::DisputedEnvelope)?,
-        "BENV" => answer(alloc, Code::BadEnvelope)?,
-        "UNKNOWN_REFERENCE" => Reply::UnknownReference,
-        "NOT_OURS" => Reply::NotOurs,
-        "NO_MEMORY" => Reply::NoMemory,
-        "SIGN" => Reply::Sign,
-        "DISK" => Reply::Disk,
-        "FULL" => Reply::Full,
+        "DONE" => Ok(absent()),
+        "STARTED" => started(alloc),
+        "STORED" => Ok(Reply::Stored),
+        "RECE" => answer(alloc, Code::Received),
+        "DISE" => answer(alloc, Code::DisputedEnvelope),
+        "BENV" => answer(alloc, Code::BadEnvelope),
+        "UNKNOWN_REFERENCE" => Ok(Reply::UnknownReference),
+        "NOT_OURS" => Ok(Reply::NotOurs),
+        "NO_MEMORY" => Ok(Reply::NoMemory),
+        "SIGN" => Ok(Reply::Sign),
+        "DISK" => Ok(Reply::Disk),
+        "FULL" => Ok(Reply::Full),
         _ => return Ok(None),
     };
+    let reply = reply?;
     let messages = MessageList::new(alloc);
     Ok(Some(Outcome { reply, messages }))
 }

@@ -1,45 +1,23 @@
-//! One message to an address, and the reply to it: what interop/http_exchange.py runs.
-#![tactic(auto)]
-
+//! One message to an address, and the reply to it.
 use ebl_base::{ByteList, Checksum, PlatformCode, Reference};
-use ebl_edge::{StreamLink, words};
+use ebl_edge::StreamLink;
 use pint_client::{ClientFault, exchange};
 use platform_requests::Message;
 use std::alloc::{AllocError, Global};
 use std::io;
 use std::net::TcpStream;
-use std::process::ExitCode;
 
-const USAGE: &str = "usage: pint_ask ADDRESS start|put|finish SIZE";
-
-fn main(rt: HostRuntime) -> ExitCode {
-    match run(&rt) {
-        Ok(true) => ExitCode::SUCCESS,
-        Ok(false) => {
-            let _ = eprintln!(rt; "{USAGE}");
-            ExitCode::from(2)
-        }
-        Err(error) => {
-            let _ = eprintln!(rt; "pint_ask: {error}");
-            ExitCode::FAILURE
-        }
-    }
-}
-
-// Whether the words were right.
-fn run(rt: &HostRuntime) -> io::Result<bool> {
-    let words = words(rt)?;
-    let [address, kind, size] = words.as_slice() else {
+/// Sends a message, by the words: an address, a kind, and how many bytes. Writes the status and the length of the body,
+/// or why there is no reply. False where the words are wrong.
+pub(crate) fn ask(rt: &HostRuntime, words: &[String]) -> io::Result<bool> {
+    let [address, kind, size] = words else {
         return Ok(false);
     };
     let Ok(size) = size.as_str().parse::<u32>() else {
         return Ok(false);
     };
     match message(rt.alloc(), kind.as_str(), size as usize)? {
-        Some(out) => {
-            ask(rt, address.as_str(), &out)?;
-            Ok(true)
-        }
+        Some(out) => exchanged(rt, address.as_str(), &out),
         None => Ok(false),
     }
 }
@@ -74,8 +52,7 @@ fn message(alloc: Global, kind: &str, size: usize) -> Result<Option<Message>, Al
     })
 }
 
-// Prints the status and the length of the body, or why there is no reply.
-fn ask(rt: &HostRuntime, address: &str, out: &Message) -> io::Result<()> {
+fn exchanged(rt: &HostRuntime, address: &str, out: &Message) -> io::Result<bool> {
     let stream = TcpStream::connect(rt, address)?;
     stream.set_nodelay(true)?;
     let mut link = StreamLink::new(stream);
@@ -84,5 +61,6 @@ fn ask(rt: &HostRuntime, address: &str, out: &Message) -> io::Result<()> {
         Err(ClientFault::Fault) => println!(rt; "fault"),
         Err(ClientFault::BadReply) => println!(rt; "bad reply"),
         Err(ClientFault::NoMemory) => println!(rt; "no memory"),
-    }
+    }?;
+    Ok(true)
 }

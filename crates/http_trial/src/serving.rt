@@ -1,0 +1,71 @@
+//! Links over sockets.
+use crate::outcomes::outcome_of;
+use ebl_base::{Moment, NoMemory, Party};
+use ebl_edge::{StreamLink, SystemClock};
+use pint_http::serve_link;
+use platform_requests::{MemoryDesk, Outcome};
+use std::alloc::Global;
+use std::io;
+use std::io::ErrorKind;
+use std::net::TcpListener;
+
+/// Serves so many links from a desk, by the words: an address, a number, and names of outcomes. False where these are
+/// wrong.
+pub(crate) fn serve(rt: &HostRuntime, words: &[String]) -> io::Result<bool> {
+    let [address, links, names @ ..] = words else {
+        return Ok(false);
+    };
+    let Ok(links) = links.as_str().parse::<u32>() else {
+        return Ok(false);
+    };
+    let mut outcomes = Vec::new(rt.alloc());
+    let mut parties = Vec::new(rt.alloc());
+    let known = fill(rt.alloc(), names, &mut outcomes, &mut parties);
+    let mut desk = MemoryDesk::new(rt.alloc(), outcomes, parties);
+    match known {
+        Ok(true) => serve_links(rt, address.as_str(), links, &mut desk),
+        Ok(false) => Ok(false),
+        Err(NoMemory) => Err(ErrorKind::OutOfMemory.into()),
+    }
+}
+
+// The outcomes of these names, the last one first, and the party that the desk knows. False where a name is none.
+fn fill(
+    alloc: Global,
+    names: &[String],
+    outcomes: &mut Vec<Outcome>,
+    parties: &mut Vec<Party>,
+) -> Result<bool, NoMemory> {
+    for name in names.iter().rev() {
+        match outcome_of(alloc, name.as_str())? {
+            Some(outcome) => outcomes.push(outcome)?,
+            None => return Ok(false),
+        }
+    }
+    if let Some(party) = Party::from_text(b"BETA/IMPORT") {
+        parties.push(party)?;
+    }
+    Ok(true)
+}
+
+// True, once so many links have ended.
+fn serve_links(
+    rt: &HostRuntime,
+    address: &str,
+    links: u32,
+    desk: &mut MemoryDesk,
+) -> io::Result<bool> {
+    let Some(first) = Moment::try_new(0) else {
+        return Ok(true);
+    };
+    let mut clock = SystemClock::new(rt, first);
+    let listener = TcpListener::bind(rt, address)?;
+    println!(rt; "serving {}", listener.local_addr()?)?;
+    for _ in 0..links {
+        let (stream, _) = listener.accept()?;
+        let mut link = StreamLink::new(stream);
+        let end = serve_link(rt.alloc(), &mut link, desk, &mut clock);
+        println!(rt; "{end:?}")?;
+    }
+    Ok(true)
+}
