@@ -30,7 +30,7 @@ test:
 	@PYTHONPATH=tools python3 -c 'import program; program.need_toolchain()'
 	@tools/lint.py
 	rt ci
-	@test -x crates/ebl_cli/out/ebl_cli || (cd crates/ebl_cli && rt run -- --version > /dev/null)
+	@test -x crates/ebl_cli/out/ebl_cli || tools/make_program.py
 	python3 tools/check_program.py
 	python3 tools/random_scripts.py
 	python3 tools/check_offices.py

@@ -110,7 +110,8 @@ def main():
     words.add_argument("program", nargs="?", default=PROGRAM)
     words.add_argument("trial", nargs="?", default=TRIAL)
     given = words.parse_args()
-    for one, how in ((given.program, "make program builds it"), (given.trial, "rt run in crates/shard_trial builds it")):
+    for one, how in ((given.program, "make program builds it"),
+                     (given.trial, "tools/make_program.py shard_trial builds it")):
         if not os.access(one, os.X_OK):
             sys.exit("refused_memory: no program at %s: %s" % (one, how))
     runs, failed = 0, 0
