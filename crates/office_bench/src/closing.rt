@@ -16,14 +16,6 @@ pub(crate) struct Found {
     pub(crate) verdict: &'static str,
 }
 
-fn frames_in(diaries: &DiaryList) -> u64 {
-    let mut frames = 0u64;
-    for diary in diaries.as_slice() {
-        frames = frames.wrapping_add(diary.len() as u64);
-    }
-    frames
-}
-
 /// Closes both offices and surveys their diaries.
 pub(crate) fn close<D: Disk + Drop>(
     alloc: Global,
@@ -35,7 +27,10 @@ pub(crate) fn close<D: Disk + Drop>(
 {
     let alph = diaries_of(offices.alph, passes.alph);
     let beta = diaries_of(offices.beta, passes.beta);
-    surveyed(alloc, alph?, beta?)
+    let mut family: Family = Items::new(alloc);
+    let has_alph = add(&mut family, b"ALPH", alph);
+    let has_beta = add(&mut family, b"BETA", beta);
+    surveyed(alloc, &family, has_alph && has_beta)
 }
 
 // The diaries of an office that is closed; none where another pass is out or memory runs out.
@@ -51,24 +46,33 @@ fn diaries_of<D: Disk + Drop>(
     }
 }
 
-fn surveyed(alloc: Global, alph: DiaryList, beta: DiaryList) -> Option<Found> {
-    let frames = frames_in(&alph).wrapping_add(frames_in(&beta));
-    let mut family: Family = Items::new(alloc);
-    add(&mut family, b"ALPH", alph)?;
-    add(&mut family, b"BETA", beta)?;
-    let verdict = verdict(alloc, &family)?;
+// Whether these diaries are there, and were added.
+fn add(family: &mut Family, code: &[u8], diaries: Option<DiaryList>) -> bool {
+    match (PlatformCode::try_new(code), diaries) {
+        (Some(platform), Some(diaries)) => family.push(Member { platform, diaries }).is_ok(),
+        _ => false,
+    }
+}
+
+fn surveyed(alloc: Global, family: &Family, whole: bool) -> Option<Found> {
+    if !whole {
+        return None;
+    }
+    let verdict = match survey(alloc, family).ok()? {
+        Verdict::Consistent => "consistent",
+        Verdict::SameName(_) => "one name of two texts",
+        Verdict::Lacks { .. } => "a record is lacking",
+    };
+    let frames = frames_in(family);
     Some(Found { frames, verdict })
 }
 
-fn add(family: &mut Family, code: &[u8], diaries: DiaryList) -> Option<()> {
-    let platform = PlatformCode::try_new(code)?;
-    family.push(Member { platform, diaries }).ok()
-}
-
-fn verdict(alloc: Global, family: &Family) -> Option<&'static str> {
-    match survey(alloc, family).ok()? {
-        Verdict::Consistent => Some("consistent"),
-        Verdict::SameName(_) => Some("one name of two texts"),
-        Verdict::Lacks { .. } => Some("a record is lacking"),
+fn frames_in(family: &Family) -> u64 {
+    let mut frames = 0u64;
+    for member in family.as_slice() {
+        for diary in member.diaries.as_slice() {
+            frames = frames.wrapping_add(diary.len() as u64);
+        }
     }
+    frames
 }

@@ -1,4 +1,5 @@
-//! Disks of two shards: a write of the one waits until requests of the other were answered.
+//! Disks in memory, of which calls of one shard's fail, or a write of the one waits until requests of another were
+//! answered.
 ghost use Rattle.std.specs.Prelude.{◌≡◌, ◌+◌, ◌≤◌, [], All, IfOk, IfSome, OnOk, drop, length, take, true, vec_len};
 ghost use Rattle.ebl_base.specs.Faults.{HasCause};
 ghost use Rattle.disk_model.specs.Disk.{Elapses, Follows, NoneNew, Only, Torn, written};
@@ -71,7 +72,7 @@ impl Gate {
 }
 
 /// What a disk does with the gate at one of its writes.
-#[derive(Clone, Copy, PartialEq, Eq)]
+#[derive(Clone, Copy)]
 enum Deed {
     Nothing,
     Waits,
@@ -143,51 +144,75 @@ impl<D> GatedDisk<D> {
     }
 }
 
+/// What is wrong with the disks of a platform.
+#[derive(Clone, Copy)]
+pub(crate) enum Trouble {
+    Nothing,
+    /// Twenty calls of shard 4's fail.
+    Failing,
+    /// A write of shard 15's waits until one of shard 4's, which comes after it, was answered.
+    Gated,
+}
+
+// The calls that fail.
+const CALLS: &[u64] = &[
+    37, 74, 111, 148, 185, 222, 259, 296, 333, 370, 407, 444, 481, 518, 555, 592, 629, 666, 703,
+    740,
+];
+
+const NO_CALLS: &[u64] = &[];
+
+// What the disk of a shard does at its writes.
+fn deed_of(trouble: Trouble, number: u32) -> Deed {
+    match (trouble, number) {
+        (Trouble::Gated, 15) => Deed::Waits,
+        (Trouble::Gated, 4) => Deed::Opens,
+        _ => Deed::Nothing,
+    }
+}
+
+// The calls of a shard's disk that fail.
+fn calls_of(trouble: Trouble, number: u32) -> &'static [u64] {
+    match (trouble, number) {
+        (Trouble::Failing, 4) => CALLS,
+        _ => NO_CALLS,
+    }
+}
+
 fn rack(
     alloc: Global,
     gate: &Arc<Gate, Global>,
-    deed: Deed,
+    trouble: Trouble,
+    number: u32,
 ) -> Option<Rack<GatedDisk<MemoryDisk>, KeyedRing>>
     ensures { IfSome result (λ rack. rack.disk.seen ≡ []) }
 {
     let failures = Failures {
-        calls: Items::new(alloc),
+        calls: Items::from_slice(alloc, calls_of(trouble, number)).ok()?,
         written: Items::new(alloc),
     };
     let disk = GatedDisk {
         disk: MemoryDisk::new(alloc, Items::new(alloc), failures).ok()?,
         gate: Arc::try_clone(gate).ok()?,
-        deed,
+        deed: deed_of(trouble, number),
         writes: 0,
     };
     let ring = KeyedRing::derived();
     Some(Rack { disk, ring })
 }
 
-fn deed_of(number: u32, waits: u32, opens: u32) -> Deed {
-    if number == waits {
-        Deed::Waits
-    } else if number == opens {
-        Deed::Opens
-    } else {
-        Deed::Nothing
-    }
-}
-
-/// Racks with blank disks: that of shard `waits` waits at the gate, and that of shard `opens` opens it.
+/// Sixteen racks with blank disks and this trouble. A disk whose write waits does so at the gate.
 pub(crate) fn racks(
     alloc: Global,
     gate: &Arc<Gate, Global>,
-    waits: u32,
-    opens: u32,
+    trouble: Trouble,
 ) -> Option<Racks<GatedDisk<MemoryDisk>>>
     ensures count { IfSome result (λ racks. vec_len racks ≡ 16) }
     ensures blank { IfSome result (λ racks. All (λ rack. rack.disk.seen ≡ []) racks.items) }
 {
     let mut racks = Vec::new(alloc);
     for number in 0..16 {
-        let deed = deed_of(number, waits, opens);
-        racks.push(rack(alloc, gate, deed)?).ok()?;
+        racks.push(rack(alloc, gate, trouble, number)?).ok()?;
     }
     Some(racks)
 }

@@ -14,7 +14,8 @@ mod threads;
 use closing::Found;
 use disks::file_racks;
 use ebl_edge::words;
-use runs::{Size, in_memory, measure, on_failing_disks, on_gated_disks};
+use gated::Trouble;
+use runs::{Size, in_memory, on_files};
 use serving::Replies;
 use std::process::ExitCode;
 
@@ -32,19 +33,22 @@ fn main(rt: HostRuntime) -> ExitCode {
     let Ok(words) = words(&rt) else {
         return ExitCode::FAILURE;
     };
-    let told = match read_words(words.as_slice()) {
-        Some(Asked::InMemory(size)) => in_memory(&rt, rt.alloc(), size),
-        Some(Asked::OnFiles(size, folder)) => match file_racks(&rt, folder) {
-            Some((alph, beta)) => measure(&rt, rt.alloc(), size, alph, beta),
-            None => None,
-        },
-        Some(Asked::Failing(size)) => on_failing_disks(&rt, rt.alloc(), size),
-        Some(Asked::Gated) => on_gated_disks(&rt, rt.alloc()),
+    match read_words(words.as_slice()) {
+        Some(Asked::InMemory(size, trouble)) => {
+            tell(&rt, in_memory(&rt, rt.alloc(), size, trouble))
+        }
+        Some(Asked::OnFiles(size, folder)) => {
+            let racks = file_racks(&rt, folder);
+            tell(&rt, on_files(&rt, rt.alloc(), size, racks))
+        }
         None => {
             let _ = eprintln!(rt; "{USAGE}");
-            return ExitCode::from(2);
+            ExitCode::from(2)
         }
-    };
+    }
+}
+
+fn tell(rt: &HostRuntime, told: Option<(Replies, Found)>) -> ExitCode {
     let Some((replies, found)) = told else {
         return ExitCode::FAILURE;
     };
@@ -59,18 +63,22 @@ fn main(rt: HostRuntime) -> ExitCode {
 // What the words ask for.
 #[derive(Clone, Copy)]
 enum Asked<'a> {
-    InMemory(Size),
+    InMemory(Size, Trouble),
     OnFiles(Size, &'a str),
-    Failing(Size),
-    Gated,
 }
+
+// Two threads with a bill each, which are of the shards 15 and 4.
+const TWO: Size = Size {
+    levels: 1,
+    bills: 1,
+};
 
 fn read_words(words: &[String]) -> Option<Asked<'_>> {
     match words {
-        [word] if word.as_str() == "gated" => Some(Asked::Gated),
-        [levels, bills] => Some(Asked::InMemory(size(levels, bills)?)),
+        [word] if word.as_str() == "gated" => Some(Asked::InMemory(TWO, Trouble::Gated)),
+        [levels, bills] => Some(Asked::InMemory(size(levels, bills)?, Trouble::Nothing)),
         [word, levels, bills] if word.as_str() == "failing" => {
-            Some(Asked::Failing(size(levels, bills)?))
+            Some(Asked::InMemory(size(levels, bills)?, Trouble::Failing))
         }
         [levels, bills, folder] => Some(Asked::OnFiles(size(levels, bills)?, folder.as_str())),
         _ => None,

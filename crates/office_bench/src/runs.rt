@@ -1,14 +1,14 @@
 //! Runs of threads over the offices, on racks of each kind.
-ghost use Rattle.std.specs.Prelude.{◌≡◌, All, vec_len};
+ghost use Rattle.std.specs.Prelude.{◌≡◌, All, IfSome, vec_len};
 ghost use Rattle.platform_office.specs.Opening.{NothingIsPending};
 
 use crate::closing::{Found, close};
-use crate::disks::{Racks, memory_racks};
-use crate::gated::{Gate, racks};
+use crate::disks::Racks;
+use crate::gated::{Gate, Trouble, racks};
 use crate::offices::open;
 use crate::serving::Replies;
 use crate::threads::run;
-use disk_model::Disk;
+use disk_model::{Disk, FileDisk};
 use std::alloc::Global;
 use std::marker::Send;
 use std::sync::{Arc, Wait};
@@ -20,18 +20,6 @@ pub(crate) struct Size {
     pub(crate) levels: u32,
     pub(crate) bills: u32,
 }
-
-// The calls of a disk that fail.
-const CALLS: [u64; 20] = [
-    37, 74, 111, 148, 185, 222, 259, 296, 333, 370, 407, 444, 481, 518, 555, 592, 629, 666, 703,
-    740,
-];
-
-// Two threads with a bill each, which are of the shards 15 and 4.
-const TWO: Size = Size {
-    levels: 1,
-    bills: 1,
-};
 
 /// What becomes of the requests and of the diaries, on these racks of the two platforms.
 pub(crate) fn measure<D: Disk + Drop + Send, R: Threads + Wait + Sync>(
@@ -50,43 +38,43 @@ pub(crate) fn measure<D: Disk + Drop + Send, R: Threads + Wait + Sync>(
     Some((replies, close(alloc, offices, passes)?))
 }
 
-/// The same on disks in memory.
+/// The same on racks with files, if there are any.
+pub(crate) fn on_files<R: Threads + Wait + Sync>(
+    rt: &R,
+    alloc: Global,
+    size: Size,
+    racks: Option<(Racks<FileDisk>, Racks<FileDisk>)>,
+) -> Option<(Replies, Found)>
+    requires { IfSome racks (λ r. (vec_len r.0 ≡ 16) × (vec_len r.1 ≡ 16)) }
+{
+    let (alph, beta) = racks?;
+    measure(rt, alloc, size, alph, beta)
+}
+
+/// The same on disks in memory, with this trouble at ALPH. A call that fails is one reply at most. A write that waits
+/// does so until the other was answered; none comes if it wasn't.
 pub(crate) fn in_memory<R: Threads + Wait + Sync>(
     rt: &R,
     alloc: Global,
     size: Size,
+    trouble: Trouble,
 ) -> Option<(Replies, Found)> {
-    let (alph, beta) = memory_racks(alloc, &[])?;
-    measure(rt, alloc, size, alph, beta)
+    let gate = Arc::new(alloc, Gate::new()).ok()?;
+    let told = by_gate(rt, alloc, size, trouble, &gate);
+    match (trouble, gate.was_opened()) {
+        (Trouble::Gated, false) => None,
+        _ => told,
+    }
 }
 
-/// The same, where twenty calls of the disk of ALPH's shard 4 fail. Each is one reply at most.
-pub(crate) fn on_failing_disks<R: Threads + Wait + Sync>(
+fn by_gate<R: Threads + Wait + Sync>(
     rt: &R,
     alloc: Global,
     size: Size,
-) -> Option<(Replies, Found)> {
-    let (alph, beta) = memory_racks(alloc, &CALLS)?;
-    measure(rt, alloc, size, alph, beta)
-}
-
-/// The first of two threads is kept within its disk's write until the SIGN of the other was answered; none comes if it
-/// wasn't.
-pub(crate) fn on_gated_disks<R: Threads + Wait + Sync>(
-    rt: &R,
-    alloc: Global,
-) -> Option<(Replies, Found)> {
-    let gate = Arc::new(alloc, Gate::new()).ok()?;
-    let told = over_gate(rt, alloc, &gate);
-    if gate.was_opened() { told } else { None }
-}
-
-fn over_gate<R: Threads + Wait + Sync>(
-    rt: &R,
-    alloc: Global,
+    trouble: Trouble,
     gate: &Arc<Gate, Global>,
 ) -> Option<(Replies, Found)> {
-    let alph = racks(alloc, gate, 15, 4)?;
-    let beta = racks(alloc, gate, 16, 16)?;
-    measure(rt, alloc, TWO, alph, beta)
+    let alph = racks(alloc, gate, trouble)?;
+    let beta = racks(alloc, gate, Trouble::Nothing)?;
+    measure(rt, alloc, size, alph, beta)
 }

@@ -1,5 +1,5 @@
 //! One thread's bills.
-ghost use Rattle.std.specs.Prelude.{◌≡◌, false};
+ghost use Rattle.std.specs.Prelude.{◌≡◌, IfSome, false};
 ghost use Rattle.document_checksum.specs.Digest.{IsChecksum};
 ghost use Rattle.holder_commands.specs.Command.{command_view};
 ghost use Rattle.holder_commands.specs.Form.{IsCommand};
@@ -11,7 +11,7 @@ ghost use Rattle.ebl_base.specs.Moment.{IsMoment};
 
 use crate::offices::{Offices, Passes};
 use disk_model::Disk;
-use ebl_base::{ByteList, Checksum, Kind, Moment, Party};
+use ebl_base::{ByteList, Kind, Moment, Party};
 use holder_commands::Command;
 use platform_office::{Office, Pass};
 use platform_requests::{Message, Outcome, Reply, Request};
@@ -91,23 +91,24 @@ fn ask<D: Disk + Drop, R: Wait>(
     Some(served.outcome)
 }
 
-// A party of ALPH asks it for this.
+// A party of ALPH asks it for this; for nothing, where there is none.
 fn command<D: Disk + Drop, R: Wait>(
     rt: &R,
     alloc: Global,
     offices: &Offices<D>,
     passes: &mut Passes<D>,
     by: &str,
-    command: Command,
+    command: Option<Command>,
     replies: &mut Replies,
 ) -> Option<()>
     requires alph { IsPassOf offices.now.alph passes.old.alph }
     requires beta { IsPassOf offices.now.beta passes.old.beta }
-    requires form { IsCommand (command_view command) }
-    requires nests { Nests (command_view command) }
+    requires form { IfSome command (λ command. IsCommand (command_view command)) }
+    requires nests { IfSome command (λ command. Nests (command_view command)) }
     ensures alph { IsPassOf offices.now.alph passes.new.alph }
     ensures beta { IsPassOf offices.now.beta passes.new.beta }
 {
+    let command = command?;
     let Some(party) = Party::from_text(by.as_bytes()) else {
         drop(command);
         return None;
@@ -132,22 +133,26 @@ fn hand_over<D: Disk + Drop, R: Wait>(
     ensures beta { IsPassOf offices.now.beta passes.new.beta }
 {
     let bill = bill(alloc, number)?;
-    let signing = signing(alloc, number)?;
+    let signing = signing(alloc, number);
     command(rt, alloc, offices, passes, "ALPH/CARRIER", signing, replies)?;
-    let issue = acting(bill, Kind::Issue, "ALPH/EXPORT")?;
+    let issue = acting(bill, Kind::Issue, "ALPH/EXPORT");
     command(rt, alloc, offices, passes, "ALPH/CARRIER", issue, replies)?;
-    let transfer = acting(bill, Kind::Transfer, "BETA/IMPORT")?;
+    let transfer = acting(bill, Kind::Transfer, "BETA/IMPORT");
     command(rt, alloc, offices, passes, "ALPH/EXPORT", transfer, replies)
 }
 
 // The body of the start in an outcome.
 fn body_in(outcome: Outcome) -> Option<ByteList> {
-    let Outcome { messages, .. } = outcome;
+    let Outcome { reply, messages } = outcome;
+    drop(reply);
     let mut messages = messages.into_vec();
-    let Some(Message::Start { body, .. }) = messages.pop() else {
-        return None;
-    };
-    Some(body)
+    match messages.pop() {
+        Some(Message::Start { body, .. }) => Some(body),
+        other => {
+            drop(other);
+            None
+        }
+    }
 }
 
 // The signed answer in an outcome.
@@ -166,7 +171,7 @@ fn settle<D: Disk + Drop, R: Wait>(
     alloc: Global,
     offices: &Offices<D>,
     passes: &mut Passes<D>,
-    bill: Checksum,
+    number: u32,
     replies: &mut Replies,
 ) -> Option<()>
     requires alph { IsPassOf offices.now.alph passes.old.alph }
@@ -174,6 +179,7 @@ fn settle<D: Disk + Drop, R: Wait>(
     ensures alph { IsPassOf offices.now.alph passes.new.alph }
     ensures beta { IsPassOf offices.now.beta passes.new.beta }
 {
+    let bill = bill(alloc, number)?;
     let resend = Request::Resend { bill };
     let sent = ask(rt, alloc, &offices.alph, &mut passes.alph, resend, replies)?;
     let Some(body) = body_in(sent) else {
@@ -206,17 +212,11 @@ pub(crate) fn serve<D: Disk + Drop, R: Wait>(
     let mut replies = Replies::none();
     for place in 0..bills.count {
         let number = bills.first.wrapping_add(place);
-        match phase {
-            Phase::HandOver => hand_over(rt, alloc, offices, passes, number, &mut replies)?,
-            Phase::Settle => settle(
-                rt,
-                alloc,
-                offices,
-                passes,
-                bill(alloc, number)?,
-                &mut replies,
-            )?,
-        }
+        let done = match phase {
+            Phase::HandOver => hand_over(rt, alloc, offices, passes, number, &mut replies),
+            Phase::Settle => settle(rt, alloc, offices, passes, number, &mut replies),
+        };
+        done?;
     }
     Some(replies)
 }

@@ -1,6 +1,0 @@
--- The disks so far are blank.
-use Rattle.std.proofs.Common.{◌≡◌, [], All, vec_len}
-use Rattle.office_bench.proofs.disks.blank_racks.Given as goal
-
-abbrev pub invariant-loop-number : goal.invariant-loop-number
-invariant-loop-number l = (vec_len l.racks ≡ l.number) × All (λ rack. rack.disk.seen ≡ []) l.racks.items
