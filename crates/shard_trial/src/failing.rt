@@ -15,8 +15,16 @@ type Shard = JournaledShard<MemoryDisk, KeyedRing>;
 /// reply is written.
 pub(crate) fn fail_at(rt: &HostRuntime, call: u64) -> Option<()> {
     let body = body(rt.alloc())?;
+    let told = start_at(rt, call, &body);
+    drop(body);
+    told
+}
+
+fn start_at(rt: &HostRuntime, call: u64, body: &ByteList) -> Option<()> {
     let mut beta = open(rt.alloc(), b"BETA", &[call])?;
-    start_thrice(rt, &mut beta, &body)
+    let told = start_thrice(rt, &mut beta, body);
+    drop(beta);
+    told
 }
 
 fn start_thrice(rt: &HostRuntime, beta: &mut Shard, body: &ByteList) -> Option<()> {
@@ -36,7 +44,9 @@ fn start(alloc: Global, beta: &mut Shard, body: &ByteList) -> Option<&'static st
 // The body of the start with which ALPH hands a bill over to BETA.
 fn body(alloc: Global) -> Option<ByteList> {
     let mut alph = open(alloc, b"ALPH", &[])?;
-    send(alloc, &mut alph)
+    let sent = send(alloc, &mut alph);
+    drop(alph);
+    sent
 }
 
 fn send(alloc: Global, alph: &mut Shard) -> Option<ByteList> {

@@ -24,10 +24,11 @@ const ACTS: [(&str, &str, &str); 3] = [
 /// requests. None where one wasn't done.
 pub(crate) fn request_often(alloc: Global, bills: u32, rows: u32, requests: u32) -> Option<()> {
     let mut pair = Pair::new(alloc)?;
-    carry_out(alloc, &mut pair, bills, rows, requests)
+    let done = carry_out(alloc, &mut pair, bills, rows, requests);
+    drop(pair);
+    done
 }
 
-// It borrows the pair, so that the pair is dropped at one place and not at each `?`.
 fn carry_out(alloc: Global, pair: &mut Pair, bills: u32, rows: u32, requests: u32) -> Option<()> {
     for number in 0..bills {
         pair.fill(alloc, number)?;

@@ -20,10 +20,11 @@ pub(crate) fn on_file(
 ) -> Option<()> {
     let disk = disk(rt, folder, file)?;
     let mut shard = start(rt.alloc(), disk)?;
-    work(rt, &mut shard, count)
+    let worked = work(rt, &mut shard, count);
+    drop(shard);
+    worked
 }
 
-// It borrows the shard, so that the shard is dropped at one place and not at each `?`.
 fn work(rt: &HostRuntime, shard: &mut Shard, count: Option<u32>) -> Option<()> {
     println!(rt; "opened {}", shard.diary().as_slice().len()).ok()?;
     match count {
