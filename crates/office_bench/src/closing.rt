@@ -5,7 +5,7 @@ use crate::offices::{Offices, Passes};
 use closed_family::{DiaryList, Family, Member, Verdict, survey};
 use disk_model::Disk;
 use ebl_base::{Items, PlatformCode};
-use platform_office::{Office, Pass};
+use platform_office::{Closed, Office, Pass};
 use std::alloc::Global;
 use test_signer::KeyedRing;
 
@@ -30,7 +30,9 @@ pub(crate) fn close<D: Disk + Drop>(
     let mut family: Family = Items::new(alloc);
     let has_alph = add(&mut family, b"ALPH", alph);
     let has_beta = add(&mut family, b"BETA", beta);
-    surveyed(alloc, &family, has_alph && has_beta)
+    let found = surveyed(alloc, &family, has_alph && has_beta);
+    drop(family);
+    found
 }
 
 // The diaries of an office that is closed; none where another pass is out or memory runs out.
@@ -41,8 +43,14 @@ fn diaries_of<D: Disk + Drop>(
     requires { IsPassOf office pass }
 {
     match office.close(pass) {
-        Ok(closed) => Some(closed.diaries),
-        Err(_) => None,
+        Ok(Closed { racks, diaries }) => {
+            drop(racks);
+            Some(diaries)
+        }
+        Err(refused) => {
+            drop(refused);
+            None
+        }
     }
 }
 
@@ -50,7 +58,10 @@ fn diaries_of<D: Disk + Drop>(
 fn add(family: &mut Family, code: &[u8], diaries: Option<DiaryList>) -> bool {
     match (PlatformCode::try_new(code), diaries) {
         (Some(platform), Some(diaries)) => family.push(Member { platform, diaries }).is_ok(),
-        _ => false,
+        (_, diaries) => {
+            drop(diaries);
+            false
+        }
     }
 }
 
@@ -58,13 +69,21 @@ fn surveyed(alloc: Global, family: &Family, whole: bool) -> Option<Found> {
     if !whole {
         return None;
     }
-    let verdict = match survey(alloc, family).ok()? {
+    let verdict = survey(alloc, family).ok()?;
+    let found = Found {
+        frames: frames_in(family),
+        verdict: word_of(&verdict),
+    };
+    drop(verdict);
+    Some(found)
+}
+
+fn word_of(verdict: &Verdict) -> &'static str {
+    match verdict {
         Verdict::Consistent => "consistent",
         Verdict::SameName(_) => "one name of two texts",
         Verdict::Lacks { .. } => "a record is lacking",
-    };
-    let frames = frames_in(family);
-    Some(Found { frames, verdict })
+    }
 }
 
 fn frames_in(family: &Family) -> u64 {

@@ -52,12 +52,25 @@ pub(crate) fn open<D: Disk + Drop>(
     ensures alph { IfSome result (λ r. IsPassOf r.0.alph r.1.alph) }
     ensures beta { IfSome result (λ r. IsPassOf r.0.beta r.1.beta) }
 {
-    let (alph, alph_pass) = open_one(alloc, b"ALPH", alph)?;
-    let (beta, beta_pass) = open_one(alloc, b"BETA", beta)?;
-    let offices = Offices { alph, beta };
-    let passes = Passes {
-        alph: alph_pass,
-        beta: beta_pass,
+    let first = open_one(alloc, b"ALPH", alph);
+    let second = open_one(alloc, b"BETA", beta);
+    let Some((alph, alph_pass)) = first else {
+        drop(second);
+        return None;
     };
-    Some((offices, passes))
+    match second {
+        Some((beta, beta_pass)) => {
+            let offices = Offices { alph, beta };
+            let passes = Passes {
+                alph: alph_pass,
+                beta: beta_pass,
+            };
+            Some((offices, passes))
+        }
+        None => {
+            drop(alph);
+            drop(alph_pass);
+            None
+        }
+    }
 }

@@ -34,8 +34,13 @@ pub(crate) fn measure<D: Disk + Drop + Send, R: Threads + Wait + Sync>(
         × All (NothingIsPending D.tells D.seen D.may_leave) beta.items }
 {
     let (offices, passes) = open(alloc, alph, beta)?;
-    let (passes, replies) = run(rt, alloc, &offices, passes, size.levels, size.bills)?;
-    Some((replies, close(alloc, offices, passes)?))
+    match run(rt, alloc, &offices, passes, size.levels, size.bills) {
+        Some((passes, replies)) => Some((replies, close(alloc, offices, passes)?)),
+        None => {
+            drop(offices);
+            None
+        }
+    }
 }
 
 /// The same on racks with files, if there are any.
@@ -75,6 +80,11 @@ fn by_gate<R: Threads + Wait + Sync>(
     gate: &Arc<Gate, Global>,
 ) -> Option<(Replies, Found)> {
     let alph = racks(alloc, gate, trouble)?;
-    let beta = racks(alloc, gate, Trouble::Nothing)?;
-    measure(rt, alloc, size, alph, beta)
+    match racks(alloc, gate, Trouble::Nothing) {
+        Some(beta) => measure(rt, alloc, size, alph, beta),
+        None => {
+            drop(alph);
+            None
+        }
+    }
 }

@@ -90,8 +90,13 @@ fn alone<D: Disk + Drop, R: Wait>(
     ensures alph { IfSome result (λ r. IsPassOf offices.now.alph r.0.alph) }
     ensures beta { IfSome result (λ r. IsPassOf offices.now.beta r.0.beta) }
 {
-    let replies = serve(rt, alloc, offices, &mut passes, work.bills, work.phase)?;
-    Some((passes, replies))
+    match serve(rt, alloc, offices, &mut passes, work.bills, work.phase) {
+        Some(replies) => Some((passes, replies)),
+        None => {
+            drop(passes);
+            None
+        }
+    }
 }
 
 // Passes for another thread too.
@@ -104,8 +109,18 @@ fn split<D: Disk + Drop>(
     ensures alph { IfSome result (λ r. IsPassOf offices.now.alph r.0.alph × IsPassOf offices.now.alph r.1.alph) }
     ensures beta { IfSome result (λ r. IsPassOf offices.now.beta r.0.beta × IsPassOf offices.now.beta r.1.beta) }
 {
-    let alph = offices.alph.split(&mut passes.alph).ok()?;
-    let beta = offices.beta.split(&mut passes.beta).ok()?;
+    let first = offices.alph.split(&mut passes.alph);
+    let second = offices.beta.split(&mut passes.beta);
+    let Ok(alph) = first else {
+        drop(second);
+        drop(passes);
+        return None;
+    };
+    let Ok(beta) = second else {
+        drop(alph);
+        drop(passes);
+        return None;
+    };
     Some((passes, Passes { alph, beta }))
 }
 
