@@ -92,7 +92,7 @@ const ROWS: [Row; 20] = [
         "validation",
         "BETA/IMPORT",
     ),
-    // Commands in the form of `holder_commands`.
+    // Commands.
     (Route::Command, r#"{"party":"BETA/IMPORT"}"#, "nothing", ""),
     (
         Route::Command,
