@@ -3,12 +3,12 @@
 
 Builds canon_peer, runs it and the proved program on documents of several sizes and shapes, compares what they write,
 and prints the instructions that callgrind counts (an empty document's are taken off, so that the programs' starts
-don't count), the best time of five runs, starts included, and the greatest memory of one.
+don't count), the best time of five runs, starts included, and the greatest memory of one. Words: none.
 """
 import json
 import tempfile
 
-from measure import best, compare, difference, instructions, peak, peer, product
+from measure import best, compare, difference, instructions, peak, peer, product, words_of
 from samples import container
 
 
@@ -31,6 +31,7 @@ ROWS = (
 
 
 def main():
+    words_of(__doc__).parse_args()
     with tempfile.TemporaryDirectory() as folder:
         programs = [product(), "canon"], [peer("canon_peer", folder)]
         start = [instructions(words, b"{}") for words in programs]

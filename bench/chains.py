@@ -5,10 +5,11 @@ Builds library_bench, counts the instructions that callgrind sees in a run with 
 prints instructions for each entry, and microseconds of the same difference in plain runs. The check is linear where
 these stay alike down a column. Words: none.
 """
-from measure import best, difference, instructions, proved
+from measure import best, difference, instructions, proved, words_of
 
 
 def main():
+    words_of(__doc__).parse_args()
     program = proved("library_bench", ["chain", "1", "1", "1"])
     print("| entries | transactions an entry | instructions an entry | microseconds an entry |")
     print("|---|---|---|---|")

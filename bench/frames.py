@@ -8,11 +8,12 @@ import os
 import struct
 import tempfile
 
-from measure import difference, instructions, proved
+from measure import difference, instructions, proved, words_of
 from samples import body
 
 
 def main():
+    words_of(__doc__).parse_args()
     with tempfile.TemporaryDirectory() as folder:
         print("| entries | bytes | read the frame | write it | read the body's JSON | hash the body "
               "| reading / (JSON + hash) |")

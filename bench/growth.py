@@ -5,13 +5,11 @@ Makes scripts of 1,000, 10,000 and 100,000 lines, runs the proved program and dr
 write, and prints for each line of the script: instructions (callgrind's), nanoseconds (the best of five runs) and
 bytes of memory (the greatest size). A script of three lines is taken off, so that the programs' starts don't count;
 below 10,000 lines they outweigh time and memory, which are left out there.
-Words: the most lines (100,000 otherwise).
 """
 import json
-import sys
 import tempfile
 
-from measure import best, compare, difference, instructions, peak, peer, product
+from measure import best, compare, difference, instructions, peak, peer, product, words_of
 
 SIZES = (1_000, 10_000, 100_000)
 ROSTER = {"roster": {"platforms": ["ALPH"], "parties": ["ALPH/BANK", "ALPH/CARRIER", "ALPH/EXPORT"],
@@ -60,7 +58,9 @@ def a_line(measure, words, script, start, lines, what):
 
 
 def main():
-    most = int(sys.argv[1]) if len(sys.argv) > 1 else SIZES[-1]
+    words = words_of(__doc__)
+    words.add_argument("most", nargs="?", type=int, default=SIZES[-1], help="the most lines (100,000 otherwise)")
+    most = words.parse_args().most
     with tempfile.TemporaryDirectory() as folder:
         ours, theirs = [product(), "drive"], [peer("drive_peer", folder)]
         print("| script | lines | instructions a line | the peer's | ratio | ns a line | the peer's "

@@ -7,7 +7,7 @@ and in one with more, so that starts don't count. Words: none.
 import os
 import tempfile
 
-from measure import difference, instructions, peer, proved
+from measure import difference, instructions, peer, proved, words_of
 from samples import body, canonical, document, entry, manifest, name, signed
 
 BILL = name(b"a bill")
@@ -33,6 +33,7 @@ ROWS = (
 
 
 def main():
+    words_of(__doc__).parse_args()
     with tempfile.TemporaryDirectory() as folder:
         path = os.path.join(folder, "input")
         stock = peer("hot_peer", folder)

@@ -6,18 +6,16 @@ runs both in turn, many times and shortly, on files in one folder. Prints append
 few and of twice as many appends (medians), the ratio of these, the ratio of the longer runs as they are, starts
 included (median, least and greatest of the rounds), and device flushes for each append where the system counts them.
 Then it fills a journal to 14 MB and times opening it beside reading and hashing the same file.
-Words: the folder in which the files are made (the system's temporary folder otherwise).
 """
 import hashlib
 import os
 import shutil
 import statistics
 import subprocess
-import sys
 import tempfile
 import time
 
-from measure import c_program, difference, proved, seconds
+from measure import c_program, difference, proved, seconds, words_of
 
 ROUNDS = 21
 APPENDS = 500
@@ -77,7 +75,9 @@ def opening(program, folder):
 
 
 def main():
-    folder = tempfile.mkdtemp(dir=sys.argv[1] if len(sys.argv) > 1 else None)
+    words = words_of(__doc__)
+    words.add_argument("folder", nargs="?", help="where the files are made (the system's temporary folder otherwise)")
+    folder = tempfile.mkdtemp(dir=words.parse_args().folder)
     try:
         program = proved("journal_bench", ["append", folder, os.path.join(folder, "first"), "80", "1"])
         floor = c_program("sync_floor", folder)

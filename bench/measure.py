@@ -11,6 +11,7 @@ HERE = os.path.dirname(os.path.abspath(__file__))
 TOP = os.path.dirname(HERE)
 sys.path.insert(0, os.path.join(TOP, "tools"))
 import program  # noqa: E402
+from program import words_of  # noqa: E402,F401
 
 REGISTRY = "/usr/share/cargo/registry"
 # callgrind counts `rep stosb` and `rep movsb` once a byte, which the processor does many at a time.

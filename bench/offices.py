@@ -6,16 +6,14 @@ signature or an answer), and runs in turn: the offices; the peer, whose threads 
 Mutex; and the peer with a file for each thread and no lock, which is the floor of two syncs a frame. Of each a run with
 few bills is taken off one with more, so that starts don't count. Prints frames a second (medians of the rounds), and
 the ratio to both in one round (median, least and greatest). In memory the offices run alone.
-Words: the folder in which the files are made (the system's temporary folder otherwise).
 """
 import os
 import shutil
 import statistics
 import subprocess
-import sys
 import tempfile
 
-from measure import difference, proved, seconds
+from measure import HERE, difference, proved, seconds, words_of
 
 ROUNDS = 7
 # So many bills have all threads together in the shorter run on files, and three times as many in the longer one.
@@ -62,13 +60,14 @@ def spread(values):
 
 
 def main():
-    top = tempfile.mkdtemp(dir=sys.argv[1] if len(sys.argv) > 1 else None)
+    words = words_of(__doc__)
+    words.add_argument("folder", nargs="?", help="where the files are made (the system's temporary folder otherwise)")
+    top = tempfile.mkdtemp(dir=words.parse_args().folder)
     folder = os.path.join(top, "files")
     try:
         program = proved("office_bench", ["0", "1"])
         peer = os.path.join(top, "office_peer")
-        subprocess.run(["rustc", "-O", "-o", peer, os.path.join(os.path.dirname(os.path.abspath(__file__)),
-                                                                "office_peer", "office_peer.rs")], check=True)
+        subprocess.run(["rustc", "-O", "-o", peer, os.path.join(HERE, "office_peer", "office_peer.rs")], check=True)
         size = frame_size(program, folder)
         print("frames of %d bytes\n\n| threads | offices | peer with locks | two syncs alone | of the peer | of the syncs "
               "| offices in memory |\n|---|---|---|---|---|---|---|" % size)

@@ -5,12 +5,10 @@ Makes scripts of 10 to 10,000 bills. Each bill has six events: it is signed, iss
 another platform, and the start and its answer are delivered. For each script it prints instructions an event
 (callgrind's) and how they have grown since the smallest script, nanoseconds an event (the best of five runs), and bytes
 of memory a bill (the greatest size). A script of one bill is taken off, so that the program's start doesn't count.
-Words: the most bills (10,000 otherwise); another program than the proved one.
 """
 import json
-import sys
 
-from measure import best, difference, instructions, peak, product
+from measure import best, difference, instructions, peak, product, words_of
 
 SIZES = (10, 100, 1_000, 10_000)
 EVENTS = 6
@@ -36,8 +34,11 @@ def script(bills):
 
 
 def main():
-    most = int(sys.argv[1]) if len(sys.argv) > 1 else SIZES[-1]
-    words = [sys.argv[2] if len(sys.argv) > 2 else product(), "drive"]
+    asked = words_of(__doc__)
+    asked.add_argument("most", nargs="?", type=int, default=SIZES[-1], help="the most bills (10,000 otherwise)")
+    asked.add_argument("program", nargs="?", help="another program than the proved one")
+    asked = asked.parse_args()
+    most, words = asked.most, [asked.program or product(), "drive"]
     start, first = script(1), None
     print("| bills | instructions an event | growth | ns an event | bytes a bill |")
     print("|---|---|---|---|---|")

@@ -5,13 +5,11 @@ Builds library_bench, and counts the instructions that callgrind sees in runs th
 bills, or ask a look-up more of each of them: the difference of two runs is the cost of ten. First with 10, 100, 1,000
 and 10,000 bills, whose chain has two entries when it comes back; then with 1,000 bills and chains of 2, 16 and 64
 entries. Then the memory that a bill takes, its frames included, whose texts are empty.
-Words: a program that is built already; otherwise it is proved and built.
 """
-import os
 import subprocess
 import sys
 
-from measure import difference, instructions, proved
+from measure import difference, instructions, proved, words_of
 
 EVENTS = ("Acted", "Parted", "Settled", "Taken", "Acted after it")
 ASKED = ("may_act", "title", "known", "parting", "since", "pieces", "partings", "signed", "parted", "came", "begun",
@@ -63,8 +61,9 @@ def memory(program, events, entries):
 
 
 def main():
-    given = sys.argv[1:]
-    program = os.path.abspath(given[0]) if given else proved("library_bench", ["register", "1", "1", "5", "14", "2"])
+    asked = words_of(__doc__)
+    asked.add_argument("program", nargs="?", help="a program that is built already; otherwise it is proved and built")
+    program = asked.parse_args().program or proved("library_bench", ["register", "1", "1", "5", "14", "2"])
     table(["{:,} bills".format(bills) for bills in SIZES], [costs(program, bills, 2) for bills in SIZES])
     table(["%d entries" % entries for entries in ENTRIES], [costs(program, 1000, entries) for entries in ENTRIES])
     for what, events, entries in (("signed and issued", 0, 2), ("that went to another platform", 3, 2),

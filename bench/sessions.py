@@ -3,11 +3,11 @@
 
 Builds http_trial (whose session is the product's over standard input and output) and http_peer (the same by httparse,
 http and serde_json), gives both the same sessions of two lengths, compares what they write, and prints the instructions
-that callgrind counts for a request, from the difference of the two lengths.
+that callgrind counts for a request, from the difference of the two lengths. Words: none.
 """
 import tempfile
 
-from measure import compare, difference, instructions, peer, proved
+from measure import compare, difference, instructions, peer, proved, words_of
 
 BILL = b"4" * 64
 FIELDS = (b"Host: pint.example.com\r\nUser-Agent: curl/7.88.1\r\nAccept: application/json\r\nAccept-Encoding: gzip, br\r\n"
@@ -35,6 +35,7 @@ ROWS = (
 
 
 def main():
+    words_of(__doc__).parse_args()
     with tempfile.TemporaryDirectory() as folder:
         programs = [proved("http_trial", ["session"]), "session"], [peer("http_peer", folder)]
         print("| request | bytes | instructions a request | the peer's | rate | a byte | the peer's |")

@@ -10,12 +10,13 @@ import re
 import subprocess
 import tempfile
 
-from measure import TUNABLES, difference, instructions, proved
+from measure import TUNABLES, difference, instructions, proved, words_of
 
 REQUESTS = ("SIGN", "ISSUE", "ENDORSE", "TRANSFER", "START", "START_REPLY")
 ROWS = 8
 # Shares by the functions in which instructions are counted; the first pattern that is found decides.
-SHARES = (("JSON", r"canonical_json|\bjson::"), ("register", r"title_register|btree|bill_diary|title_fold|bill_chain"), ("base64", r"base64"),
+SHARES = (("JSON", r"canonical_json|\bjson::"),
+          ("register", r"title_register|btree|bill_diary|title_fold|bill_chain"), ("base64", r"base64"),
           ("memory", r"malloc|_int_free|\bfree\b|realloc|calloc|memmove|memcpy|memset|rattle_alloc|rattle_dealloc"))
 
 
@@ -58,6 +59,7 @@ def shares(program, bills):
 
 
 def main():
+    words_of(__doc__).parse_args()
     program = proved("shard_trial", ["requests", "1", "1", "6"])
     print("| bills | " + " | ".join(REQUESTS) + " | a row |")
     print("|---|" + "---|" * (len(REQUESTS) + 1))

@@ -4,10 +4,11 @@
 Builds library_bench, and for families of 400 to 6,400 bills counts the instructions that callgrind sees in a run with
 one survey more than another. Words: none.
 """
-from measure import difference, instructions, proved
+from measure import difference, instructions, proved, words_of
 
 
 def main():
+    words_of(__doc__).parse_args()
     program = proved("library_bench", ["survey", "1", "1"])
     print("| bills | instructions | a bill | growth |")
     print("|---|---|---|---|")

@@ -7,18 +7,16 @@ request decides, signs if need be, appends its frame durably and answers. Prints
 runs of few and of twice as many requests (medians), and the ratio of the longer runs as they are, starts included
 (median, least and greatest of the rounds). Then it fills a journal with documents of 2 MB, and another with small
 frames, and times opening each beside reading and hashing the same file.
-Words: the folder in which the files are made (the system's temporary folder otherwise).
 """
 import hashlib
 import os
 import shutil
 import statistics
 import subprocess
-import sys
 import tempfile
 import time
 
-from measure import c_program, difference, proved, seconds
+from measure import c_program, difference, proved, seconds, words_of
 
 ROUNDS = 21
 REQUESTS = 300
@@ -63,7 +61,9 @@ def opening(program, folder, name, words):
 
 
 def main():
-    folder = tempfile.mkdtemp(dir=sys.argv[1] if len(sys.argv) > 1 else None)
+    words = words_of(__doc__)
+    words.add_argument("folder", nargs="?", help="where the files are made (the system's temporary folder otherwise)")
+    folder = tempfile.mkdtemp(dir=words.parse_args().folder)
     try:
         program = proved("shard_trial", ["serve", folder, os.path.join(folder, "first"), "0"])
         takes(program, folder, c_program("sync_floor", folder))

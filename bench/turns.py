@@ -13,10 +13,10 @@ import sys
 import tempfile
 import time
 
-from measure import HERE, proved
+from measure import HERE, difference, proved, words_of
 
 ROUNDS = 5
-TURNS = int(sys.argv[1]) if len(sys.argv) > 1 else 1_000_000
+TURNS = 1_000_000
 
 
 def seconds(program, levels, values, turns):
@@ -29,13 +29,15 @@ def seconds(program, levels, values, turns):
     return taken
 
 
-def rate(program, levels, values):
-    few = seconds(program, levels, values, TURNS // 10)
-    many = seconds(program, levels, values, TURNS)
-    return ((TURNS - TURNS // 10) << levels) / max(many - few, 1e-9)
+def rate(program, levels, values, turns):
+    few, many = (seconds(program, levels, values, count) for count in (turns // 10, turns))
+    return ((turns - turns // 10) << levels) / difference(many, few, "%d threads" % (1 << levels))
 
 
 def main():
+    words = words_of(__doc__)
+    words.add_argument("turns", nargs="?", type=int, default=TURNS, help="how many a thread takes (1,000,000 otherwise)")
+    turns = words.parse_args().turns
     program = proved("turns_bench", ["0", "1", "1"])
     folder = tempfile.mkdtemp()
     try:
@@ -45,7 +47,8 @@ def main():
         print("|---|---|---|---|---|")
         for values in (1, 16):
             for levels in (0, 1, 2):
-                pairs = [(rate(program, levels, values), rate(peer, levels, values)) for _ in range(ROUNDS)]
+                pairs = [(rate(program, levels, values, turns), rate(peer, levels, values, turns))
+                         for _ in range(ROUNDS)]
                 ratios = [ours / theirs for ours, theirs in pairs]
                 print("| %d | %d | %.0f | %.0f | %.2f (%.2f to %.2f) |" % (
                     1 << levels, values,
@@ -55,4 +58,5 @@ def main():
         shutil.rmtree(folder)
 
 
-main()
+if __name__ == "__main__":
+    main()

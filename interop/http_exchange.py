@@ -1,8 +1,6 @@
 #!/usr/bin/env python3
 """Exchanges of pint_client with Python's http.server over sockets on loopback, by the program http_trial.
 
-    python3 interop/http_exchange.py crates/http_trial/out/http_trial
-
 The server answers each message in several ways; what it was asked, and what the program printed, are compared with what
 they must be. The last line is 'N passed, M failed', and the exit is 1 if something failed.
 """
@@ -11,6 +9,9 @@ import os
 import subprocess
 import sys
 import threading
+
+sys.path.insert(0, os.path.join(os.path.dirname(os.path.dirname(os.path.abspath(__file__))), "tools"))
+from program import proved, words_of  # noqa: E402
 
 REFERENCE = "0a0a0a0a-0a0a-0a0a-0a0a-0a0a0a0a0a0a"
 PATHS = {
@@ -69,9 +70,9 @@ CASES = (
 
 
 def main():
-    if len(sys.argv) != 2:
-        sys.exit(__doc__)
-    program = os.path.abspath(sys.argv[1])
+    words = words_of(__doc__)
+    words.add_argument("program", nargs="?", help="a program that is built already; otherwise it is proved and built")
+    program = words.parse_args().program or proved("http_trial")
     server = http.server.ThreadingHTTPServer(("127.0.0.1", 0), Handler)
     threading.Thread(target=server.serve_forever, daemon=True).start()
     address = "127.0.0.1:%d" % server.server_address[1]

@@ -1,11 +1,9 @@
 #!/usr/bin/env python3
 """Talks to the program http_trial over sockets on loopback: curl, Python's http.client, and 10,000 mutated sessions.
 
-    python3 interop/http_peers.py crates/http_trial/out/http_trial [SEED]
-
 The lines of docs/http.md are run as they are there, and their replies compared. Each mutated session is sent whole and
-once more in pieces: both times the replies are whole, and the same. The seed is the clock's unless it is given. The
-last line is 'N passed, M failed', and the exit is 1 if something failed.
+once more in pieces: both times the replies are whole, and the same. The last line is 'N passed, M failed', and the
+exit is 1 if something failed.
 """
 import http.client
 import os
@@ -17,7 +15,9 @@ import subprocess
 import sys
 import time
 
-TOP = os.path.dirname(os.path.dirname(os.path.abspath(__file__)))
+sys.path.insert(0, os.path.join(os.path.dirname(os.path.dirname(os.path.abspath(__file__))), "tools"))
+from program import TOP, proved, words_of  # noqa: E402
+
 BILL = "44" * 32
 REFERENCE = "11111111-1111-1111-1111-111111111111"
 FINISH = "/v3/envelopes/%s/finish-transfer" % REFERENCE
@@ -268,10 +268,11 @@ def with_mutations(program, seed):
 
 
 def main():
-    if len(sys.argv) not in (2, 3):
-        sys.exit(__doc__)
-    program = os.path.abspath(sys.argv[1])
-    seed = int(sys.argv[2]) if len(sys.argv) == 3 else time.time_ns() % 1_000_000
+    words = words_of(__doc__)
+    words.add_argument("--seed", type=int, default=time.time_ns() % 1_000_000, help="the clock's unless it is given")
+    words.add_argument("program", nargs="?", help="a program that is built already; otherwise it is proved and built")
+    given = words.parse_args()
+    program, seed = given.program or proved("http_trial"), given.seed
     with_the_page(program)
     with_curl(program)
     with_http_client(program)

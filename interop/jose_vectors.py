@@ -1,7 +1,11 @@
+#!/usr/bin/env python3
 """Signs texts with the derived test keys by joserfc (RFC 7515, HS256), or verifies texts by it."""
-
 import hashlib
+import os
 import sys
+
+sys.path.insert(0, os.path.join(os.path.dirname(os.path.dirname(os.path.abspath(__file__))), "tools"))
+from program import words_of  # noqa: E402
 
 try:
     from joserfc import jws
@@ -33,7 +37,9 @@ def verified(text):
 
 
 def main():
-    if sys.argv[1:] == ["--check"]:
+    words = words_of(__doc__)
+    words.add_argument("--check", action="store_true", help="reads texts, one a line, and verifies each by its kid")
+    if words.parse_args().check:
         for line in sys.stdin:
             print(*verified(line.strip()))
     else:
@@ -42,4 +48,5 @@ def main():
                 print(sign(code, payload))
 
 
-main()
+if __name__ == "__main__":
+    main()
