@@ -707,6 +707,126 @@ def refused_bodies():
     script.write()
 
 
+# ---- a table of forged and broken starts
+
+# The signer of each entry of a good chain, and the entry without the name of the one before it.
+GOOD_ENTRIES = (("ALPH", entry_of("ALPH", [SIGN, ISSUE, transfer(EXPORT, IMPORT)])),
+                ("BETA", entry_of("BETA", [transfer(IMPORT, EXPORT)])),
+                ("ALPH", entry_of("ALPH", [transfer(EXPORT, IMPORT)])))
+GOOD_TEXTS = [FIRST, SECOND, THIRD]
+
+
+def linked(entries):
+    """The texts of entries, each signed and linked to the one before it."""
+    texts = []
+    for signer, entry in entries:
+        previous = {"previous": model.checksum(texts[-1].encode())} if texts else {}
+        texts.append(model.sign({**entry, **previous}, signer))
+    return texts
+
+
+def anew(place, signer=None, **changed):
+    """A body of the good chain with one entry changed: that is signed again, those behind it are linked again, and the
+    manifest is made again."""
+    entries = list(GOOD_ENTRIES)
+    old, entry = entries[place]
+    entries[place] = (signer or old, {**entry, **changed})
+    return body_of(linked(entries))
+
+
+def without(members, name):
+    return {it: value for it, value in members.items() if it != name}
+
+
+def forged_signatures(text):
+    """A text of the good chain that isn't rightly signed, in each of four ways."""
+    signer, entry = model.verified(text)
+    yield model.sign(entry, signer, model.key_of("GAMM"))
+    yield text.replace(".", "", 1)
+    yield model.signed_with_header({"alg": "HS256", "crit": ["b64"], "kid": signer}, entry, signer)
+    yield text + "="
+
+
+def broken_bodies(good):
+    """(body, code, reason) of each body in which no chain of texts stands, or no document of a bill."""
+    text = model.canon(good)
+    for length in (0, 1, len(text) // 2, len(text) - 1):
+        yield text[:length], "BODY"
+    for name in good:
+        yield without(good, name), "BODY"
+    for name, value in (("document", []), ("manifest", 1), ("chain", [FIRST, 1, THIRD])):
+        yield {**good, name: value}, "BODY"
+    for name in DOCUMENT:
+        yield {**good, "document": without(DOCUMENT, name)}, "DOCUMENT"
+    for name, value in (("transportDocumentTypeCode", "SWB"), ("transportDocumentReference", "R" * 21)):
+        yield {**good, "document": {**DOCUMENT, name: value}}, "DOCUMENT"
+    for texts in ([], [FIRST] * 65):
+        yield {**good, "chain": texts}, "LENGTH"
+
+
+def forged_chains_of_three(good):
+    """(body, code, reason, index) of each chain that is forged, or put together wrongly."""
+    def of(*texts):
+        return {**good, "chain": list(texts)}
+
+    for place, text in enumerate(GOOD_TEXTS):
+        for forged in forged_signatures(text):
+            yield of(*GOOD_TEXTS[:place], forged, *GOOD_TEXTS[place + 1:]), "BSIG", "SIGNATURE", place
+        yield anew(place, transactions=[]), "BENV", "ENTRY", place
+        yield anew(place, attempt=0), "BENV", "ENTRY", place
+        yield anew(place, platform="GAMM"), "BSIG", "SIGNER", place
+    yield of(FIRST, THIRD), "BENV", "LINK", 1
+    yield of(SECOND, THIRD), "BENV", "LINK", 0
+    yield of(SECOND, FIRST, THIRD), "BENV", "LINK", 0
+    yield of(*GOOD_TEXTS, THIRD), "BENV", "LINK", 3
+    for place in (0, 2):
+        yield anew(place, bill=ABC), "BENV", "BILL", place
+    parted = transfer(EXPORT, IMPORT)
+    yield anew(0, transactions=[dict(SIGN, actor=EXPORT), ISSUE, parted]), "BENV", "CARRIER", None
+    yield anew(1, "GAMM", platform="GAMM"), "BENV", "PLATFORM", 1
+    yield anew(0, "BETA", platform="BETA"), "BENV", "PLATFORM", 0
+    yield anew(1, transactions=[transfer("BETA/AGENT", EXPORT)]), "BENV", "FOLD", 1
+    yield anew(2, transactions=[ISSUE]), "BENV", "FOLD", 2
+    yield anew(0, transactions=[SIGN, ISSUE]), "BENV", "MOVE", 0
+    yield anew(2, transactions=[parted, transfer(IMPORT, EXPORT)]), "BENV", "MOVE", 2
+
+
+def forged_manifests():
+    """(manifest's text, code, reason) of each manifest that doesn't go with the good chain."""
+    manifest = {"bill": BILL, "documents": [], "last": model.checksum(THIRD.encode())}
+    yield model.sign(manifest, "ALPH", model.key_of("BETA")), "BSIG", "MANIFEST_SIGNATURE"
+    yield model.sign(without(manifest, "documents"), "ALPH"), "BENV", "MANIFEST_FORM"
+    yield model.sign({**manifest, "last": model.checksum(SECOND.encode())}, "ALPH"), "BENV", "MANIFEST_NAMES"
+
+
+def forged_starts():
+    """Broken and forged starts at platforms that know nothing of the bill. None but the last two leaves a record, so
+    each of the others meets empty diaries. The one that is too long to be stored is in tools/check_program.py."""
+    script = Script("forged_starts")
+    good = body_of(GOOD_TEXTS)
+    assert linked(GOOD_ENTRIES) == GOOD_TEXTS
+
+    def refused(body, code, reason, index=None, at="BETA", **members):
+        number = len(script.world.sent) + 1
+        script.start(at, body, code, [number], reason=reason, index=index, **{"standing": False, **members})
+
+    for body, reason in broken_bodies(good):
+        refused(body, "BENV", reason)
+    for body, code, reason, index in forged_chains_of_three(good):
+        refused(body, code, reason, index)
+    for manifest, code, reason in forged_manifests():
+        refused({**good, "manifest": manifest}, code, reason)
+    refused(good, "BENV", "DESTINATION", at="GAMM")
+    for at in ("BETA", "GAMM"):
+        script.ask(at, BILL, place="ABSENT")
+    refused(anew(2, transactions=[transfer(EXPORT, "BETA/NOBODY")]), "BENV", "PARTY", standing=True)
+    number = len(script.world.sent) + 1
+    script.start("BETA", good, "RECE", [number], standing=False)
+    assert number == 59, number
+    script.ask("BETA", BILL, place="HELD", entries=3, possessor=IMPORT)
+    script.write()
+
+
 def ignored_replies():
     """A reply from outside for each reason to ignore it; the reply that counts comes last."""
     script = Script("ignored_replies")
@@ -1153,6 +1273,7 @@ def main():
                  return_before_the_answer, to_another_platform, surrender, two_bills_of_two_carriers,
                  bills_of_one_shard, chain_without_its_middle, parted_chains, texts_of_disputes, chains_that_meet,
                  first_judgement, dispute_at_the_finish, forked_chains, two_continuations, refused_bodies,
+                 forged_starts,
                  ignored_replies, foreign_uploads, asked_documents, other_partys_platform, no_bill_before_not_ours,
                  not_the_carrier, documents_of_no_bill, nobody_here, asker_of_no_platform, rules_of_titles,
                  commands_in_every_state, first_refusal, no_message, unknown_reference, attached_twice,

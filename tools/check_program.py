@@ -169,7 +169,8 @@ def limits():
 
 
 def long_texts():
-    """(what, a script) of signed texts at the limits of their lengths: entries in a start, and answers to one."""
+    """(what, a script) of texts at and past the limits of their lengths: entries and a document in a start, and answers
+    to one."""
     lines = read("transfer_to_another_platform.jsonl").split(b"\n")[:5]
     world = model.World(model.roster_in(lines[0]))
     for line in lines[1:]:
@@ -179,6 +180,9 @@ def long_texts():
     for text in around(model.verified(body["chain"][0])[1], "ALPH", model.MOST_TEXT):
         start = {"at": "BETA", "body": json.dumps(dict(body, chain=[text])), "foreign": "START"}
         yield "an entry's text of %d bytes" % len(text), b"\n".join([lines[0], json.dumps(start).encode()])
+    long = dict(body, document=dict(body["document"], further="x" * model.MOST_DOCUMENT))
+    start = {"at": "BETA", "body": json.dumps(long), "foreign": "START"}
+    yield "a start whose document is too long", b"\n".join([lines[0], json.dumps(start).encode()])
     answer = {"last": name, "missing": [], "responseCode": "RECE", "standing": False}
     for text in around(answer, "BETA", model.MOST_RESPONSE):
         reply = {"at": "ALPH", "bill": 1, "foreign": "FINISH_REPLY", "text": text}

@@ -203,7 +203,12 @@ def _unurl(part):
 
 def sign(payload, platform, key=None):
     """The compact layout of a payload that a platform signs."""
-    front = _url(canon({"alg": "HS256", "kid": platform}).encode()) + "." + _url(canon(payload).encode())
+    return signed_with_header({"alg": "HS256", "kid": platform}, payload, platform, key)
+
+
+def signed_with_header(header, payload, platform, key=None):
+    """The same with a header of one's own."""
+    front = _url(canon(header).encode()) + "." + _url(canon(payload).encode())
     return front + "." + _url(hmac.new(key or key_of(platform), front.encode(), hashlib.sha256).digest())
 
 
