@@ -11,7 +11,7 @@ help:
 	@echo 'make test                  the gate: every proof, every edit that must fail, every test, the program'\''s runs'
 	@echo 'make lint                  what the prover does not see: names in pages, heads of files, widths'
 	@echo
-	@echo 'tools/ebl WORD             runs the program with a word of its own (drive, canon, --help, --version), and'
+	@echo 'tools/ebl WORD             runs the program with a word of its own (drive, canon, rehearse, --help, ..), and'
 	@echo '                           ends with its exit; make ends with 2 whenever that is not 0'
 
 run:
