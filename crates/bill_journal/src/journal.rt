@@ -8,9 +8,11 @@
 //! (3) A call that answers Ok leaves all that it wrote on the disk.
 //! (4) After a call that failed, the disk has the frames before it, with the new one or without. The journal is
 //!     loose: it is read again before anything rests on it.
+//! (5) A disk is synced before it is read, when it is opened as when it is read again: what was written and never
+//!     synced is read all the same, and a crash may take it back.
 ghost use Rattle.std.specs.Prelude.{◌≡◌, ◌↔◌, ◌⊎◌, ◌+◌, ◌<◌, ◌≤◌, ◌++◌, [], ◌∷◌, true, false, List, ℕ, length, IsTrue, IfOk, IfErr, OnOk, OnErr, IsErrOf, MatchResult};
 ghost use Rattle.ebl_base.specs.Faults.{Rose};
-ghost use Rattle.disk_model.specs.Disk.{Only, LeavesOnly, Looked};
+ghost use Rattle.disk_model.specs.Disk.{LeavesOnly, Looked};
 ghost use Rattle.bill_journal.specs.Frames.{StandsFor, IsDamagedAt};
 ghost use Rattle.bill_journal.specs.Places.{contents_of, IsRead};
 ghost use Rattle.bill_journal.specs.Journal.{HasContents, MayHave, WithOrWithout, room_for};
@@ -18,7 +20,7 @@ ghost use Rattle.bill_journal.specs.Journal.{HasContents, MayHave, WithOrWithout
 use crate::fault::{AppendFault, OpenFault};
 use crate::frame_at::FrameBytes;
 use crate::framed::Framed;
-use crate::steps::{read_or_make, sync_and_read, write_frame};
+use crate::steps::{read_again, read_or_make, write_frame};
 use disk_model::Disk;
 use ebl_base::{MAX_JOURNAL, MAX_JOURNAL_UNSETTLED};
 use std::alloc::Global;
@@ -47,7 +49,7 @@ impl<D: Disk> Model for Journal<D> {
 }
 
 impl<D: Disk> Journal<D> {
-    /// Reads a disk's journal, without writing anything. A disk of length 0 is made a journal first.
+    /// Syncs a disk and reads its journal, without writing anything. A disk of length 0 is made a journal instead.
     ///
     /// `Disk` comes only where the disk's count of faults rose. `Damaged` names the place of a frame that runs past
     /// the end, the place where the disk ends without a gate, or 0 where the version isn't 1. Each fault hands the
@@ -63,10 +65,10 @@ impl<D: Disk> Journal<D> {
         ensures fresh { D.tells disk ≡ true → D.seen disk ≡ []
             → IfOk result (λ r. HasContents D.seen D.may_leave r.0 []) }
 
-        // Another disk is read.
+        // Another disk is synced and read.
         ensures stands { D.tells disk ≡ true → 0 < length (D.seen disk)
             → IfOk result (λ r. StandsFor (D.seen disk) (contents_of r.1)) }
-        ensures settled { D.tells disk ≡ true → 0 < length (D.seen disk) → Only (D.seen disk) (D.may_leave disk)
+        ensures settled { D.tells disk ≡ true → 0 < length (D.seen disk)
             → IfOk result (λ r. HasContents D.seen D.may_leave r.0 (contents_of r.1)) }
         ensures nothing_written { D.tells disk ≡ true → 0 < length (D.seen disk)
             → MatchResult result (λ r. Looked D.seen D.may_leave D.moment D.left_since disk r.0.disk)
@@ -176,7 +178,7 @@ impl<D: Disk> Journal<D> {
         ensures later { D.faults self.old.disk ≤ D.faults self.new.disk }
         ensures failed { IsErrOf result OpenFault.Disk → Rose (D.faults self.old.disk) (D.faults self.new.disk) }
     {
-        match sync_and_read(alloc, &mut self.disk) {
+        match read_again(alloc, &mut self.disk) {
             Ok((frames, end)) => {
                 self.end = end;
                 self.loose = false;

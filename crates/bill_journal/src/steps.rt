@@ -68,8 +68,9 @@ fn read_all<D: Disk>(alloc: Global, disk: &mut D, len: u64) -> Result<Vec<u8>, O
     Ok(bytes)
 }
 
-// The frames of a disk of this length, and the place of the gate that ends them.
-pub(crate) fn read_journal<D: Disk>(
+// The frames of a disk of this length, and the place of the gate that ends them, after all that was written is on the
+// disk.
+fn sync_and_read<D: Disk>(
     alloc: Global,
     disk: &mut D,
     len: u64,
@@ -79,6 +80,7 @@ pub(crate) fn read_journal<D: Disk>(
     ensures read { IfOk result (λ r. IsRead r.0 r.1) }
     ensures far { IfOk result (λ r. r.1 < 2 ^ 63) }
     ensures within { D.tells disk.old ≡ true → IfOk result (λ r. r.1 < length (D.seen disk.old)) }
+    ensures durable { D.tells disk.old ≡ true → OnOk result (Only (D.seen disk.new) (D.may_leave disk.new)) }
     ensures stands { D.tells disk.old ≡ true → IfOk result (λ r. StandsFor (D.seen disk.old) (contents_of r.0)) }
     ensures damaged { (place : ℕ) → D.tells disk.old ≡ true → IsErrOf result (OpenFault.Damaged place)
         → IsDamagedAt (D.seen disk.old) place }
@@ -86,12 +88,14 @@ pub(crate) fn read_journal<D: Disk>(
     ensures later { D.faults disk.old ≤ D.faults disk.new }
     ensures failed { IsErrOf result OpenFault.Disk → Rose (D.faults disk.old) (D.faults disk.new) }
 {
+    // What a read gives has to be what a crash leaves, before anything rests on it.
+    disk.sync()?;
     let bytes = read_all(alloc, disk, len)?;
     let (frames, end) = read_frames(alloc, &bytes)?;
     Ok((frames, end as u64))
 }
 
-// As `read_journal`, where a blank disk is made a journal first.
+// The frames of a disk, synced first; a blank disk is made a journal.
 pub(crate) fn read_or_make<D: Disk>(
     alloc: Global,
     disk: &mut D,
@@ -102,8 +106,7 @@ pub(crate) fn read_or_make<D: Disk>(
     ensures within { D.tells disk.old ≡ true → IfOk result (λ r. r.1 < length (D.seen disk.new)) }
     ensures made { D.tells disk.old ≡ true → D.seen disk.old ≡ [] → IfOk result (λ r. r.0 ≡ []) }
     ensures blank { D.tells disk.old ≡ true → D.seen disk.old ≡ [] → OnOk result (D.seen disk.new ≡ 1 ∷ 0 ∷ []) }
-    ensures durable { D.tells disk.old ≡ true → D.seen disk.old ≡ []
-        → OnOk result (Only (D.seen disk.new) (D.may_leave disk.new)) }
+    ensures durable { D.tells disk.old ≡ true → OnOk result (Only (D.seen disk.new) (D.may_leave disk.new)) }
     ensures stands { D.tells disk.old ≡ true → 0 < length (D.seen disk.old)
         → IfOk result (λ r. StandsFor (D.seen disk.old) (contents_of r.0)) }
     ensures damaged { (place : ℕ) → D.tells disk.old ≡ true → IsErrOf result (OpenFault.Damaged place)
@@ -118,11 +121,11 @@ pub(crate) fn read_or_make<D: Disk>(
         put(disk, 0, &[1, 0])?;
         return Ok((FrameBytes::new(alloc), 1));
     }
-    read_journal(alloc, disk, len)
+    sync_and_read(alloc, disk, len)
 }
 
-// As `read_journal`, after all that was written is on the disk.
-pub(crate) fn sync_and_read<D: Disk>(
+// The frames of a disk, synced first. A blank one, too, is damaged.
+pub(crate) fn read_again<D: Disk>(
     alloc: Global,
     disk: &mut D,
 ) -> Result<(FrameBytes, u64), OpenFault>
@@ -138,8 +141,6 @@ pub(crate) fn sync_and_read<D: Disk>(
     ensures later { D.faults disk.old ≤ D.faults disk.new }
     ensures failed { IsErrOf result OpenFault.Disk → Rose (D.faults disk.old) (D.faults disk.new) }
 {
-    // What a read gives has to be what a crash leaves, before anything rests on it.
-    disk.sync()?;
     let len = disk.len()?;
-    read_journal(alloc, disk, len)
+    sync_and_read(alloc, disk, len)
 }
