@@ -37,6 +37,12 @@ fn open(alloc: Global, bytes: &[u8]) -> Result<Opening, NoMemory> {
     Ok(Journal::open(alloc, sound_disk(alloc, bytes)?))
 }
 
+// The same where calls fail.
+fn open_failing(alloc: Global, bytes: &[u8], fails: &[u64]) -> Result<Opening, NoMemory> {
+    let failures = failures(alloc, fails, &[])?;
+    Ok(Journal::open(alloc, disk_of(alloc, bytes, failures)?))
+}
+
 fn found_in(opening: &Opening) -> Found {
     match opening {
         Ok((_, frames)) => Found::Frames(frames.len()),
@@ -70,6 +76,39 @@ fn disks_that_are_opened(rt: HostRuntime) -> Result<(), Fail> {
     for &(bytes, found) in &OPENED {
         tell_answer(&rt, rt.alloc(), bytes, found)?;
     }
+    Ok(())
+}
+
+// A disk, a call that fails, and what it is opened as. A disk that isn't blank is measured, synced and read; a blank
+// one is measured, written and synced.
+const FAILING_OPENINGS: [(&[u8], u64, Found); 8] = [
+    (b"\x01\0", 0, Found::Fault(OpenFault::Disk)),
+    (b"\x01\0", 1, Found::Fault(OpenFault::Disk)),
+    (b"\x01\0", 2, Found::Fault(OpenFault::Disk)),
+    (b"\x01\0", 3, Found::Frames(0)),
+    (b"", 0, Found::Fault(OpenFault::Disk)),
+    (b"", 1, Found::Fault(OpenFault::Disk)),
+    (b"", 2, Found::Fault(OpenFault::Disk)),
+    (b"", 3, Found::Frames(0)),
+];
+
+#[test]
+fn each_device_call_of_an_opening_fails(rt: HostRuntime) -> Result<(), Fail> {
+    for &(bytes, call, found) in &FAILING_OPENINGS {
+        tell_failing(&rt, rt.alloc(), bytes, call, found)?;
+    }
+    Ok(())
+}
+
+fn tell_failing(
+    rt: &impl Abort,
+    alloc: Global,
+    bytes: &[u8],
+    call: u64,
+    expected: Found,
+) -> Result<(), Fail> {
+    let opening = open_failing(alloc, bytes, &[call])?;
+    same(rt, found_in(&opening), expected);
     Ok(())
 }
 
@@ -291,8 +330,8 @@ fn append_and_reread(alloc: Global, journal: &mut Journal<MemoryDisk>) -> Result
     Ok((is_failed, is_loose, found, journal.is_loose()))
 }
 
-// Calls that fail, of which the first two are those of `open`, those of them that are done all the same, and what the
-// next reread finds.
+// Calls that fail, of which the first three are those of `open`, those of them that are done all the same, and what
+// the next reread finds.
 type Row = (&'static [u64], &'static [u64], Found);
 
 // Where these calls fail, the append does, and the next reread finds this.
@@ -308,12 +347,12 @@ fn failing_row(rt: &impl Abort, alloc: Global, row: Row) -> Result<(), Fail> {
 
 const FAILING_APPENDS: [Row; 7] = [
     (&[], &[], Found::Frames(1)),
-    (&[2], &[], Found::Frames(0)),
-    (&[2], &[2], Found::Frames(0)),
     (&[3], &[], Found::Frames(0)),
+    (&[3], &[3], Found::Frames(0)),
     (&[4], &[], Found::Frames(0)),
-    (&[4], &[4], Found::Frames(1)),
-    (&[5], &[], Found::Frames(1)),
+    (&[5], &[], Found::Frames(0)),
+    (&[5], &[5], Found::Frames(1)),
+    (&[6], &[], Found::Frames(1)),
 ];
 
 #[test]
@@ -325,9 +364,9 @@ fn each_device_call_of_an_append_fails(rt: HostRuntime) -> Result<(), Fail> {
 }
 
 const FAILING_REREADS: [Row; 3] = [
-    (&[5, 6], &[], Found::Fault(OpenFault::Disk)),
-    (&[5, 7], &[], Found::Fault(OpenFault::Disk)),
-    (&[5, 8], &[], Found::Fault(OpenFault::Disk)),
+    (&[6, 7], &[], Found::Fault(OpenFault::Disk)),
+    (&[6, 8], &[], Found::Fault(OpenFault::Disk)),
+    (&[6, 9], &[], Found::Fault(OpenFault::Disk)),
 ];
 
 #[test]
@@ -341,7 +380,7 @@ fn each_device_call_of_a_reread_fails(rt: HostRuntime) -> Result<(), Fail> {
 // A journal that was read again goes on with the frame that it found.
 #[test]
 fn an_append_after_a_reread(rt: HostRuntime) -> Result<(), Fail> {
-    let mut journal = opened(rt.alloc(), &[4], &[4])?;
+    let mut journal = opened(rt.alloc(), &[5], &[5])?;
     tell_going_on(&rt, rt.alloc(), &mut journal)?;
     tell_bytes(&rt, journal, &TWO);
     Ok(())
