@@ -1,7 +1,7 @@
 //! What a disk stands for, as a shard finds it when it is opened and when it is read again from nothing.
 ghost use Rattle.std.specs.Prelude.{◌≡◌, ◌<◌, ◌≤◌, ◌++◌, [], ◌∷◌, true, ℕ, length, IfErr, IfOk, IsErrOf, MatchResult, None, OnErr, OnOk};
 ghost use Rattle.ebl_base.specs.Faults.{Rose};
-ghost use Rattle.disk_model.specs.Disk.{LeavesOnly, Looked, Only};
+ghost use Rattle.disk_model.specs.Disk.{LeavesOnly, Looked};
 ghost use Rattle.transfer_judge.specs.Legal.{IsLegal};
 ghost use Rattle.bill_journal.specs.Places.{contents_of};
 ghost use Rattle.journaled_diary.specs.Contents.{IsJournalOf};
@@ -41,8 +41,7 @@ pub(crate) fn open<D: Disk, G: KeyRing>(
     ensures blank { D.tells disk ≡ true → D.seen disk ≡ [] → IfOk result (λ w. w.register.diary ≡ []) }
     ensures stands { D.tells disk ≡ true → 0 < length (D.seen disk)
         → IfOk result (λ w. IsJournalOf (D.seen disk) w.register.diary) }
-    ensures on_disk { D.tells disk ≡ true → (0 < length (D.seen disk) → Only (D.seen disk) (D.may_leave disk))
-        → IfOk result (λ w. IsOnDisk D.seen D.may_leave (written_view w)) }
+    ensures on_disk { D.tells disk ≡ true → IfOk result (λ w. IsOnDisk D.seen D.may_leave (written_view w)) }
     ensures nothing_written { D.tells disk ≡ true → 0 < length (D.seen disk)
         → MatchResult result (λ w. Looked D.seen D.may_leave D.moment D.left_since disk w.journal.disk)
         (λ r. Looked D.seen D.may_leave D.moment D.left_since disk r.0) }

@@ -8,7 +8,7 @@
 //! (3) After a call that failed the journal is read again before the next request is decided.
 ghost use Rattle.std.specs.Prelude.{◌≡◌, ◌⊎◌, ◌&&◌, ◌<◌, ◌≤◌, [], not, true, false, List, None, Option, ℕ, length, IfErr, IfOk, IsErrOf, IsTrue, MatchResult, OnErr, OnOk};
 ghost use Rattle.ebl_base.specs.Faults.{Rose};
-ghost use Rattle.disk_model.specs.Disk.{LeavesOnly, Looked, Only};
+ghost use Rattle.disk_model.specs.Disk.{LeavesOnly, Looked};
 ghost use Rattle.party_roster.specs.RosterForm.{IsRoster};
 ghost use Rattle.platform_requests.specs.Request.{request_view};
 ghost use Rattle.platform_requests.specs.declared.reply.Reply.TheVariants as replies;
@@ -76,8 +76,7 @@ impl<D: Disk, G: KeyRing> Model for JournaledShard<D, G> {
 
 impl<D: Disk, G: KeyRing> JournaledShard<D, G> {
     /// The shard of the platform `me` whose diary the disk stands for. A disk of length 0 is made a journal first;
-    /// another one is not written. On a disk that isn't blank nothing may be pending: a crash then leaves what a read
-    /// gives.
+    /// another one is synced and read, and not written.
     ///
     /// `Disk` comes only where the disk's count of faults rose. `Damaged` names the place where the disk is no journal,
     /// or the first frame that spells no record, may not follow those before it, or has no room behind them; a blank
@@ -90,8 +89,6 @@ impl<D: Disk, G: KeyRing> JournaledShard<D, G> {
         ring: G,
     ) -> Result<JournaledShard<D, G>, (D, G, OpenFault)>
         requires roster { IsRoster roster }
-        requires nothing_pending { D.tells disk ≡ true → 0 < length (D.seen disk)
-            → Only (D.seen disk) (D.may_leave disk) }
         ensures me { IfOk result (λ s. s.me ≡ me) }
         ensures roster { IfOk result (λ s. s.roster ≡ roster) }
         ensures ring { MatchResult result (λ s. s.ring ≡ ring) (λ r. r.1 ≡ ring) }
@@ -321,11 +318,14 @@ impl<D: Disk, G: KeyRing> JournaledShard<D, G> {
         (self.written.close(), self.ring)
     }
 
-    /// Hands out the disk, the ring and the diary.
+    /// Hands out the disk, the ring and the diary: what [`JournaledShard::close`] and [`JournaledShard::diary`] give.
     pub fn close_whole(self) -> (D, G, Diary)
         ensures disk { result.0 ≡ self.written.journal.disk }
         ensures ring { result.1 ≡ self.ring }
         ensures diary { result.2 ≡ self.written.diary }
+        ensures on_disk { D.tells self.written.journal.disk ≡ true → IsOnDisk D.seen D.may_leave self.written }
+        ensures legal { IsLegal self.roster (G.keys self.ring) self.me self.written.diary }
+        ensures room { HasRoom self.written.diary }
     {
         let (disk, diary) = self.written.close_whole();
         (disk, self.ring, diary)

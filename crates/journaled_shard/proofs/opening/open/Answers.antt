@@ -23,7 +23,7 @@ pub returns-in-Err-clause-not_blank : goal.returns-in-Err-clause-not_blank
 returns-in-Err-clause-not_blank g c = λ place tells is. (c.in-Err.ensures.damaged place tells is).0
 
 pub returns-in-Ok-read_register-clause-on_disk : goal.returns-in-Ok-read_register-clause-on_disk
-returns-in-Ok-read_register-clause-on_disk g c = λ tells pending.
+returns-in-Ok-read_register-clause-on_disk g c = λ tells.
     opened_on_disk g.D.Disk.seen g.D.Disk.may_leave
     (record {
       diary = c.in-Ok-read_register.register.diary;
@@ -32,7 +32,7 @@ returns-in-Ok-read_register-clause-on_disk g c = λ tells pending.
       journal = c.in-Ok.opened.0;
     }) (g.D.Disk.seen c.args.disk) (contents_of c.in-Ok.opened.1) c.in-Ok-read_register.ensures.ok.contents_are
     (λ blank. ap contents_of (c.in-Ok.ensures.blank tells blank)) (λ blank. c.in-Ok.ensures.fresh tells blank)
-    (λ some. c.in-Ok.ensures.settled tells some (pending some))
+    (λ some. c.in-Ok.ensures.settled tells some)
 
 pub returns-clause-not_blank : goal.returns-clause-not_blank
 returns-clause-not_blank g c = λ place tells is.
