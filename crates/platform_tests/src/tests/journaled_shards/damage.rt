@@ -97,7 +97,7 @@ fn another_platforms_journal(rt: HostRuntime) {
 
 #[test]
 fn a_disk_that_fails_at_the_opening(rt: HostRuntime) {
-    for call in 0..2 {
+    for call in 0..3 {
         let place = Place {
             code: "ALPH",
             bytes: NO_FRAMES,

@@ -5,15 +5,15 @@ use std::alloc::Global;
 use std::process::Abort;
 use std::test::Fail;
 
-// Which call of an append fails, behind the two of the opening; whether its bytes are written; and whether the frame is
-// then on the disk. The calls are the frame's bytes, a sync, its gate, a sync.
+// Which call of an append fails, behind the three of the opening; whether its bytes are written; and whether the frame
+// is then on the disk. The calls are the frame's bytes, a sync, its gate, a sync.
 const CALLS: [(u64, bool, bool); 6] = [
-    (2, false, false),
-    (2, true, false),
     (3, false, false),
+    (3, true, false),
     (4, false, false),
-    (4, true, true),
-    (5, false, true),
+    (5, false, false),
+    (5, true, true),
+    (6, false, true),
 ];
 
 // What a request writes, the answer to it, and the answer to the same request once its frame stands.
@@ -141,7 +141,7 @@ fn third_word(seen: &[Seen]) -> Option<&'static str> {
     }
 }
 
-// The reading is a sync, the length, and a read: each fails behind the call of an append.
+// The reading is the length, a sync, and a read: each fails behind the call of an append.
 fn tell_readings<R: Abort>(rt: &R, alloc: Global, scene: &Scene, first: &str, again: &str) {
     for &(call, leaves, stands) in &CALLS {
         let wanted = if stands { again } else { first };

@@ -26,7 +26,7 @@ type Shard = JournaledShard<MemoryDisk, KeyedRing>;
 pub(crate) const NO_FRAMES: &[u8] = &[1, 0];
 
 /// A platform's disk: its bytes, the calls that fail, counted from 0, and the writes among them that leave their bytes.
-/// The opening of a shard is the calls 0 and 1.
+/// The opening of a shard is the calls 0, 1 and 2.
 #[derive(Clone, Copy)]
 pub(crate) struct Place<'a> {
     pub(crate) code: &'static str,
