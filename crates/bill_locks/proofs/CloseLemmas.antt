@@ -114,7 +114,9 @@ module _ {T F X : Type 0} (fixed : T → X) (list : T → List F) (loose : T →
       passes = record {
         word_is = ap (λ (n : ℕ). get_or (words_of xs ++ 1 ∷ []) n 0) (homes_length xs) ∙ last_word xs;
         known = of_first (λ (v : View F X). v.known ≤ total (λ (u : View F X). u.stands) (first ∷ [])) (omega arith);
-        empty = of_first (λ (v : View F X). v.stands ≡ 0 → v.marks ≡ []) (λ _. refl);
+        empty = of_first (λ (v : View F X). v.stands ≡ 0 → (v.marks ≡ []) × (v.share ≡ 0))
+            (λ e. absurd (omega arith));
+        shares = omega arith;
         alone = of_first (λ (v : View F X). v.alone ≡ true → total (λ (u : View F X). u.stands) (first ∷ []) ≡ v.stands)
             (λ _. refl);
         opened = of_first (λ (v : View F X). 0 < v.stands → v.opened ≡ openings fixed list loose disk ring xs) (λ _. refl);
@@ -134,7 +136,7 @@ module _ {T F X : Type 0} (fixed : T → X) (list : T → List F) (loose : T →
         let sum = rule.passes.alone id v at alone in
         let two = total_two (λ (x : View F X). x.stands) s.views j id u v back.1 at ne in
         let none_left : u.stands ≡ 0 = omega arith in
-        sym back.2 ∙ (ap (look k) (rule.passes.empty j u back.1 none_left) ∙ look_nothing k)
+        sym back.2 ∙ (ap (look k) (rule.passes.empty j u back.1 none_left).0 ∙ look_nothing k)
 
     nobody_holds : (k j : ℕ) (m : Mark F) → get_elem? (column k s.views) j ≡ some m → m.held ≡ false
     nobody_holds k j m g = dite (ℕ_discrete j id)

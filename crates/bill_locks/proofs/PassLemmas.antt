@@ -1,5 +1,5 @@
 -- The passes' own part of the rule: what a step of one seat leaves of it.
-use Rattle.std.proofs.Common.{◌≡◌, ◌≢◌, ℕ, ◌+◌, ◌-◌, ◌<◌, ◌≤◌, ◌⊎◌, true, false, List, [], ◌∷◌, ◌++◌, set, sym, ap, subst, ◌∙◌, inl, inr, ⊎_elim, arith}
+use Rattle.std.proofs.Common.{◌≡◌, ◌≢◌, ℕ, ◌+◌, ◌-◌, ◌<◌, ◌≤◌, ◌⊎◌, true, false, max, List, [], ◌∷◌, ◌++◌, set, refl, sym, ap, subst, ◌∙◌, inl, inr, ⊎_elim, arith}
 use mathlib.Core.Option.{some}
 use lib.ListN.{get_elem?}
 use Rattle.atomic_table.proofs.Lists.{at_set, at_snoc, set_else}
@@ -7,18 +7,22 @@ use Rattle.bill_locks.specs.declared.view.Opened.{Opened}
 use Rattle.bill_locks.specs.declared.view.View.{View}
 use Rattle.bill_locks.specs.View.{counted, left_of, right_of, both_views, spent}
 use Rattle.bill_locks.specs.Rule.{total, Passes}
-use Rattle.bill_locks.proofs.Totals.{total_set, total_snoc, total_two, total_same}
+use Rattle.bill_locks.proofs.Totals.{total_one, total_set, total_snoc, total_two, total_same}
 
 module _ {F X : Type 0} (os : List (Opened X)) where
   abbrev pub stands_of : View F X → ℕ
   stands_of v = v.stands
 
+  abbrev pub share_of : View F X → ℕ
+  share_of v = v.share
+
   -- one pass is changed, and stands for as many passes as before
   pub set_passes : (n n' : ℕ) (views : List (View F X)) (i : ℕ) (v w : View F X) → Passes os n views
       → get_elem? views i ≡ some v → n' ≡ n
-      → 0 < v.stands → w.stands ≡ v.stands → w.opened ≡ v.opened → w.known ≤ total stands_of views
+      → 0 < v.stands → w.stands ≡ v.stands → w.opened ≡ v.opened → w.share ≡ v.share
+      → w.known ≤ total stands_of views
       → (w.alone ≡ true → total stands_of views ≡ w.stands) → Passes os n' (set views i w)
-  set_passes n n' views i v w h at word some_passes same opened known alone =
+  set_passes n n' views i v w h at word some_passes same opened share known alone =
       let sum : total stands_of (set views i w) ≡ total stands_of views = total_same stands_of views i v w at same in
       record {
         word_is = let a = h.word_is in omega arith;
@@ -28,6 +32,7 @@ module _ {F X : Type 0} (os : List (Opened X)) where
         empty = λ j x g. ⊎_elim
             (λ e z. let e1 : w.stands ≡ x.stands = ap stands_of e.1 in absurd (omega arith)) (λ e. h.empty j x e.1)
             (at_set views i j w x g);
+        shares = total_same share_of views i v w at share ∙ h.shares;
         alone = λ j x g. subst (λ (t : ℕ). x.alone ≡ true → t ≡ x.stands) (sym sum) (⊎_elim
             (λ e. subst (λ (y : View F X). y.alone ≡ true → total stands_of views ≡ y.stands) e.1 alone)
             (λ e. h.alone j x e.1) (at_set views i j w x g));
@@ -47,11 +52,13 @@ module _ {F X : Type 0} (os : List (Opened X)) where
         word_is = let a = h.word_is in omega arith;
         known = λ j x g. ⊎_elim
             (λ e. let k = h.known i v at in let s = sum in
-            let e1 : v.known ≡ x.known = ap (λ (y : View F X). y.known) e.1 in omega arith)
+            let mine = total_one stands_of views i v at in
+            let e1 : max v.known v.stands + 1 ≡ x.known = ap (λ (y : View F X). y.known) e.1 in omega arith)
             (λ e. let k = h.known j x e.1 in let s = sum in omega arith) (at_set views i j w x g);
         empty = λ j x g. ⊎_elim
             (λ e z. let e1 : v.stands + 1 ≡ x.stands = ap stands_of e.1 in absurd (omega arith)) (λ e. h.empty j x e.1)
             (at_set views i j w x g);
+        shares = total_same share_of views i v w at refl ∙ h.shares;
         alone = λ j x g is. ⊎_elim
             (λ e. let f : x.alone ≡ false = ap (λ (y : View F X). y.alone) (sym e.1) ∙ not_alone in let c = sym is ∙ f in
             cc)
@@ -86,6 +93,8 @@ module _ {F X : Type 0} (os : List (Opened X)) where
             (λ e z. let e1 : 1 ≡ x.stands = ap stands_of e in absurd (omega arith))
             (⊎_elim (λ e z. let e1 : v.stands - 1 ≡ x.stands = ap stands_of e in absurd (omega arith))
             (λ e. h.empty j x e)) (cases j x g);
+        shares = (let a = total_snoc share_of ls r in let b = total_set share_of views i v l at in
+            let all = h.shares in omega arith);
         alone = λ j x g. subst (λ (t : ℕ). x.alone ≡ true → t ≡ x.stands) (sym sum) (⊎_elim
             (λ e is. let f : x.alone ≡ false = ap (λ (y : View F X). y.alone) (sym e) in let c = sym is ∙ f in cc)
             (⊎_elim (λ e is. let f : x.alone ≡ false = ap (λ (y : View F X). y.alone) (sym e) ∙ not_alone in
@@ -117,9 +126,11 @@ module _ {F X : Type 0} (os : List (Opened X)) where
             (⊎_elim (λ e. subst (λ (y : View F X). y.known ≤ total stands_of views) e known_both) (λ e. h.known k x e))
             (cases k x g));
         empty = λ k x g. ⊎_elim
-            (λ e z. ap (λ (y : View F X). y.marks) (sym e))
+            (λ e z. (ap (λ (y : View F X). y.marks) (sym e), ap share_of (sym e)))
             (⊎_elim (λ e z. let e1 : v.stands + w.stands ≡ x.stands = ap stands_of e in absurd (omega arith))
             (λ e. h.empty k x e)) (cases k x g);
+        shares = (let p = total_set share_of bs j w spent there' in let q = total_set share_of views i v b at in
+            let all = h.shares in omega arith);
         alone = λ k x g. subst (λ (t : ℕ). x.alone ≡ true → t ≡ x.stands) (sym sum) (⊎_elim
             (λ e is. let f : x.alone ≡ false = ap (λ (y : View F X). y.alone) (sym e) in let c = sym is ∙ f in cc)
             (⊎_elim (λ e is. let f : x.alone ≡ false = ap (λ (y : View F X). y.alone) (sym e) in let c = sym is ∙ f in

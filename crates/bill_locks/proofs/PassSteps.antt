@@ -14,9 +14,9 @@ use Rattle.bill_locks.specs.declared.view.Mark.{Mark}
 use Rattle.bill_locks.specs.declared.view.Opened.{Opened}
 use Rattle.bill_locks.specs.declared.view.View.{View}
 use Rattle.bill_locks.specs.View.{blank, fresh, both_marks, times, unopened, mark_at, counted, knows_of_another, left_of, right_of, both_views, spent}
-use Rattle.bill_locks.specs.Rule.{total, column, Stands, Passes, Turning}
+use Rattle.bill_locks.specs.Rule.{total, Each, column, Stands, Passes, Turning}
 use Rattle.bill_locks.specs.Steps.{Counted, Fitted, Settled}
-use Rattle.bill_locks.proofs.Totals.{total_one}
+use Rattle.bill_locks.proofs.Totals.{total_one, total_only, total_two}
 use Rattle.bill_locks.proofs.Marks.{look_map, look_merged, look_nothing}
 use Rattle.bill_locks.proofs.Columns.{fork_moves, fork_begins, fork_numbered, join_moves, join_begins, join_numbered, free_moves, out_moves}
 use Rattle.bill_locks.proofs.PassLemmas.{set_passes, counted_passes, split_passes, joined_passes}
@@ -115,13 +115,17 @@ module _ {T F X : Type 0} (fixed : T → X) (list : T → List F) (loose : T →
         (λ e.
         let w : View F X = record me.0 { alone = true } in
         let known = p.known id me.0 at in
-        let sum = p.word_is in (
+        let sum = p.word_is in
+        let others_none : Each (λ j u. j ≢ id → u.share ≡ 0) s.views = λ j u there apart.
+        let two = total_two (λ (x : View F X). x.stands) s.views j id u me.0 there at apart in
+        (p.empty j u there (omega arith)).1 in
+        let mine = total_only (λ (x : View F X). x.share) s.views id me.0 at others_none in (
           w,
           keeps,
           tt,
           after_last s rule sized at n w (λ j. refl)
-              (set_passes os n n s.views id me.0 w p at refl some_passes refl refl known (λ _. omega arith)),
-          record { alone = λ _. (refl, omega arith); others = λ ne. absurd (ne e) },
+              (set_passes os n n s.views id me.0 w p at refl some_passes refl refl refl known (λ _. omega arith)),
+          record { alone = λ _. (refl, omega arith, sym mine ∙ p.shares); others = λ ne. absurd (ne e) },
         ))
         (λ ne.
         let w : View F X = knows_of_another me.0 in
@@ -131,7 +135,7 @@ module _ {T F X : Type 0} (fixed : T → X) (list : T → List F) (loose : T →
           keeps,
           tt,
           after_last s rule sized at n w (λ j. refl)
-              (set_passes os n n s.views id me.0 w p at refl some_passes refl refl
+              (set_passes os n n s.views id me.0 w p at refl some_passes refl refl refl
               (known_or_more s rule sized at some_passes (λ c. ne (sym c)))
               (λ e. let c = sym e ∙ not_alone in absurd (cc))),
           record { alone = λ e. absurd (ne e); others = λ _. (refl, omega arith) },

@@ -42,7 +42,7 @@ module _ {F X : Type 0} where
     where
       by_count : (c : ℕ) → v.stands ≡ c → 0 < v.stands
       by_count zero e =
-          let none_there : v.marks ≡ [] = h.empty i v at e in
+          let none_there : v.marks ≡ [] = (h.empty i v at e).0 in
           let f : (mark_at k v).held ≡ false = ap (λ (l : List (Mark F)). (look k l).held) none_there
           ∙ ap (λ (m : Mark F). m.held) (look_nothing k) in
           let c = sym holds ∙ f in cc

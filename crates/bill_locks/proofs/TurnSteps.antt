@@ -77,7 +77,7 @@ module _ {T F X : Type 0} (fixed : T → X) (list : T → List F) (loose : T →
           (subst (λ (x : Mark F). Stands fixed list loose disk ring o n' (get_elem? homes' k) (set marks id x))
           (sym (look_here k m me.0.marks)) stands)
           (set_passes os (get_or s.words (length s.homes) 0) (get_or s.words (length s.homes) 0) s.views id me.0
-          (with_mark k m me.0) rule.passes at refl some_passes refl refl
+          (with_mark k m me.0) rule.passes at refl some_passes refl refl refl
           (rule.passes.known id me.0 at) (λ e. let c = sym e ∙ not_alone in absurd (cc)))
 
       abbrev TriesTo : Type 0
@@ -124,7 +124,7 @@ module _ {T F X : Type 0} (fixed : T → X) (list : T → List F) (loose : T →
                 (subst (λ (c : List (Mark F)). Stands fixed list loose disk ring o word (get_elem? s.homes k) c)
                 (sym (set_again marks id mine mark_there)) (rule.turns k inside)))
                 (set_passes os (get_or s.words (length s.homes) 0) (get_or s.words (length s.homes) 0) s.views id me.0
-                w rule.passes at refl some_passes refl refl
+                w rule.passes at refl some_passes refl refl refl
                 (another_is_out os (get_or s.words (length s.homes) 0) k s.views id h me.0 m rule.passes at idle
                 out.seat out.holds)
                 (λ e. let c = sym e ∙ not_alone in absurd (cc))),

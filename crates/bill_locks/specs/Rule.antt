@@ -10,7 +10,7 @@ use Rattle.ebl_base.specs.Faults.{RoseBy}
 use Rattle.bill_locks.specs.declared.view.Mark.{Mark}
 use Rattle.bill_locks.specs.declared.view.Opened.{Opened}
 use Rattle.bill_locks.specs.declared.view.View.{View}
-use Rattle.bill_locks.specs.View.{one_if, times, unopened, mark_at}
+use Rattle.bill_locks.specs.View.{one_if, times, unopened, mark_at, whole}
 
 -- a number of each item, added up
 abbrev pub total : {A : Type 0} → (A → ℕ) → List A → ℕ
@@ -83,11 +83,13 @@ module _ {T F X : Type 0} (fixed : T → X) (list : T → List F) (loose : T →
     pub numbers : Numbered o marks
 
 -- The last word counts the passes for which all seats stand. No pass knows of more, one that stands for none knows
--- nothing, one that is alone stands for all, and each knows the values as they were opened
+-- nothing and has no share, one that is alone stands for all, and each knows the values as they were opened. All shares
+-- together are the whole
 pub record Passes {F X : Type 0} (os : List (Opened X)) (word : ℕ) (views : List (View F X)) : Type 0 where
   pub word_is : word ≡ total (λ v. v.stands) views
   pub known : Each (λ i v. v.known ≤ total (λ u. u.stands) views) views
-  pub empty : Each (λ i v. v.stands ≡ 0 → v.marks ≡ []) views
+  pub empty : Each (λ i v. v.stands ≡ 0 → (v.marks ≡ []) × (v.share ≡ 0)) views
+  pub shares : total (λ v. v.share) views ≡ whole
   pub alone : Each (λ i v. v.alone ≡ true → total (λ u. u.stands) views ≡ v.stands) views
   pub opened : Each (λ i v. 0 < v.stands → v.opened ≡ os) views
 

@@ -6,7 +6,7 @@ use Rattle.atomic_table.specs.Table.{Me, Step}
 use Rattle.bill_locks.specs.declared.view.Mark.{Mark}
 use Rattle.bill_locks.specs.declared.view.View.{View}
 use Rattle.bill_locks.specs.declared.job.Told.{Told}
-use Rattle.bill_locks.specs.View.{one_if, times, opened_at, mark_at, with_mark, knows_of_another, counted}
+use Rattle.bill_locks.specs.View.{one_if, times, opened_at, mark_at, with_mark, knows_of_another, counted, whole}
 
 -- the mark after a turn that left this list and whose answer reported this
 abbrev pub after_turn : {F : Type 0} → Mark F → List F → Told → Mark F
@@ -87,4 +87,5 @@ module _ {S F X : Type 0} where
   -- the load of the last word at the closing
   pub record Settled (st : Step S) (v : Me S (View F X)) (n : ℕ) (w : Me S (View F X)) : Type 0 where
     pub alone : n ≡ v.0.stands → (w ≡ (record v.0 { alone = true }, v.1)) × (v.0.known ≤ v.0.stands)
+        × (v.0.share ≡ whole)
     pub others : n ≢ v.0.stands → (w ≡ (knows_of_another v.0, v.1)) × (v.0.stands < n)

@@ -1,5 +1,5 @@
 -- What a pass knows, as plain data: a mark for each value, read and written by the value's place.
-use Rattle.std.specs.Prelude.{ℕ, zero, suc, ◌+◌, ◌-◌, Bool, true, false, List, [], ◌∷◌, ◌++◌, length, map, slice_index_or, max, None, if◌then◌else◌, nat_lt, ◌==◌}
+use Rattle.std.specs.Prelude.{ℕ, zero, suc, ◌+◌, ◌-◌, ◌/◌, ◌^◌, Bool, true, false, List, [], ◌∷◌, ◌++◌, length, map, slice_index_or, max, None, if◌then◌else◌, nat_lt, ◌==◌}
 use Rattle.bill_locks.specs.declared.view.Mark.{Mark}
 use Rattle.bill_locks.specs.declared.view.Opened.{Opened}
 use Rattle.bill_locks.specs.declared.view.View.{View}
@@ -92,30 +92,41 @@ module _ {F : Type 0} where
   merged (m ∷ ms) [] = map (λ a. both_marks a blank) (m ∷ ms)
   merged (m ∷ ms) (n ∷ ns) = both_marks m n ∷ merged ms ns
 
+-- the whole table, of which each pass has a share
+abbrev pub whole : ℕ
+whole = 2 ^ 63
+
 module _ {F X : Type 0} where
   -- the first pass at the opening
   abbrev pub first_view : List (Opened X) → View F X
-  first_view os = record { marks = []; opened = os; stands = 1; known = 1; alone = false }
+  first_view os = record { marks = []; opened = os; stands = 1; known = 1; share = whole; alone = false }
 
   -- a pass that was joined to another
   abbrev pub spent : View F X
-  spent = record { marks = []; opened = []; stands = 0; known = 0; alone = false }
+  spent = record { marks = []; opened = []; stands = 0; known = 0; share = 0; alone = false }
 
   -- it knows of a pass more than it stands for
   abbrev pub knows_of_another : View F X → View F X
   knows_of_another v = record v { known = max v.known (v.stands + 1) }
 
-  -- it stands for one pass more
+  -- it knows of a new pass, one more than it knew of and than it stood for, and stands for it
   abbrev pub counted : View F X → View F X
-  counted v = record v { stands = v.stands + 1 }
+  counted v = record v { stands = v.stands + 1; known = max v.known v.stands + 1 }
 
-  -- what is left of a view of which a pass was cut off
+  -- what is left of a view of which a pass was cut off, with half of the share
   abbrev pub left_of : View F X → View F X
-  left_of v = record v { stands = v.stands - 1 }
+  left_of v = record v { stands = v.stands - 1; share = v.share - v.share / 2 }
 
-  -- the pass that was cut off
+  -- the pass that was cut off, with the other half
   abbrev pub right_of : View F X → View F X
-  right_of v = record { marks = map fresh v.marks; opened = v.opened; stands = 1; known = v.known; alone = false }
+  right_of v = record {
+    marks = map fresh v.marks;
+    opened = v.opened;
+    stands = 1;
+    known = v.known;
+    share = v.share / 2;
+    alone = false;
+  }
 
   -- two passes in one
   abbrev pub both_views : View F X → View F X → View F X
@@ -124,5 +135,6 @@ module _ {F X : Type 0} where
     opened = v.opened;
     stands = v.stands + w.stands;
     known = max v.known w.known;
+    share = v.share + w.share;
     alone = false;
   }

@@ -1,7 +1,7 @@
 //! The steps of a seat at the table: each changes one word, or nothing, and what the seat knows.
 ghost use Rattle.std.specs.Prelude.{◌≡◌, ◌≢◌, ◌+◌, ◌*◌, ◌<◌, ◌≤◌, ◌^◌, [], ◌∷◌, true, false, ℕ, length, take, Some, None, MatchOption, IfOk, IfErr, OnOk, OnErr};
 ghost use mathlib.Core.List.{IsPrefix};
-ghost use Rattle.bill_locks.specs.View.{mark_at, opened_at, with_mark, knows_of_another, counted, left_of, right_of, both_views};
+ghost use Rattle.bill_locks.specs.View.{mark_at, opened_at, with_mark, knows_of_another, counted, left_of, right_of, both_views, whole};
 ghost use Rattle.bill_locks.specs.Pass.{Rests};
 ghost use Rattle.bill_locks.specs.Steps.{held_mark, after_turn, with_front, Grown, IsJoined};
 ghost use Rattle.bill_locks.specs.Turn.{Turned};
@@ -186,6 +186,7 @@ pub fn is_alone<T: Grows>(table: &Shared<T>, seat: &mut Seat<T>, last: usize, st
     ensures of { seat.new.table_id ≡ seat.old.table_id }
     ensures alone { result ≡ true → seat.new.me ≡ (record seat.old.me.0 { alone = true }, []) }
     ensures known { result ≡ true → seat.old.me.0.known ≤ seat.old.me.0.stands }
+    ensures whole { result ≡ true → seat.old.me.0.share ≡ whole }
     ensures others { result ≡ false → seat.new.me ≡ (knows_of_another seat.old.me.0, []) }
 {
     table.load::<Settle>(seat, last) == stands

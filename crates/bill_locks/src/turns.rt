@@ -1,7 +1,7 @@
 //! The table of values under turns, and its calls.
-ghost use Rattle.std.specs.Prelude.{◌≡◌, ◌<◌, ◌≤◌, ◌^◌, ◌+◌, [], ℕ, true, false, All, List, length, map, take, max, Ok, Err, IfOk, IfErr, OnOk, IsErrOf, vec_len, slice_get, Some};
+ghost use Rattle.std.specs.Prelude.{◌≡◌, ◌<◌, ◌≤◌, ◌^◌, ◌+◌, [], ℕ, true, false, All, List, length, map, take, max, Ok, Err, IfOk, IfErr, OnOk, OnErr, IsErrOf, vec_len, slice_get, Some};
 ghost use mathlib.Core.List.{IsPrefix};
-ghost use Rattle.bill_locks.specs.View.{mark_at, opened_at, with_mark, first_view, knows_of_another, right_of};
+ghost use Rattle.bill_locks.specs.View.{mark_at, opened_at, with_mark, counted, first_view, knows_of_another, left_of, right_of, whole};
 ghost use Rattle.bill_locks.specs.Rule.{openings};
 ghost use Rattle.bill_locks.specs.Steps.{with_front};
 ghost use Rattle.bill_locks.specs.Turn.{Turned, JoinsMarks, HandedOut};
@@ -63,8 +63,8 @@ impl<T: Grows + Drop> Turns<T> {
 
     /// Tries the turn of the value at `at` once, and does the job in it.
     ///
-    /// `Busy` comes if and only if the turn was out with another pass at that moment, and hands the job back. From
-    /// then on this pass knows of more passes than it stands for. It waits for nobody.
+    /// `Busy` comes only if the turn was out with another pass at that moment, and hands the job back. From then on
+    /// this pass knows of more passes than it stands for. It waits for nobody.
     pub fn try_turn<J: Job<T>>(
         &self,
         pass: &mut Pass<T>,
@@ -105,14 +105,19 @@ impl<T: Grows + Drop> Turns<T> {
         look(&self.table.shared, &mut pass.seat, at)
     }
 
-    /// Makes another pass, which has seen what this one has, and made nothing.
+    /// Makes another pass, which has seen what this one has, and made nothing. Each then has half of the share that
+    /// this one had, and knows of more passes than it stands for.
     ///
     /// `NoMemory` comes where 2^64 - 1 passes were made, or where other threads made one at each of as many tries.
     pub fn split(&self, pass: &mut Pass<T>) -> Result<Pass<T>, NoMemory>
         requires of { pass.old.table ≡ self.now }
-        ensures same { pass.new ≡ pass.old }
-        ensures of { IfOk result (λ p. p.table ≡ pass.old.table) }
-        ensures made { IfOk result (λ p. p.knows ≡ right_of pass.old.knows) }
+        ensures of { pass.new.table ≡ pass.old.table }
+        ensures other { IfOk result (λ p. p.table ≡ pass.old.table) }
+        ensures parts { IfOk result (λ _. pass.new.knows ≡ left_of (counted pass.old.knows)) }
+        ensures made { IfOk result (λ p. p.knows ≡ right_of (counted pass.old.knows)) }
+        ensures another { IfOk result (λ p. (pass.new.knows.stands < pass.new.knows.known)
+            × (p.knows.stands < p.knows.known)) }
+        ensures no_memory { OnErr result (pass.new ≡ pass.old) }
     {
         let last = self.table.slot_count();
         count(&self.table.shared, &mut pass.seat, last)?;
@@ -129,6 +134,7 @@ impl<T: Grows + Drop> Turns<T> {
             → JoinsMarks (mark_at k into.old.knows) (mark_at k from.knows) (mark_at k into.new.knows) }
         ensures stands { into.new.knows.stands ≡ into.old.knows.stands + from.knows.stands }
         ensures known { into.new.knows.known ≡ max into.old.knows.known from.knows.known }
+        ensures share { into.new.knows.share ≡ into.old.knows.share + from.knows.share }
         ensures opened { into.new.knows.opened ≡ into.old.knows.opened }
     {
         let Pass { seat, stands } = from;
@@ -137,10 +143,11 @@ impl<T: Grows + Drop> Turns<T> {
         into.stands += stands;
     }
 
-    /// Takes the values out, in their order, if `last` stands for all passes that were made.
+    /// Takes the values out, in their order, if `last` stands for all passes that were made: then it has the whole
+    /// table, and no other pass a share of it.
     ///
-    /// `Passes` comes if and only if another pass is out. After either fault everything is as before, except that the
-    /// pass then knows that another is out.
+    /// `Passes` comes only if another pass is out. After either fault everything is as before, except that the pass
+    /// then knows that another is out.
     pub fn close(self, last: Pass<T>) -> Result<Vec<T>, (Turns<T>, Pass<T>, CloseFault)>
         requires of { last.table ≡ self }
         ensures count { IfOk result (λ xs. vec_len xs ≡ self.slots) }
@@ -148,6 +155,7 @@ impl<T: Grows + Drop> Turns<T> {
             × HandedOut T.fixed T.list T.loose T.disk T.ring
             (opened_at k last.knows) (mark_at k last.knows) x) }
         ensures alone { IfOk result (λ _. last.knows.known ≤ last.knows.stands) }
+        ensures whole { IfOk result (λ _. last.knows.share ≡ whole) }
         ensures turns { IfErr result (λ r. r.0 ≡ self) }
         ensures of { IfErr result (λ r. r.1.table ≡ last.table) }
         ensures passes { IfErr result (λ r. r.2 ≡ CloseFault.Passes → r.1.knows ≡ knows_of_another last.knows) }

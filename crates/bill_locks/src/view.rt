@@ -45,6 +45,8 @@ pub struct View<F, X> {
     pub stands: u64,
     /// How many passes it knows to have been made.
     pub known: u64,
+    /// Its share of the table. All passes together have the whole, which is 2^63.
+    pub share: u64,
     /// No other pass is out.
     pub alone: bool,
 }
