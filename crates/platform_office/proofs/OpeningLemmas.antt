@@ -35,16 +35,16 @@ use Rattle.platform_office.proofs.BesideLemmas.{all_at, beside_at, beside_long, 
 module _ {D G : Type 0} (tells : D → Bool) (seen : D → List ℕ) (disk_faults : D → ℕ) (me : PlatformCode)
     (roster : RosterRecord) where
   abbrev Back : Rack D G → Rack D G → Type 0
-  Back = IsBack tells disk_faults
+  Back = IsBack tells seen disk_faults
 
   back_itself : (x : Rack D G) → Back x x
-  back_itself x = record { ring = refl; told = refl; later = omega arith }
+  back_itself x = record { ring = refl; told = refl; same = λ _ _. refl; later = omega arith }
 
   abbrev Opens : ℕ → Rack D G → OfficeShardRecord D G → Type 0
   Opens = IsOpened tells seen disk_faults me roster
 
   opened_back : (k : ℕ) (x : Rack D G) (s : OfficeShardRecord D G) → Opens k x s → Back x (rack_of s)
-  opened_back k x s is = record { ring = is.ring; told = is.told; later = is.later }
+  opened_back k x s is = record { ring = is.ring; told = is.told; same = is.same; later = is.later }
 
   -- ---- one rack after the other
 
@@ -98,7 +98,7 @@ module _ {D G : Type 0} (tells : D → Bool) (seen : D → List ℕ) (disk_fault
   -- where a rack is refused, all are back
   pub all_back : (given front rest : List (Rack D G)) (opened : List (OfficeShardRecord D G)) (x y : Rack D G)
       → given ≡ front ++ x ∷ rest → Beside Opens 0 front opened → Back x y
-      → AreBack tells disk_faults given (map rack_of opened ++ y ∷ rest)
+      → AreBack tells seen disk_faults given (map rack_of opened ++ y ∷ rest)
   all_back given front rest opened x y parts beside is =
       subst (λ (l : List (Rack D G)). AllZip Back l (map rack_of opened ++ y ∷ rest)) (sym parts)
       (zip_append Back front (x ∷ rest) (map rack_of opened) (y ∷ rest)
@@ -130,9 +130,9 @@ module _ {D G : Type 0} (tells : D → Bool) (seen : D → List ℕ) (disk_fault
   -- the same of the racks that come back
   pub racks_back : (given rest left back : List (Rack D G)) (opened : List (OfficeShardRecord D G)) (x y : Rack D G)
       → AreOpened given opened rest → rest ≡ left ++ x ∷ [] → back ≡ map rack_of opened ++ y ∷ reverse left → Back x y
-      → AreBack tells disk_faults given back
+      → AreBack tells seen disk_faults given back
   racks_back given rest left back opened x y so popped is same =
-      subst (AreBack tells disk_faults given) (sym is)
+      subst (AreBack tells seen disk_faults given) (sym is)
       (all_back given so.front (reverse left) opened x y (next_parts given rest left opened x so popped) so.beside same)
 
   pub rack_refused : (keys : G → Keys) (given rest left back : List (Rack D G)) (opened : List (OfficeShardRecord D G))
@@ -327,15 +327,18 @@ module _ {D G : Type 0} where
       (roster : RosterRecord) (k : ℕ) (rack : Rack D G) (s : OfficeShardRecord D G) → s.shard.me ≡ me
       → s.shard.roster ≡ roster → s.number ≡ k → s.rack ≡ rack → s.shard.ring ≡ rack.ring
       → tells s.shard.written.journal.disk ≡ tells rack.disk
+      → (tells rack.disk ≡ true → 0 < length (seen rack.disk)
+      → seen s.shard.written.journal.disk ≡ seen rack.disk)
       → disk_faults rack.disk ≤ disk_faults s.shard.written.journal.disk → IsRead s.shard.written
       → (tells rack.disk ≡ true → seen rack.disk ≡ [] → s.shard.written.diary ≡ [])
       → (tells rack.disk ≡ true → 0 < length (seen rack.disk) → IsJournalOf (seen rack.disk) s.shard.written.diary)
       → IsOpened tells seen disk_faults me roster k rack s
-  opened_so tells seen disk_faults me roster k rack s me_is roster_is number rack_is ring told later read blank journal
-      = record {
+  opened_so tells seen disk_faults me roster k rack s me_is roster_is number rack_is ring told same later read blank
+      journal = record {
         post = same_post s.shard.me me s.shard.roster roster s.number k s.rack rack me_is roster_is number rack_is;
         ring = ring;
         told = told;
+        same = same;
         later = later;
         read = read;
         stands = record { blank = blank; journal = journal };

@@ -63,15 +63,18 @@ abbrev pub NothingIsPending : {D G : Type 0} → (D → Bool) → (D → List �
 NothingIsPending tells seen may_leave rack =
     tells rack.disk ≡ true → 0 < length (seen rack.disk) → Only (seen rack.disk) (may_leave rack.disk)
 
--- a rack as it comes back: its own ring, and its disk, whose count of faults may have risen
-pub record IsBack {D G : Type 0} (tells : D → Bool) (disk_faults : D → ℕ) (given back : Rack D G) : Type 0 where
+-- a rack as it comes back: its own ring, and its disk, whose count of faults may have risen. A disk that tells and
+-- wasn't blank has the bytes that it had
+pub record IsBack {D G : Type 0} (tells : D → Bool) (seen : D → List ℕ) (disk_faults : D → ℕ) (given back : Rack D G)
+    : Type 0 where
   pub ring : back.ring ≡ given.ring
   pub told : tells back.disk ≡ tells given.disk
+  pub same : tells given.disk ≡ true → 0 < length (seen given.disk) → seen back.disk ≡ seen given.disk
   pub later : disk_faults given.disk ≤ disk_faults back.disk
 
 -- racks in the order in which they were given
-abbrev pub AreBack : {D G : Type 0} → (D → Bool) → (D → ℕ) → List (Rack D G) → List (Rack D G) → Type 0
-AreBack tells disk_faults given back = AllZip (IsBack tells disk_faults) given back
+abbrev pub AreBack : {D G : Type 0} → (D → Bool) → (D → List ℕ) → (D → ℕ) → List (Rack D G) → List (Rack D G) → Type 0
+AreBack tells seen disk_faults given back = AllZip (IsBack tells seen disk_faults) given back
 
 module _ {D G : Type 0} (tells : D → Bool) (seen : D → List ℕ) (disk_faults : D → ℕ) (me : PlatformCode)
     (roster : RosterRecord) where
@@ -84,6 +87,8 @@ module _ {D G : Type 0} (tells : D → Bool) (seen : D → List ℕ) (disk_fault
     pub post : post_of s ≡ post_at_rack k rack
     pub ring : s.shard.ring ≡ rack.ring
     pub told : tells s.shard.written.journal.disk ≡ tells rack.disk
+    pub same : tells rack.disk ≡ true → 0 < length (seen rack.disk)
+        → seen s.shard.written.journal.disk ≡ seen rack.disk
     pub later : disk_faults rack.disk ≤ disk_faults s.shard.written.journal.disk
     pub read : IsRead s.shard.written
     pub stands : StandsFor tells seen rack.disk s.shard.written.diary

@@ -21,8 +21,9 @@ use run_safety::steps_write_in_the_shard_of_their_request;
 use signed_envelope::KeyRing;
 use std::alloc::Global;
 
-// A shard with as many frames takes no request: with a loose frame and the request's own they could still be counted.
-const FRAMES: usize = 4_294_967_293;
+/// A shard with more frames isn't opened, and one with as many takes no request: with a loose frame and the request's
+/// own they could still be counted.
+pub(crate) const FRAMES: usize = 4_294_967_293;
 
 /// A request at the shard of this number, which is the request's.
 pub(crate) fn ask<D: Disk, G: KeyRing>(

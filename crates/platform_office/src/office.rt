@@ -5,7 +5,7 @@ ghost use Rattle.party_roster.specs.RosterForm.{IsRoster};
 ghost use Rattle.platform_requests.specs.Request.{request_view};
 ghost use Rattle.platform_requests.specs.Shard.{shard_of};
 ghost use Rattle.transfer_core.specs.Shard.{is_own_party};
-ghost use Rattle.bill_locks.specs.View.{mark_at, first_view, knows_of_another, right_of, with_mark};
+ghost use Rattle.bill_locks.specs.View.{counted, mark_at, first_view, knows_of_another, left_of, right_of, whole, with_mark};
 ghost use Rattle.bill_locks.specs.Steps.{with_front};
 ghost use Rattle.bill_locks.specs.Turn.{JoinsMarks, Turned};
 ghost use Rattle.platform_office.specs.Answered.{told_by};
@@ -82,7 +82,7 @@ impl<D: Disk + Drop, G: KeyRing + Drop> Office<D, G> {
         ensures opened { IfOk result (λ r.
             Beside (IsKnown D.tells D.seen D.faults me roster G.faults) 0 racks.items r.1.knows.opened) }
         ensures back { IfErr result
-            (λ r. r.1 ≢ opening.NoMemory → AreBack D.tells D.faults racks.items r.0.items) }
+            (λ r. r.1 ≢ opening.NoMemory → AreBack D.tells D.seen D.faults racks.items r.0.items) }
         ensures refused { IfErr result (λ r. IsRefusal D.tells D.seen D.faults me roster G.keys racks.items r.0.items
             r.1) }
     {
@@ -105,8 +105,8 @@ impl<D: Disk + Drop, G: KeyRing + Drop> Office<D, G> {
 
     /// Serves a request at its shard, if that shard's turn is free at this moment. It waits for nobody.
     ///
-    /// `Busy` comes if and only if the turn was out with another pass, and hands the request back; from then on this
-    /// pass knows of more passes than it stands for. `NoMemory` comes before a shard is tried, and nothing changed.
+    /// `Busy` comes only if the turn was out with another pass, and hands the request back; from then on this pass
+    /// knows of more passes than it stands for. `NoMemory` comes before the shard is tried, and nothing changed.
     pub fn try_take(
         &self,
         alloc: Global,
@@ -128,6 +128,33 @@ impl<D: Disk + Drop, G: KeyRing + Drop> Office<D, G> {
         let Ok(shard) = shard_of(alloc, &request) else {
             return Err(TryFault::NoMemory);
         };
+        match self.try_at(alloc, pass, now, shard, request) {
+            Ok(served) => Ok(served),
+            Err(request) => Err(TryFault::Busy(request)),
+        }
+    }
+
+    // Serves a request at its shard, which has this number, if that shard's turn is free at this moment. Where another
+    // pass has it, the request comes back.
+    fn try_at(
+        &self,
+        alloc: Global,
+        pass: &mut Pass<D, G>,
+        now: Moment,
+        shard: u32,
+        request: Request,
+    ) -> Result<Served, Request>
+        requires of { IsPassOf self.now pass.old }
+        requires may { MayBeServed now (request_view request) }
+        requires goes { shard_of (request_view request) ≡ shard }
+        requires place { shard < 16 }
+        ensures of { IsPassOf self.now pass.new }
+        ensures shard { IfOk result (λ s. s.shard ≡ shard) }
+        ensures turned { IfOk result (λ s. Turned s.shard (told_by s) pass.old.knows pass.new.knows) }
+        ensures served { IfOk result (λ s. IsServedAt D.tells G.keys pass.new.knows now (request_view request) s) }
+        ensures busy { IfErr result (λ r. (r ≡ request) × (pass.new.knows ≡ knows_of_another pass.old.knows)
+            × (pass.new.knows.stands < pass.new.knows.known)) }
+    {
         let job = Ask {
             alloc,
             shard,
@@ -136,13 +163,13 @@ impl<D: Disk + Drop, G: KeyRing + Drop> Office<D, G> {
         };
         match self.turns.try_turn(pass, shard as usize, job) {
             Ok(served) => Ok(served),
-            Err(busy) => Err(TryFault::Busy(busy.job.request)),
+            Err(busy) => Err(busy.job.request),
         }
     }
 
     /// Serves a request at its shard: tries until it has that shard's turn. It waits as long as others have it.
     ///
-    /// `NoMemory` comes before a shard is tried.
+    /// `NoMemory` comes before the shard is tried, and nothing changed.
     pub fn take<R: Wait>(
         &self,
         rt: &R,
@@ -158,14 +185,16 @@ impl<D: Disk + Drop, G: KeyRing + Drop> Office<D, G> {
         ensures turned { IfOk result (λ s. (knows : Knows D G) × KnowsOfMore pass.old.knows knows
             × Turned s.shard (told_by s) knows pass.new.knows) }
         ensures served { IfOk result (λ s. IsServedAt D.tells G.keys pass.new.knows now (request_view request) s) }
-        ensures no_memory { OnErr result (KnowsOfMore pass.old.knows pass.new.knows) }
+        ensures no_memory { OnErr result (pass.new.knows ≡ pass.old.knows) }
     {
+        let Ok(shard) = shard_of(alloc, &request) else {
+            return Err(NoMemory);
+        };
         let mut asked = request;
         for _ in rt.forever() {
-            match self.try_take(alloc, pass, now, asked) {
+            match self.try_at(alloc, pass, now, shard, asked) {
                 Ok(served) => return Ok(served),
-                Err(TryFault::Busy(request)) => asked = request,
-                Err(TryFault::NoMemory) => return Err(NoMemory),
+                Err(request) => asked = request,
             }
             yield_now();
         }
@@ -186,14 +215,19 @@ impl<D: Disk + Drop, G: KeyRing + Drop> Office<D, G> {
         self.turns.seen(pass, shard)
     }
 
-    /// Makes another pass, which has seen what this one has, and made nothing.
+    /// Makes another pass, which has seen what this one has, and made nothing. Each then has half of the share that
+    /// this one had, and knows of more passes than it stands for.
     ///
     /// `NoMemory` comes where 2^64 - 1 passes were made, or where other threads made one at each of as many tries.
     pub fn split(&self, pass: &mut Pass<D, G>) -> Result<Pass<D, G>, NoMemory>
         requires of { IsPassOf self.now pass.old }
-        ensures same { pass.new ≡ pass.old }
-        ensures of { IfOk result (λ p. IsPassOf self.now p) }
-        ensures made { IfOk result (λ p. p.knows ≡ right_of pass.old.knows) }
+        ensures of { IsPassOf self.now pass.new }
+        ensures other { IfOk result (λ p. IsPassOf self.now p) }
+        ensures parts { IfOk result (λ _. pass.new.knows ≡ left_of (counted pass.old.knows)) }
+        ensures made { IfOk result (λ p. p.knows ≡ right_of (counted pass.old.knows)) }
+        ensures another { IfOk result (λ p. (pass.new.knows.stands < pass.new.knows.known)
+            × (p.knows.stands < p.knows.known)) }
+        ensures no_memory { OnErr result (pass.new ≡ pass.old) }
     {
         self.turns.split(pass)
     }
@@ -207,16 +241,17 @@ impl<D: Disk + Drop, G: KeyRing + Drop> Office<D, G> {
             → JoinsMarks (mark_at k into.old.knows) (mark_at k from.knows) (mark_at k into.new.knows) }
         ensures stands { into.new.knows.stands ≡ into.old.knows.stands + from.knows.stands }
         ensures known { into.new.knows.known ≡ max into.old.knows.known from.knows.known }
+        ensures share { into.new.knows.share ≡ into.old.knows.share + from.knows.share }
         ensures opened { into.new.knows.opened ≡ into.old.knows.opened }
     {
         self.turns.join(into, from);
     }
 
-    /// Closes the office, if `last` stands for all passes that were made: hands out the racks and the diaries, in the
-    /// order of the shards.
+    /// Closes the office, if `last` stands for all passes that were made, and so has the whole table: hands out the
+    /// racks and the diaries, in the order of the shards.
     ///
-    /// `Passes` comes if and only if another pass is out. After either fault everything is as before, except that the
-    /// pass then knows that another is out.
+    /// `Passes` comes only if another pass is out. After either fault everything is as before, except that the pass
+    /// then knows that another is out.
     pub fn close(
         self,
         last: Pass<D, G>,
@@ -227,6 +262,7 @@ impl<D: Disk + Drop, G: KeyRing + Drop> Office<D, G> {
         ensures left { IfOk result (λ c. (k : ℕ) → k < 16 → IsLeft D.tells D.seen D.faults G.keys G.faults k last.knows
             c.racks.items c.diaries) }
         ensures alone { IfOk result (λ _. last.knows.known ≤ last.knows.stands) }
+        ensures whole { IfOk result (λ _. last.knows.share ≡ whole) }
         ensures office { IfErr result (λ r. r.0 ≡ self) }
         ensures of { IfErr result (λ r. IsPassOf self r.1) }
         ensures passes { IfErr result (λ r. r.2 ≡ CloseFault.Passes → r.1.knows ≡ knows_of_another last.knows) }

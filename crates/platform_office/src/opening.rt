@@ -28,7 +28,8 @@ pub(crate) fn open_all<D: Disk + Drop, G: KeyRing + Drop>(
         Beside (IsOpened D.tells D.seen D.faults me roster.now) 0 racks.items shards.items) }
     ensures firm { IfOk result (λ shards. All (λ s. is_some s.shard.written.loose ≡ false) shards.items) }
     ensures count { IfOk result (λ shards. vec_len shards ≡ vec_len racks) }
-    ensures back { IfErr result (λ r. r.1 ≢ faults.NoMemory → AreBack D.tells D.faults racks.items r.0.items) }
+    ensures back { IfErr result
+        (λ r. r.1 ≢ faults.NoMemory → AreBack D.tells D.seen D.faults racks.items r.0.items) }
     ensures refused { IfErr result (λ r. IsRefusal D.tells D.seen D.faults me roster.now G.keys racks.items r.0.items
         r.1) }
 {

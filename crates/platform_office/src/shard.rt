@@ -12,7 +12,7 @@ ghost use Rattle.platform_office.specs.Opening.{IsBack, IsDamagedShard, IsOpened
 ghost use Rattle.platform_office.specs.Post.{IsAtPost, IsInOrder, IsOfShard, post_of};
 ghost use Rattle.platform_office.specs.Served.{IsServedBy, MayBeServed, is_disk, is_sign};
 
-use crate::asking::ask;
+use crate::asking::{FRAMES, ask};
 use crate::post::Post;
 use crate::served::Served;
 use bill_diary::{Diary, Frame};
@@ -28,9 +28,6 @@ use signed_envelope::KeyRing;
 use std::alloc::Global;
 use std::marker::Model;
 use std::snapshot::Snapshot;
-
-// A shard with more frames than this isn't opened, since those of its requests could not be counted.
-const FRAMES: usize = 4_294_967_293;
 
 /// One shard of an office: a shard on its journal, at its post.
 #[derive(Drop)]
@@ -87,7 +84,7 @@ impl<D: Disk, G: KeyRing> OfficeShard<D, G> {
         requires roster { IsRoster roster }
         requires nothing_pending { NothingIsPending D.tells D.seen D.may_leave rack }
         ensures opened { IfOk result (IsOpened D.tells D.seen D.faults me roster number rack) }
-        ensures back { IfErr result (λ r. IsBack D.tells D.faults rack r.0) }
+        ensures back { IfErr result (λ r. IsBack D.tells D.seen D.faults rack r.0) }
         ensures failed { IfErr result (λ r. r.1 ≡ OpenFault.Disk → Rose (D.faults rack.disk) (D.faults r.0.disk)) }
         ensures damaged { (place : ℕ) → IfErr result (λ r. r.1 ≡ OpenFault.Damaged place → D.tells rack.disk ≡ true
             → IsDamagedShard roster (G.keys rack.ring) me number (D.seen rack.disk) place) }

@@ -1,5 +1,4 @@
-use Rattle.std.proofs.Common.{rules, subst}
-use Rattle.platform_office.specs.Office.{Knows, KnowsOfMore}
+use Rattle.std.proofs.Common.{rules}
 use Rattle.platform_office.proofs.OfficeLemmas.{knows_no_more, knows_one_more}
 use Rattle.platform_office.proofs.office.Office.take.Goals as goal
 
@@ -9,6 +8,8 @@ loop-init g c = record {
   finite = search rules;
   of = c.requires.of;
   asked = search rules;
+  goes = search rules;
+  place = search rules;
   more = knows_no_more c.args.pass.now.knows;
 }
 
@@ -16,15 +17,13 @@ pub loop-preserved : goal.loop-preserved
 loop-preserved g c = record {
   next = search rules;
   finite = search rules;
-  of = c.try_take.ensures.of;
+  of = c.try_at.ensures.of;
   asked = search rules;
-  more = knows_one_more c.args.pass.now.knows c.loop.pass.knows c.try_take.new.pass.knows c.loop.invariant.more
+  goes = c.loop.invariant.goes;
+  place = c.loop.invariant.place;
+  more = knows_one_more c.args.pass.now.knows c.loop.pass.knows c.try_at.new.pass.knows c.loop.invariant.more
       (search rules);
 }
 
-pub returns-in-Ok-clause-turned : goal.returns-in-Ok-clause-turned
-returns-in-Ok-clause-turned g c = (c.loop.pass.knows, c.loop.invariant.more, c.in-Ok.ensures.turned)
-
-pub returns-in-Err-NoMemory-clause-no_memory : goal.returns-in-Err-NoMemory-clause-no_memory
-returns-in-Err-NoMemory-clause-no_memory g c =
-    subst (λ (v : Knows _ _). KnowsOfMore c.args.pass.now.knows v) (search rules) c.loop.invariant.more
+pub returns-in-Ok-try_at-clause-turned : goal.returns-in-Ok-try_at-clause-turned
+returns-in-Ok-try_at-clause-turned g c = (c.loop.pass.knows, c.loop.invariant.more, c.in-Ok-try_at.ensures.turned)

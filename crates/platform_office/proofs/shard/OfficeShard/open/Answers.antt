@@ -32,12 +32,13 @@ returns-in-None-clause-opened g c =
     (opened_so g.D.Disk.tells g.D.Disk.seen g.D.Disk.faults c.args.me c.args.roster c.args.number c.args.rack
     (record { shard = c.in-Ok.shard; number = c.args.number; rack = c.of-opened.result.value })
     c.in-Ok.ensures.me c.in-Ok.ensures.roster refl c.of-opened.ensures c.in-Ok.ensures.ring c.in-Ok.ensures.told
-    c.in-Ok.ensures.later c.in-Ok.ensures.read c.in-Ok.ensures.blank c.in-Ok.ensures.stands)
+    (λ told some. (c.in-Ok.ensures.nothing_written told some).same) c.in-Ok.ensures.later c.in-Ok.ensures.read c.in-Ok.ensures.blank c.in-Ok.ensures.stands)
 
 pub returns-in-Some-clause-back : goal.returns-in-Some-clause-back
 returns-in-Some-clause-back g c = record {
   ring = c.rack_of.ensures.ring ∙ c.in-Ok.ensures.ring;
   told = ap g.D.Disk.tells c.rack_of.ensures.disk ∙ c.in-Ok.ensures.told;
+  same = λ told some. ap g.D.Disk.seen c.rack_of.ensures.disk ∙ (c.in-Ok.ensures.nothing_written told some).same;
   later = subst (λ (d : g.row.D.Denot). g.D.Disk.faults c.args.rack.disk ≤ g.D.Disk.faults d) (sym c.rack_of.ensures.disk)
       c.in-Ok.ensures.later;
 }
@@ -53,6 +54,14 @@ returns-in-Some-clause-damaged g c = λ place is told.
     (c.in-Ok.ensures.stands told)
     (subst (λ (d : List Frame). IsStray c.args.number d place) same
     (c.stray.ensures.stray place (c.in-Some.is ∙ ap Some is)))
+
+pub returns-in-Err-clause-back : goal.returns-in-Err-clause-back
+returns-in-Err-clause-back g c = record {
+  ring = c.in-Err.ensures.ring;
+  told = c.in-Err.ensures.told;
+  same = λ told some. (c.in-Err.ensures.nothing_written told some).same;
+  later = c.in-Err.ensures.later;
+}
 
 pub returns-in-Err-clause-damaged : goal.returns-in-Err-clause-damaged
 returns-in-Err-clause-damaged g c = λ place is told. inl (c.in-Err.ensures.damaged place told is)
