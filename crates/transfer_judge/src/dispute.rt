@@ -18,27 +18,33 @@ pub(crate) fn dispute(
 {
     match place {
         BillPlace::Absent => Ok(None),
-        BillPlace::Held { known, .. } => Ok(Some(evidence(alloc, &known, shown)?)),
+        BillPlace::Held { known, .. } => Ok(Some(evidence_of(alloc, &known, shown)?)),
         BillPlace::Parting { known, entry } => {
             let own = known.followed_by(alloc, entry)?;
-            unless_beyond(alloc, &own, shown)
+            evidence_unless_beyond(alloc, &own, shown)
         }
-        BillPlace::Gone { known } => unless_beyond(alloc, &known, shown),
+        BillPlace::Gone { known } => evidence_unless_beyond(alloc, &known, shown),
     }
 }
 
-// The evidence, unless the chain that was shown goes on beyond the own one.
-fn unless_beyond(alloc: Global, own: &Chain, shown: &Chain) -> Result<Option<Evidence>, NoMemory>
+/// The evidence of a dispute, unless the chain that was shown goes on beyond the own one.
+pub fn evidence_unless_beyond(
+    alloc: Global,
+    own: &Chain,
+    shown: &Chain,
+) -> Result<Option<Evidence>, NoMemory>
     ensures { IfOk result (λ evidence. evidence
         ≡ (if goes_beyond own.now shown.now then None else Some (evidence_of own.now shown.now))) }
 {
     if goes_beyond(own.as_slice(), shown.as_slice()) {
         return Ok(None);
     }
-    Ok(Some(evidence(alloc, own, shown)?))
+    Ok(Some(evidence_of(alloc, own, shown)?))
 }
 
-fn evidence(alloc: Global, own: &Chain, shown: &Chain) -> Result<Evidence, NoMemory>
+/// The evidence of a dispute: of each chain the text at the first index at which their names differ or one of them
+/// ends.
+pub fn evidence_of(alloc: Global, own: &Chain, shown: &Chain) -> Result<Evidence, NoMemory>
     ensures { IfOk result (λ evidence. evidence ≡ evidence_of own.now shown.now) }
 {
     let index = common_front(own.as_slice(), shown.as_slice());
@@ -47,8 +53,12 @@ fn evidence(alloc: Global, own: &Chain, shown: &Chain) -> Result<Evidence, NoMem
     Ok(Evidence { own, theirs })
 }
 
-// The text of the entry at an index, or of the last one.
-fn text_at(alloc: Global, index: usize, chain: &[ChainLink]) -> Result<Option<SignedText>, NoMemory>
+/// The text of a chain's entry at an index, or of the last one where there is none; none where the chain is empty.
+pub fn text_at(
+    alloc: Global,
+    index: usize,
+    chain: &[ChainLink],
+) -> Result<Option<SignedText>, NoMemory>
     ensures { IfOk result (λ text. text ≡ text_at index chain.now) }
 {
     match link_at(index, chain) {

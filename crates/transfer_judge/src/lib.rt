@@ -5,10 +5,12 @@ mod dispute;
 mod judgement;
 mod judging;
 mod laws;
+mod plan_cases;
 mod plan_laws;
 mod planned;
 mod planning;
 
+pub use dispute::{evidence_of, evidence_unless_beyond, text_at};
 pub use judgement::Judgement;
 pub use judging::judge;
 pub use laws::{
@@ -16,6 +18,9 @@ pub use laws::{
     frame_that_follows_legally_follows_soundly, frame_that_may_follow_keeps_a_diary_legal,
     front_of_legal_diary_is_legal, legal_diaries_sign_no_document_on_two_platforms,
     legal_diary_is_sound, what_is_judged_can_be_sealed,
+};
+pub use plan_cases::{
+    attach_refusal, fits_beside, last_name, lists, missing_party, most_with, plan_bytes, plan_stay,
 };
 pub use plan_laws::{
     nothing_is_planned_only_for_listed_bytes, planned_attempt_is_the_next,

@@ -1,7 +1,7 @@
 -- The room that is left is what the documents so far and this one leave of 4,194,304 bytes.
 use Rattle.std.proofs.Common.{◌≡◌, ◌+◌, ◌≤◌, drop}
 use Rattle.envelope_manifest.specs.Manifest.{total_size}
-use Rattle.transfer_judge.proofs.planning.fits_beside.Given as goal
+use Rattle.transfer_judge.proofs.plan_cases.fits_beside.Given as goal
 
 abbrev pub invariant-loop-piece : goal.invariant-loop-piece
 invariant-loop-piece l =
