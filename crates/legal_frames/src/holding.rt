@@ -1,13 +1,11 @@
 //! Records of a bill that is held or begins: a Signed, an Acted, an Attached.
-ghost use Rattle.std.specs.Prelude.{◌≡◌, ◌+◌, ◌≤◌, ◌↔◌, IfOk, IsTrue, Some, nat_le};
+ghost use Rattle.std.specs.Prelude.{◌≡◌, ◌≤◌, ◌↔◌, IfOk, IsTrue, Some};
 ghost use Rattle.ebl_base.specs.declared.checksum.Checksum.{Checksum};
-ghost use Rattle.ebl_base.specs.declared.limits.TheConstants.{MAX_DOCUMENT_SIZE, MAX_DOCUMENTS_SIZE};
-ghost use Rattle.envelope_manifest.specs.Manifest.{total_size};
+ghost use Rattle.ebl_base.specs.declared.limits.TheConstants.{MAX_DOCUMENT_SIZE};
 ghost use Rattle.envelope_manifest.specs.Piece.{IsPiece};
 ghost use Rattle.party_roster.specs.RosterRecord.{carrier};
 ghost use Rattle.bill_diary.specs.History.{history};
-ghost use Rattle.bill_diary.specs.Pieces.{lists};
-ghost use Rattle.bill_diary.specs.Sound.{MayAct, MayAttach, most_with};
+ghost use Rattle.bill_diary.specs.Sound.{MayAct, MayAttach};
 ghost use Rattle.bill_diary.specs.Texts.{IsDocumentOf};
 ghost use Rattle.chain_entry.specs.Form.{IsTransaction};
 ghost use Rattle.record_bytes.specs.Forms.{IsSigned};
@@ -19,13 +17,13 @@ use bill_chain::fold_after_chain;
 use bill_diary::{BillPlace, Diary, may_act as possessor_may_act, pieces, place};
 use canonical_json::read_if_any;
 use ebl_base::{
-    ByteList, Checksum, Kind, MAX_DOCUMENTS, MAX_DOCUMENTS_SIZE, MAX_ENTRY_TRANSACTIONS, NoMemory,
-    Party, PlatformCode, Transaction,
+    ByteList, Checksum, Kind, MAX_DOCUMENTS, NoMemory, Party, PlatformCode, Transaction,
 };
 use envelope_manifest::{Piece, PieceList};
 use party_roster::Roster;
 use std::alloc::Global;
 use title_fold::{FoldRefusal, Title, apply, moves};
+use transfer_judge::{fits_beside, lists, most_with};
 use transport_document::{Document, DocumentFault, document_texts_read_back};
 use upload_state::fits;
 
@@ -126,17 +124,6 @@ fn stays_on(title: Result<Option<Title>, FoldRefusal>, made: usize, t: &Transact
     !moves(before, after) && made < most_with(t.kind)
 }
 
-// How many transactions may be made since the known chain, with one of this kind that stays.
-fn most_with(kind: Kind) -> usize
-    ensures { result ≡ most_with kind }
-{
-    match kind {
-        Kind::SurrenderAccepted => MAX_ENTRY_TRANSACTIONS,
-        Kind::SurrenderForDelivery | Kind::SurrenderForAmendment => MAX_ENTRY_TRANSACTIONS - 2,
-        _ => MAX_ENTRY_TRANSACTIONS - 1,
-    }
-}
-
 // ---- a document is attached
 
 /// Whether an Attached of this bill may follow.
@@ -170,26 +157,4 @@ fn has_room(listed: &PieceList, piece: &Piece) -> bool
     !lists(listed, piece.checksum)
         && listed.len() < MAX_DOCUMENTS
         && fits_beside(listed, piece.size)
-}
-
-// Whether a document with this checksum is among some that are listed.
-fn lists(listed: &[Piece], checksum: Checksum) -> bool
-    ensures { result ≡ lists listed.now checksum }
-{
-    listed.iter().any(|piece| piece.checksum == checksum)
-}
-
-// Whether a document of this size fits beside others.
-fn fits_beside(listed: &[Piece], size: u32) -> bool
-    requires { size ≤ MAX_DOCUMENT_SIZE }
-    ensures { result ≡ nat_le (total_size listed.now + size) MAX_DOCUMENTS_SIZE }
-{
-    let mut room = MAX_DOCUMENTS_SIZE - size;
-    for piece in listed {
-        if room < piece.size {
-            return false;
-        }
-        room -= piece.size;
-    }
-    true
 }

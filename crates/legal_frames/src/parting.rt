@@ -1,7 +1,6 @@
 //! Records of a bill that is parted with: a Parted, a Settled, a Regained.
 ghost use Rattle.std.specs.Prelude.{◌≡◌, ◌≢◌, ◌+◌, ◌++◌, ◌∷◌, [], ◌↔◌, count_by, IfNone, IfOk, IfSome, IsTrue};
 ghost use Rattle.ebl_base.specs.declared.transaction.Transaction.{Transaction};
-ghost use Rattle.bill_chain.specs.Chain.{last_name};
 ghost use Rattle.bill_diary.specs.History.{history};
 ghost use Rattle.bill_diary.specs.Pieces.{pieces_of};
 ghost use Rattle.bill_diary.specs.Place.{place_of};
@@ -12,7 +11,7 @@ ghost use Rattle.legal_frames.specs.Rows.{IsNextAt, IsNextEntry, MovesOut, is_pa
 
 use crate::envelope::{is_manifest_by, is_signed_by};
 use crate::places::is_parting_with;
-use bill_chain::{fold_after_chain, last_link};
+use bill_chain::fold_after_chain;
 use bill_diary::{BillPlace, Diary, PartedRef, count_parted, pieces, place};
 use ebl_base::{
     Chain, Checksum, Entry, MAX_CHAIN_ENTRIES, MAX_ENTRY_TRANSACTIONS, NoMemory, PlatformCode,
@@ -23,6 +22,7 @@ use party_roster::Roster;
 use signed_envelope::KeyRing;
 use std::alloc::Global;
 use title_fold::{FoldRefusal, Title, apply, moves, possessor};
+use transfer_judge::last_name;
 
 // ---- an entry is sent
 
@@ -119,15 +119,6 @@ fn is_next(me: PlatformCode, bill: Checksum, parted: usize, known: &Chain, entry
         && entry.previous == last_name(known)
         && parted.checked_add(1) == Some(entry.attempt as usize)
         && entry.transactions.len() <= MAX_ENTRY_TRANSACTIONS
-}
-
-fn last_name(known: &Chain) -> Option<Checksum>
-    ensures { result ≡ last_name known.now }
-{
-    match last_link(known.as_slice()) {
-        Some(link) => Some(link.name),
-        None => None,
-    }
 }
 
 // Whether transactions are those made since a known chain and one more, which moves to a listed platform.
