@@ -1,5 +1,5 @@
 -- What reading into the buffer does.
-use Rattle.std.specs.Prelude.{◌≡◌, ◌≢◌, ◌⊎◌, ℕ, ◌<◌, ◌≤◌, List, [], ◌++◌, length, Option, Some, None, Result, Ok, Err}
+use Rattle.std.specs.Prelude.{◌≡◌, ◌≢◌, ◌⊎◌, ℕ, ◌<◌, ◌≤◌, List, [], ◌++◌, length, max, Option, Some, None, Result, Ok, Err}
 use Rattle.std.specs.Io.KnownBytes.{Consumes, IsAtEnd}
 use Rattle.http_heads.specs.declared.scan.TheConstants.{MAX_HEAD}
 use Rattle.http_heads.specs.Scan.{head_end}
@@ -58,3 +58,9 @@ LacksBytes NoMemory count buffer left = Unit {0}
 abbrev pub IsWithin : Front → ℕ → Type 0
 IsWithin (Refused s) n = Unit {0}
 IsWithin (Whole route start end keeps) n = (start ≤ end) × (end ≤ n)
+
+-- up to how many bytes the buffer is filled at most: those of the longest head, and those up to the end of a body that
+-- is awaited
+abbrev pub most_for : Front → ℕ
+most_for (Refused s) = MAX_HEAD
+most_for (Whole route start end keeps) = max MAX_HEAD end

@@ -27,6 +27,7 @@ loop-len-preserved g c =
       scanned = scanned_more b now fill.piece c.in-Err.at c.len-seen.result all ends few fill.added;
       seen = grown b now fill.piece c.len-seen.result all fill.added;
       short = omega (arith, all, few);
+      most = let full = c.in-Ok-true.ensures.most in omega (arith, full);
       written = c.in-Ok-true.ensures.written ∙ c.loop-len.invariant.written;
       later = omega (arith, later, before);
     }

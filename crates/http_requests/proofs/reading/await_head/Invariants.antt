@@ -1,5 +1,5 @@
 use Rattle.std.proofs.Common.{◌≡◌, ◌≤◌, ◌-◌, List, ℕ, ◌++◌, take, length}
-use Rattle.std.specs.Prelude.{Err}
+use Rattle.std.specs.Prelude.{Err, max}
 use Rattle.std.specs.Io.KnownBytes.{Consumes}
 use Rattle.http_heads.specs.Scan.{scan}
 use Rattle.http_heads.specs.declared.scan.Scan.TheVariants.{Blank}
@@ -12,6 +12,7 @@ invariant-loop-len g l = record {
   scanned : scan 0 Blank (take l.seen l.buffer.items) ≡ Err l.state;
   seen : l.seen ≤ length l.buffer.items;
   short : l.seen ≤ 16384;
+  most : length l.buffer.items ≤ max (length l.fn.buffer.items) 16384;
   written : g.L.Link.written l.link ≡ g.L.Link.written l.fn.link;
   later : g.L.Link.faults l.fn.link ≤ g.L.Link.faults l.link;
 }
