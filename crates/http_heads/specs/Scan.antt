@@ -1,10 +1,11 @@
--- Where the head of a request ends: behind the first empty line after a line that isn't empty. A line ends in LF; it is
--- empty where nothing or one CR stands before that.
+-- Where the head of a request or a reply ends: behind the first empty line after a line that isn't empty. A line ends
+-- in LF; it is empty where nothing or one CR stands before that.
 use Rattle.std.specs.Prelude.{ℕ, ◌+◌, ◌==◌, List, [], ◌∷◌, take, if◌then◌else◌, Result, Ok, Err}
 use Rattle.http_heads.specs.declared.scan.TheConstants.{MAX_HEAD}
 use Rattle.http_heads.specs.declared.scan.Scan.{Scan}
 use Rattle.http_heads.specs.declared.scan.Scan.TheVariants.{Blank, BlankReturn, Text, Start, Return, End}
 
+-- a scan after one byte more
 abbrev pub step : Scan → ℕ → Scan
 step Blank b = if b == 10 then Blank else (if b == 13 then BlankReturn else Text)
 step BlankReturn b = if b == 10 then Blank else Text

@@ -1,5 +1,5 @@
-//! Looking into the fields of a head.
-ghost use Rattle.std.specs.Prelude.{◌≡◌, ◌≤◌, length, codes, map, All, min, option_map};
+//! Looking into the fields of a head: of a request, and by the client of a reply.
+ghost use Rattle.std.specs.Prelude.{◌≡◌, ◌+◌, ◌≤◌, length, codes, map, All, min, option_map};
 ghost use Rattle.std.specs.Char.{is_ascii_digit};
 ghost use Rattle.std.specs.List.{list_all, list_any};
 ghost use Rattle.std.specs.Str.Parse.{AllDigits, digits_value};
@@ -8,10 +8,11 @@ ghost use Rattle.http_heads.specs.Fields.{is_name, is_text, values, first_of, ha
 
 use httparse::spans::HeaderSpan;
 
-/// The most bytes of a request's body.
+/// The most bytes of a body.
 pub const MAX_BODY: u64 = 4_194_304;
 
-pub(crate) fn has_field(piece: &[u8], headers: &[HeaderSpan], name: &[u8]) -> bool
+/// Whether a header has this name, in letters of either case.
+pub fn has_field(piece: &[u8], headers: &[HeaderSpan], name: &[u8]) -> bool
     requires { All (IsHeaderWithin (length piece.now)) headers.now }
     ensures { result ≡ has_one (values name.now (map (header_bytes piece.now) headers.now)) }
 {
@@ -38,11 +39,8 @@ pub(crate) fn closes(piece: &[u8], headers: &[HeaderSpan]) -> bool
     false
 }
 
-pub(crate) fn first_value<'a>(
-    piece: &'a [u8],
-    headers: &[HeaderSpan],
-    name: &[u8],
-) -> Option<&'a [u8]>
+/// The value of the first header of this name.
+pub fn first_value<'a>(piece: &'a [u8], headers: &[HeaderSpan], name: &[u8]) -> Option<&'a [u8]>
     requires { All (IsHeaderWithin (length piece.now)) headers.now }
     ensures { option_map (λ v. v.now) result ≡ first_of (values name.now (map (header_bytes piece.now) headers.now)) }
 {
@@ -55,7 +53,7 @@ pub(crate) fn first_value<'a>(
 }
 
 /// Whether every header of this name has this value.
-pub(crate) fn are_all(piece: &[u8], headers: &[HeaderSpan], name: &[u8], value: &[u8]) -> bool
+pub fn are_all(piece: &[u8], headers: &[HeaderSpan], name: &[u8], value: &[u8]) -> bool
     requires { All (IsHeaderWithin (length piece.now)) headers.now }
     ensures { result ≡ list_all (is_text value.now) (values name.now (map (header_bytes piece.now) headers.now)) }
 {
@@ -67,7 +65,8 @@ pub(crate) fn are_all(piece: &[u8], headers: &[HeaderSpan], name: &[u8], value: 
     true
 }
 
-pub(crate) fn is_length(value: &[u8]) -> bool
+/// Whether a value is the text of a length: 1 to 19 digits.
+pub fn is_length(value: &[u8]) -> bool
     ensures { result ≡ is_length value.now }
 {
     1 <= value.len() && value.len() <= 19 && are_digits(value)
@@ -87,7 +86,7 @@ fn are_digits(value: &[u8]) -> bool
 /// The number that the digits write, or the least that is too large for a body.
 pub(crate) fn capped_length(digits: &[u8]) -> u64
     requires { AllDigits 10 digits.now }
-    ensures { result ≡ min (digits_value 10 digits.now) 4194305 }
+    ensures { result ≡ min (digits_value 10 digits.now) (MAX_BODY + 1) }
 {
     let mut size = 0;
     for digit in digits {
@@ -97,7 +96,7 @@ pub(crate) fn capped_length(digits: &[u8]) -> u64
 }
 
 fn capped(size: u64) -> u64
-    ensures { result ≡ min size 4194305 }
+    ensures { result ≡ min size (MAX_BODY + 1) }
 {
     if size <= MAX_BODY { size } else { MAX_BODY + 1 }
 }

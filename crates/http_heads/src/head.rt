@@ -63,7 +63,7 @@ impl Plans {
 
 // The head that the whole piece is.
 fn whole_head(piece: &[u8], headers: &mut [HeaderSpan]) -> Option<RequestSpans>
-    requires { length headers.old ≡ 64 }
+    requires { length headers.old ≡ MAX_FIELDS }
     ensures some { IfSome result (λ spans. (h : RequestHead) × IsHead piece.now h
         × IsRequestAt piece.now headers.new spans h) }
     ensures within { IfSome result (λ spans. IsRequestWithin piece.now headers.new spans) }

@@ -11,7 +11,7 @@ mod scan;
 mod segments;
 mod status;
 
-pub use fields::MAX_BODY;
+pub use fields::{MAX_BODY, are_all, first_value, has_field, is_length};
 pub use head::{MAX_FIELDS, Plans};
 pub use plan::Plan;
 pub use route::Route;

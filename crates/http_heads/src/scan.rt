@@ -5,7 +5,7 @@ ghost use Rattle.http_heads.specs.Scan.{step, scan};
 /// The most bytes of a head.
 pub const MAX_HEAD: usize = 16_384;
 
-/// Where a scan stands in the head of a request.
+/// Where a scan stands in a head.
 #[derive(Clone, Copy, Debug, PartialEq, Eq)]
 pub enum Scan {
     /// At the start of a line, after empty lines alone.
