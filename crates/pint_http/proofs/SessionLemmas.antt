@@ -1,5 +1,5 @@
 -- How a session goes on from request to request.
-use Rattle.std.proofs.Common.{◌≡◌, ℕ, ◌+◌, Bool, true, false, List, [], ◌∷◌, ◌++◌, refl, ap, sym, ◌∙◌, subst, length, map, drop, arith, append_assoc, append-nil, length-append, inl, inr}
+use Rattle.std.proofs.Common.{◌≡◌, ℕ, ◌+◌, ◌≤◌, Bool, true, false, List, [], ◌∷◌, ◌++◌, refl, ap, sym, ◌∙◌, subst, length, map, drop, arith, append_assoc, append-nil, length-append, inl, inr}
 use Rattle.std.specs.Prelude.{◌⊎◌, ◌≢◌, Result, Ok, Err, OnOk, IfErr, Option, Some, None, MatchBool}
 use Rattle.std.specs.List.{flat_map}
 use Rattle.std.specs.Io.KnownBytes.{Consumes, Appends, IsAtEnd}
@@ -20,7 +20,7 @@ use Rattle.http_heads.specs.declared.status.Status.{Status}
 use Rattle.http_heads.specs.declared.status.Status.TheVariants as statuses
 use Rattle.http_requests.specs.Asked.{Asks, of_desk, of_party}
 use Rattle.pint_http.specs.Reply.{reply_text, known_body, status_of}
-use Rattle.pint_http.specs.Session.{Exchange, taken, tested, incoming_of, call_of, moment_of, reply_of, last_reply, Session, text_of, calls_of, moments_of, IsEndOf, Wrote, Served}
+use Rattle.pint_http.specs.Session.{Exchange, taken, tested, incoming_of, call_of, moment_of, reply_of, last_reply, Session, text_of, calls_of, moments_of, IsEndOf, StandsBehind, LeavesBody, Wrote, Served}
 use Rattle.http_requests.specs.Reading.{Fills, Added, Read, IsStop}
 use Rattle.pint_http.specs.Answered.{Answered, IsReplyEnd, IsReplyFault}
 use Rattle.http_requests.specs.declared.end.LinkEnd.{LinkEnd}
@@ -32,6 +32,7 @@ pub record Progress (left now_left written now_written : Option (List ℕ)) (giv
   pub exchanges : List Exchange
   pub consumed : Consumes left now_left read
   pub goes_on : (more : List ℕ) (asked : List Incoming) (end : CutEnd) → Cuts (buffer ++ more) asked end → Cuts (read ++ more) (map incoming_of exchanges ++ asked) end
+  pub behind : (more : List ℕ) → StandsBehind (read ++ more) (map incoming_of exchanges) (buffer ++ more)
   pub wrote : Appends written now_written (flat_map (reply_of known) exchanges)
   pub run : Run (calls_of exchanges)
   pub moments : Gives given (moments_of exchanges) now_given
@@ -44,6 +45,7 @@ progress_at_start left written given known Run starts = record {
   exchanges = [];
   consumed = Consumes-nil left;
   goes_on = λ more asked end cuts. cuts;
+  behind = λ more. refl;
   wrote = Appends-nil written;
   run = starts;
   moments = Gives-nil given;
@@ -57,6 +59,18 @@ flat_map-end f (y ∷ xs) x = ap (λ l. f y ++ l) (flat_map-end f xs x) ∙ sym 
 map-end : (xs : List Exchange) (x : Exchange) (asked : List Incoming) → map incoming_of (xs ++ x ∷ []) ++ asked ≡ map incoming_of xs ++ incoming_of x ∷ asked
 map-end [] x asked = refl
 map-end (y ∷ xs) x asked = ap (λ l. incoming_of y ∷ l) (map-end xs x asked)
+
+listed : (xs : List Exchange) (x : Exchange) (a : Incoming) → incoming_of x ≡ a → map incoming_of xs ++ a ∷ [] ≡ map incoming_of (xs ++ x ∷ [])
+listed xs x a is =
+    ap (λ b. map incoming_of xs ++ b ∷ []) (sym is) ∙ sym (map-end xs x []) ∙ append-nil (map incoming_of (xs ++ x ∷ []))
+
+-- one request more
+stands_over : (b : List ℕ) (requests : List Incoming) (mid after : List ℕ) (a : Incoming) → StandsBehind b requests mid → IsNext mid (whole a after)
+    → StandsBehind b (requests ++ a ∷ []) after
+stands_over b [] mid after a same next =
+    let P : List ℕ → Type 0 = λ x. IsNext x (whole a after) in
+    (after, subst P same next, refl)
+stands_over b (r ∷ requests) mid after a (x, first, rest) next = (x, first, stands_over x requests mid after a rest next)
 
 -- a whole request whose reply keeps the link open, and then the rest
 pub cuts_over : (b rest more : List ℕ) (a : Incoming) (asked : List Incoming) (end : CutEnd) → IsNext b (whole a rest) → a.keeps ≡ true
@@ -91,6 +105,15 @@ progress_over left l1 l2 written w1 w2 given g1 g2 buffer filled rest known Run 
       let Q : List Incoming → Type 0 = λ l. Cuts (p.read ++ (fill.piece ++ more)) l end in
       let R : List ℕ → Type 0 = λ b. Cuts b (map incoming_of (p.exchanges ++ done.exchange ∷ []) ++ asked) end in
       subst R (sym (append_assoc p.read fill.piece more)) (subst Q list all);
+  behind = λ more.
+      let now : buffer ++ (fill.piece ++ more) ≡ filled ++ more = sym (ap (λ l. l ++ more) fill.added ∙ append_assoc buffer fill.piece more) in
+      let asked = map incoming_of p.exchanges in
+      let P : List ℕ → Type 0 = StandsBehind (p.read ++ (fill.piece ++ more)) asked in
+      let before = subst P now (p.behind (fill.piece ++ more)) in
+      let over = stands_over (p.read ++ (fill.piece ++ more)) asked (filled ++ more) (rest ++ more) a before (IsNext-more filled more a rest next) in
+      let Q : List Incoming → Type 0 = λ l. StandsBehind (p.read ++ (fill.piece ++ more)) l (rest ++ more) in
+      let R : List ℕ → Type 0 = λ b. StandsBehind b (map incoming_of (p.exchanges ++ done.exchange ∷ [])) (rest ++ more) in
+      subst R (sym (append_assoc p.read fill.piece more)) (subst Q (listed p.exchanges done.exchange a done.is_asked) over);
   wrote =
       let both = Appends-trans written w1 w2 (flat_map (reply_of known) p.exchanges) (reply_of known done.exchange) p.wrote done.wrote in
       let P : List ℕ → Type 0 = Appends written w2 in
@@ -144,9 +167,9 @@ wrote_after NoMemory a b c t u wrote more = first_after a b c t u wrote more
 -- no reply more
 pub served_by : (e : LinkEnd) (end : CutEnd) (left l1 l2 written w1 : Option (List ℕ)) (given g1 : Option (List Moment)) (buffer piece : List ℕ) (known : Party → Bool) (Run : List Call → Type 0) (count : ℕ)
     → (p : Progress left l1 written w1 given g1 buffer known Run count) → Consumes l1 l2 piece → EndsAt (buffer ++ piece) end
-    → IsEndOf e (record { exchanges = p.exchanges; end = end }) l2 → last_reply end ≡ []
-    → Served e left l2 written w1 given g1 known Run
-served_by e end left l1 l2 written w1 given g1 buffer piece known Run count p consumed at ends silent = record {
+    → IsEndOf e (record { exchanges = p.exchanges; end = end }) l2 → LeavesBody (p.read ++ piece) (map incoming_of p.exchanges) end
+    → last_reply end ≡ [] → Served e left l2 written w1 given g1 known Run
+served_by e end left l1 l2 written w1 given g1 buffer piece known Run count p consumed at ends leaves silent = record {
   read = p.read ++ piece;
   session = record { exchanges = p.exchanges; end = end };
   consumed = Consumes-trans left l1 l2 p.read piece p.consumed consumed;
@@ -154,6 +177,7 @@ served_by e end left l1 l2 written w1 given g1 buffer piece known Run count p co
       let Q : List Incoming → Type 0 = λ l. Cuts (p.read ++ piece) l end in
       subst Q (append-nil (map incoming_of p.exchanges)) (p.goes_on piece [] end at);
   ends = ends;
+  leaves = leaves;
   wrote =
       let text = flat_map (reply_of known) p.exchanges in
       let P : List ℕ → Type 0 = Wrote e written w1 in
@@ -167,30 +191,30 @@ pub served_at_stop : (e : LinkEnd) (left l1 l2 written w1 : Option (List ℕ)) (
     → Progress left l1 written w1 given g1 buffer known Run count → Read e l1 l2 buffer now → IsStop e now l2
     → Served e left l2 written w1 given g1 known Run
 served_at_stop Closed left l1 l2 written w1 given g1 buffer now known Run count p r (empty, at_end) =
-    served_by Closed nothing left l1 l2 written w1 given g1 buffer r.piece known Run count p r.consumed (sym r.added ∙ empty) at_end refl
+    served_by Closed nothing left l1 l2 written w1 given g1 buffer r.piece known Run count p r.consumed (sym r.added ∙ empty) at_end tt refl
 served_at_stop Cut left l1 l2 written w1 given g1 buffer now known Run count p r (some, next, at_end) =
     let P : List ℕ → Type 0 = λ b. EndsAt b within in
-    served_by Cut within left l1 l2 written w1 given g1 buffer r.piece known Run count p r.consumed (subst P r.added (some, next)) (refl, at_end) refl
+    served_by Cut within left l1 l2 written w1 given g1 buffer r.piece known Run count p r.consumed (subst P r.added (some, next)) (refl, at_end) tt refl
 served_at_stop ReadFault left l1 l2 written w1 given g1 buffer now known Run count p r (inl empty) =
-    served_by ReadFault nothing left l1 l2 written w1 given g1 buffer r.piece known Run count p r.consumed (sym r.added ∙ empty) (inl refl) refl
+    served_by ReadFault nothing left l1 l2 written w1 given g1 buffer r.piece known Run count p r.consumed (sym r.added ∙ empty) (inl refl) tt refl
 served_at_stop ReadFault left l1 l2 written w1 given g1 buffer now known Run count p r (inr stands) =
     let P : List ℕ → Type 0 = λ b. EndsAt b within in
-    served_by ReadFault within left l1 l2 written w1 given g1 buffer r.piece known Run count p r.consumed (subst P r.added stands) (inr refl) refl
+    served_by ReadFault within left l1 l2 written w1 given g1 buffer r.piece known Run count p r.consumed (subst P r.added stands) (inr refl) tt refl
 served_at_stop WriteFault left l1 l2 written w1 given g1 buffer now known Run count p r stop = absurd stop
 served_at_stop Limit left l1 l2 written w1 given g1 buffer now known Run count p r stop = absurd stop
 served_at_stop NoMemory left l1 l2 written w1 given g1 buffer now known Run count p r stop =
-    served_by NoMemory stopped left l1 l2 written w1 given g1 buffer r.piece known Run count p r.consumed tt tt refl
+    served_by NoMemory stopped left l1 l2 written w1 given g1 buffer r.piece known Run count p r.consumed tt tt tt refl
 
 -- memory ran out before the desk was asked
 pub served_no_memory : (left l1 l2 written w1 : Option (List ℕ)) (given g1 : Option (List Moment)) (buffer now : List ℕ) (known : Party → Bool) (Run : List Call → Type 0) (count : ℕ)
     → Progress left l1 written w1 given g1 buffer known Run count → Fills l1 l2 buffer now → Served NoMemory left l2 written w1 given g1 known Run
 served_no_memory left l1 l2 written w1 given g1 buffer now known Run count p f =
-    served_by NoMemory stopped left l1 l2 written w1 given g1 buffer f.piece known Run count p f.consumed tt tt refl
+    served_by NoMemory stopped left l1 l2 written w1 given g1 buffer f.piece known Run count p f.consumed tt tt tt refl
 
 pub served_limit : (left l1 written w1 : Option (List ℕ)) (given g1 : Option (List Moment)) (buffer : List ℕ) (known : Party → Bool) (Run : List Call → Type 0)
     → Progress left l1 written w1 given g1 buffer known Run 1000000 → Served Limit left l1 written w1 given g1 known Run
 served_limit left l1 written w1 given g1 buffer known Run p =
-    served_by Limit stopped left l1 l1 written w1 given g1 buffer [] known Run 1000000 p (Consumes-nil l1) tt (refl, p.counted) refl
+    served_by Limit stopped left l1 l1 written w1 given g1 buffer [] known Run 1000000 p (Consumes-nil l1) tt (refl, p.counted) tt refl
 
 reply_end : (e : LinkEnd) (s : Session) (left : Option (List ℕ)) (n : Status) → IsReplyEnd e → s.end ≡ status n → IsEndOf e s left
 reply_end Closed s left n is at = rw at tt
@@ -200,16 +224,25 @@ reply_end WriteFault s left n is at = tt
 reply_end Limit s left n is at = absurd is
 reply_end NoMemory s left n is at = tt
 
+few_behind : (left l1 l2 written w1 : Option (List ℕ)) (given g1 : Option (List Moment)) (buffer now : List ℕ) (known : Party → Bool) (Run : List Call → Type 0) (count : ℕ) (n : Status)
+    → (p : Progress left l1 written w1 given g1 buffer known Run count) → (f : Fills l1 l2 buffer now) → (n ≢ statuses.BadRequest → length now ≤ 16384)
+    → LeavesBody (p.read ++ f.piece) (map incoming_of p.exchanges) (status n)
+few_behind left l1 l2 written w1 given g1 buffer now known Run count n p f few other =
+    let P : List ℕ → Type 0 = StandsBehind (p.read ++ f.piece) (map incoming_of p.exchanges) in
+    (now, subst P (sym f.added) (p.behind f.piece), few other)
+
 -- a status is answered
 pub served_status : (e : LinkEnd) (left l1 l2 written w1 w2 : Option (List ℕ)) (given g1 : Option (List Moment)) (buffer now : List ℕ) (known : Party → Bool) (Run : List Call → Type 0) (count : ℕ) (n : Status)
     → Progress left l1 written w1 given g1 buffer known Run count → Fills l1 l2 buffer now → IsNext now (refused n)
+    → (n ≢ statuses.BadRequest → length now ≤ 16384)
     → IsReplyEnd e → Wrote e w1 w2 (reply_text n bodies.Nothing false) → Served e left l2 written w2 given g1 known Run
-served_status e left l1 l2 written w1 w2 given g1 buffer now known Run count n p f next is wrote = record {
+served_status e left l1 l2 written w1 w2 given g1 buffer now known Run count n p f next few is wrote = record {
   read = p.read ++ f.piece;
   session = record { exchanges = p.exchanges; end = status n };
   consumed = Consumes-trans left l1 l2 p.read f.piece p.consumed f.consumed;
   cuts = cuts_here left l1 l2 written w1 given g1 buffer now known Run count (status n) p f next;
   ends = reply_end e _ l2 n is refl;
+  leaves = few_behind left l1 l2 written w1 given g1 buffer now known Run count n p f few;
   wrote = wrote_after e written w1 w2 (flat_map (reply_of known) p.exchanges) (reply_text n bodies.Nothing false) p.wrote wrote;
   run = p.run;
   moments = p.moments;
@@ -223,6 +256,10 @@ last_end false = parted
 last_silent : (k : Bool) → last_reply (last_end k) ≡ []
 last_silent true = refl
 last_silent false = refl
+
+last_leaves : (k : Bool) (read : List ℕ) (requests : List Incoming) → LeavesBody read requests (last_end k)
+last_leaves true read requests = tt
+last_leaves false read requests = tt
 
 last_cuts : (k : Bool) (b rest more : List ℕ) (a : Incoming) → IsNext b (whole a rest) → a.keeps ≡ k → Cuts (b ++ more) (a ∷ []) (last_end k)
 last_cuts true b rest more a next keeps = cuts_over b rest more a [] stopped next keeps tt
@@ -263,11 +300,11 @@ served_last e k left l1 l2 written w1 w2 given g1 g2 buffer filled rest known Ru
       let one : Cuts (filled ++ []) (a ∷ []) (last_end k) = last_cuts k filled rest [] a next keeps in
       let P : List ℕ → Type 0 = λ b. Cuts b (a ∷ []) (last_end k) in
       let all = p.goes_on fill.piece (a ∷ []) (last_end k) (subst P (append-nil filled ∙ fill.added) one) in
-      let list : map incoming_of p.exchanges ++ a ∷ [] ≡ map incoming_of (p.exchanges ++ done.exchange ∷ []) =
-      ap (λ x. map incoming_of p.exchanges ++ x ∷ []) (sym done.is_asked) ∙ sym (map-end p.exchanges done.exchange []) ∙ append-nil (map incoming_of (p.exchanges ++ done.exchange ∷ [])) in
+      let list = listed p.exchanges done.exchange a done.is_asked in
       let Q : List Incoming → Type 0 = λ l. Cuts (p.read ++ fill.piece) l (last_end k) in
       subst Q list all;
   ends = last_ends e k _ l2 may refl;
+  leaves = last_leaves k _ _;
   wrote =
       let both = wrote_after e written w1 w2 (flat_map (reply_of known) p.exchanges) (reply_of known done.exchange) p.wrote done.wrote in
       let P : List ℕ → Type 0 = Wrote e written w2 in
@@ -360,7 +397,7 @@ pub served_at_entry : (left written : Option (List ℕ)) (given : Option (List M
     → Served NoMemory left left written written given given known Run
 served_at_entry left written given known Run starts =
     served_by NoMemory stopped left left left written written given given [] [] known Run 0
-    (progress_at_start left written given known Run starts) (Consumes-nil left) tt tt refl
+    (progress_at_start left written given known Run starts) (Consumes-nil left) tt tt tt refl
 
 pub served_at_limit : (left l1 written w1 : Option (List ℕ)) (given g1 : Option (List Moment)) (buffer : List ℕ) (known : Party → Bool) (Run : List Call → Type 0) (count : ℕ)
     → count ≡ 1000000 → Progress left l1 written w1 given g1 buffer known Run count → Served Limit left l1 written w1 given g1 known Run

@@ -1,5 +1,5 @@
 -- A session: what was cut, what the desk was asked, and what was written.
-use Rattle.std.specs.Prelude.{◌≡◌, ◌⊎◌, ℕ, Bool, false, List, [], ◌∷◌, ◌++◌, length, map, Option}
+use Rattle.std.specs.Prelude.{◌≡◌, ◌≢◌, ◌⊎◌, ◌≤◌, ℕ, Bool, false, List, [], ◌∷◌, ◌++◌, length, map, Option}
 use Rattle.std.specs.List.{flat_map}
 use Rattle.std.specs.Io.KnownBytes.{Appends, Consumes, IsAtEnd}
 use Rattle.ebl_base.specs.declared.moment.Moment.{Moment}
@@ -9,9 +9,10 @@ use Rattle.ebl_edge.specs.Sink.{AppendsFirst}
 use Rattle.platform_requests.specs.Desk.{Call}
 use Rattle.reply_forms.specs.Body.{body_of}
 use Rattle.reply_forms.specs.declared.body.ReplyBody.TheVariants as bodies
+use Rattle.http_heads.specs.declared.scan.TheConstants.{MAX_HEAD}
 use Rattle.http_heads.specs.declared.status.Status.TheVariants as statuses
 use Rattle.http_requests.specs.Asked.{of_desk, of_party}
-use Rattle.http_requests.specs.Next.{Incoming, CutEnd, nothing, within, status, parted, stopped, Cuts}
+use Rattle.http_requests.specs.Next.{Incoming, CutEnd, nothing, within, status, parted, stopped, whole, IsNext, Cuts}
 use Rattle.pint_http.specs.Reply.{status_of, reply_text, known_body}
 use Rattle.http_requests.specs.declared.end.LinkEnd.{LinkEnd}
 use Rattle.http_requests.specs.declared.end.LinkEnd.TheVariants.{Closed, Cut, ReadFault, WriteFault, Limit, NoMemory}
@@ -78,6 +79,22 @@ IsEndOf WriteFault s left = Unit {0}
 IsEndOf Limit s left = (s.end ≡ stopped) × (length s.exchanges ≡ 1000000)
 IsEndOf NoMemory s left = Unit {0}
 
+-- the bytes begin with these requests, and this stands behind them
+abbrev pub StandsBehind : List ℕ → List Incoming → List ℕ → Type 0
+StandsBehind b [] rest = rest ≡ b
+StandsBehind b (a ∷ requests) rest =
+    (after : List ℕ) × IsNext b (whole a after) × StandsBehind after requests rest
+
+-- a status other than 400 refuses a request by its head alone: at most 16,384 bytes of it were read, and its body
+-- beyond those stays in the link
+abbrev pub LeavesBody : List ℕ → List Incoming → CutEnd → Type 0
+LeavesBody read requests (status s) =
+    s ≢ statuses.BadRequest → (rest : List ℕ) × StandsBehind read requests rest × (length rest ≤ MAX_HEAD)
+LeavesBody read requests nothing = Unit {0}
+LeavesBody read requests within = Unit {0}
+LeavesBody read requests parted = Unit {0}
+LeavesBody read requests stopped = Unit {0}
+
 -- the whole text of the session was written, or a first part of it
 abbrev pub Wrote : LinkEnd → Option (List ℕ) → Option (List ℕ) → List ℕ → Type 0
 Wrote Closed old new text = Appends old new text
@@ -96,6 +113,7 @@ pub record Served (end : LinkEnd) (left now_left written now_written : Option (L
   pub consumed : Consumes left now_left read
   pub cuts : Cuts read (map incoming_of session.exchanges) session.end
   pub ends : IsEndOf end session now_left
+  pub leaves : LeavesBody read (map incoming_of session.exchanges) session.end
   pub wrote : Wrote end written now_written (text_of known session)
   pub run : Run (calls_of session.exchanges)
   pub moments : Gives given (moments_of session.exchanges) now_given

@@ -30,7 +30,8 @@ pub const MOST_REPLIES: u32 = 1_000_000;
 /// What is written is a function of the bytes that were read and of the desk's outcomes. The clock is read once for
 /// each request of the desk. A fault of the link is answered only if the link's count of faults rose.
 ///
-/// It keeps at most one request and 4,096 further bytes in memory, and copies each body once.
+/// It keeps at most 16,384 bytes, or one request, in memory, and copies each body once. A body that is refused by its
+/// head is left in the link behind those bytes.
 pub fn serve_link<L: Link, K: Desk, C: Clock>(
     alloc: Global,
     link: &mut L,

@@ -1,4 +1,4 @@
-use Rattle.std.proofs.Common.{◌≡◌, ◌≤◌, List, [], ℕ, Bool, false, true, Some, None, arith, refl, sym, ◌∙◌, drop, rules}
+use Rattle.std.proofs.Common.{◌≡◌, ◌≤◌, List, [], ℕ, Bool, false, true, Some, None, arith, refl, sym, ap, ◌∙◌, length, drop, length-drop, rules}
 use Rattle.http_heads.specs.declared.status.Status.TheVariants.{BadRequest}
 use Rattle.http_requests.specs.Asked.{asked_view}
 use Rattle.http_requests.specs.Next.{Incoming, IsNext, whole, refused}
@@ -12,6 +12,7 @@ loop-count-init g c =
     record {
       progress = progress_at _ _ _ _ _ _ _ [] c.new-buffer.result.items _ _ 0 refl c.new-buffer.ensures.items
           (progress_at_start (g.L.Link.left c.args.link.now) (g.L.Link.written c.args.link.now) (g.C.Clock.given c.args.clock.now) (g.K.Desk.known desk) (λ calls. g.K.Desk.run desk calls desk) (g.met.K.Desk.starts desk));
+      room = rw c.new-buffer.ensures.items (omega arith);
       known = λ party. refl;
       later = omega arith;
     }
@@ -23,9 +24,11 @@ returns-in-Err-clause-served g c =
 
 pub returns-in-Refused-clause-served : goal.returns-in-Refused-clause-served
 returns-in-Refused-clause-served g c =
+    let most = rw c.in-Refused.is at c.in-Ok.ensures.most in
+    let room = c.loop-count.invariant.room in
     served_status c.refuse.result _ _ _ _ _ _ _ _ _ _ _ _ _ c.in-Refused.status
     (progress_at _ _ _ _ _ _ _ _ c.loop-count.buffer.items _ _ _ c.in-Ok.ensures.written refl c.loop-count.invariant.progress)
-    (fills_at _ _ _ _ _ c.refuse.ensures.left c.in-Ok.ensures.filled) (rw c.in-Refused.is at c.in-Ok.ensures.front) c.refuse.ensures.ends c.refuse.ensures.wrote
+    (fills_at _ _ _ _ _ c.refuse.ensures.left c.in-Ok.ensures.filled) (rw c.in-Refused.is at c.in-Ok.ensures.front) (λ other. omega (arith, most, room)) c.refuse.ensures.ends c.refuse.ensures.wrote
 
 pub returns-in-Ok-None-clause-served : goal.returns-in-Ok-None-clause-served
 returns-in-Ok-None-clause-served g c =
@@ -35,7 +38,7 @@ returns-in-Ok-None-clause-served g c =
     let next = next_formed filled (drop c.in-Whole.end filled) _ None c.in-Whole.keeps value front in
     served_status c.refuse-in-Ok-None.result _ _ _ _ _ _ _ _ _ _ _ _ _ BadRequest
     (progress_at _ _ _ _ _ _ _ _ c.loop-count.buffer.items _ _ _ c.in-Ok.ensures.written refl c.loop-count.invariant.progress)
-    (fills_at _ _ _ _ _ c.refuse-in-Ok-None.ensures.left c.in-Ok.ensures.filled) next c.refuse-in-Ok-None.ensures.ends c.refuse-in-Ok-None.ensures.wrote
+    (fills_at _ _ _ _ _ c.refuse-in-Ok-None.ensures.left c.in-Ok.ensures.filled) next (λ other. absurd (other refl)) c.refuse-in-Ok-None.ensures.ends c.refuse-in-Ok-None.ensures.wrote
 
 pub returns-in-Err-asked_of-clause-served : goal.returns-in-Err-asked_of-clause-served
 returns-in-Err-asked_of-clause-served g c =
@@ -75,12 +78,15 @@ loop-count-preserved g c =
     let read = c.in-Ok.ensures.later in
     let wrote = c.in-Ok-answer.ensures.later in
     let before = c.loop-count.invariant.later in
+    let most = rw c.in-Whole.is at c.in-Ok.ensures.most in
+    let room = c.loop-count.invariant.room in
     record {
       progress = progress_at _ _ _ _ _ _ _ _ c.drop_front.new.buffer.items _ _ _ refl c.drop_front.ensures
           (progress_over _ _ _ _ _ _ _ _ _ _ _ _ _ _ _ _ _
           (progress_at _ _ _ _ _ _ _ _ c.loop-count.buffer.items _ _ _ c.in-Ok.ensures.written refl c.loop-count.invariant.progress)
           (fills_at _ _ _ _ _ c.in-Ok-answer.ensures.left c.in-Ok.ensures.filled) next keeps
           (answered_known Closed _ _ _ _ _ _ _ _ _ c.loop-count.invariant.known (c.in-Ok-answer.ensures.ok c.args.desk.now)));
+      room = omega (arith, most, room, ap length c.drop_front.ensures, length-drop c.in-Whole.end filled);
       known = λ party. c.in-Ok-answer.ensures.known party ∙ c.loop-count.invariant.known party;
       later = omega (arith, read, wrote, before);
     }
