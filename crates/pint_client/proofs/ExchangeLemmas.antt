@@ -7,7 +7,7 @@ use Rattle.ebl_edge.specs.Sink.{AppendsFirst}
 use Rattle.pint_client.specs.declared.client_fault.ClientFault.{ClientFault}
 use Rattle.pint_client.specs.declared.client_fault.ClientFault.TheVariants.{Fault, BadReply, NoMemory}
 use Rattle.pint_client.specs.declared.incoming.Incoming.{Incoming}
-use Rattle.pint_client.specs.declared.head_scan.HeadScan.TheVariants.{Blank}
+use Rattle.http_heads.specs.declared.scan.Scan.TheVariants.{Blank}
 use Rattle.pint_client.specs.Reply.{IsReply}
 use Rattle.pint_client.specs.Exchange.{Decides, IsAnswerTo, ReadsReply, Wrote}
 use Rattle.httparse.proofs.GrammarLemmas.{ReadsResponse-append}

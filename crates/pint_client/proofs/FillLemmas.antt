@@ -7,11 +7,11 @@ use Rattle.std.proofs.lemmas.List.{take-append-le, take_all, take_min}
 use Rattle.std.proofs.Math.ListN.{drop_of_length-le}
 use Rattle.std.proofs.Math.Seq.{take-append-add, take-append_seam}
 use borrow.Rule.Slice.PartMut.{put_mid, post_of}
-use Rattle.pint_client.specs.declared.head_scan.HeadScan.{HeadScan}
-use Rattle.pint_client.specs.declared.head_scan.HeadScan.TheVariants.{Blank}
-use Rattle.pint_client.specs.HeadScan.{scan}
+use Rattle.http_heads.specs.declared.scan.Scan.{Scan}
+use Rattle.http_heads.specs.declared.scan.Scan.TheVariants.{Blank}
+use Rattle.http_heads.specs.Scan.{scan}
 use Rattle.pint_client.specs.Receiving.{HoldsBody}
-use Rattle.pint_client.proofs.ScanLemmas.{scan-goes_on}
+use Rattle.http_heads.proofs.ScanLemmas.{scan-goes_on}
 
 pub length-put_mid : (count : ℕ) (buffer piece : List ℕ) → count ≤ length buffer → length piece ≡ length buffer - count
     → length (put_mid count (length buffer - count) buffer piece) ≡ length buffer
@@ -57,7 +57,7 @@ slice_range-filled count room more buffer piece within fits =
     ∙ ap (λ n. take n (piece ++ rest)) same ∙ take-append-le more piece rest fits
 
 -- a scan over what was read last goes on over the whole
-pub scan-filled : (s : HeadScan) (count room more : ℕ) (buffer piece : List ℕ) → count ≤ length buffer → more ≤ length piece
+pub scan-filled : (s : Scan) (count room more : ℕ) (buffer piece : List ℕ) → count ≤ length buffer → more ≤ length piece
     → scan 0 Blank (take count buffer) ≡ Err s
     → scan 0 Blank (take (count + more) (put_mid count room buffer piece))
     ≡ scan count s (slice_range (put_mid count room buffer piece) count (count + more))

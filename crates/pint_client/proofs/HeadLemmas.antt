@@ -6,16 +6,16 @@ use Rattle.std.specs.Char.{is_ascii_digit}
 use Rattle.std.proofs.lemmas.Bool.{ne_eqb}
 use Rattle.httparse.specs.Ascii.{space, colon, digit_zero}
 use Rattle.httparse.specs.Grammar.{AllPass, is_token_byte, is_value_byte, IsToken, LineEnd, crlf, lf, print_end, print_blank, print_version, Field, print_field, IsField, ResponseHead, print_reason, reason_phrase, print_response, IsResponseHead, ReadsResponse}
-use Rattle.pint_client.specs.declared.head_scan.HeadScan.{HeadScan}
-use Rattle.pint_client.specs.declared.head_scan.HeadScan.TheVariants.{Blank, Text, Start}
-use Rattle.pint_client.specs.HeadScan.{step, scan}
-use Rattle.pint_client.proofs.ScanLemmas.{scan-found, scan-goes_on}
+use Rattle.http_heads.specs.declared.scan.Scan.{Scan}
+use Rattle.http_heads.specs.declared.scan.Scan.TheVariants.{Blank, Text, Start}
+use Rattle.http_heads.specs.Scan.{step, scan}
+use Rattle.http_heads.proofs.ScanLemmas.{scan-found, scan-goes_on}
 
 -- over these bytes the scan comes from `s` to `t`, without an end
-abbrev Passes : HeadScan → List ℕ → HeadScan → Type 0
+abbrev Passes : Scan → List ℕ → Scan → Type 0
 Passes s part t = (n : ℕ) → scan n s part ≡ Err t
 
-joined : (s t u : HeadScan) (a b : List ℕ) → Passes s a t → Passes t b u → Passes s (a ++ b) u
+joined : (s t u : Scan) (a b : List ℕ) → Passes s a t → Passes t b u → Passes s (a ++ b) u
 joined s t u a b first second = λ n. scan-goes_on n s t a b (first n) ∙ second (n + length a)
 
 -- bytes that end no line

@@ -1,13 +1,15 @@
 -- The number that up to 19 digits write, digit by digit.
 use Rattle.std.proofs.Common.{◌≡◌, ℕ, ◌+◌, ◌-◌, ◌*◌, ◌^◌, ◌≤◌, ◌<◌, true, List, length, take, get_or, ap, ◌∙◌, arith}
 use Rattle.std.specs.Prelude.{nat_le, ◌&&◌}
-use Rattle.std.specs.Str.{all_ascii_digits}
-use Rattle.std.specs.Str.Parse.{digits_value}
+use Rattle.std.specs.Char.{is_ascii_digit}
+use Rattle.std.specs.List.{list_all}
+use Rattle.std.specs.Str.Parse.{AllDigits, digits_value}
 use Rattle.std.proofs.lemmas.Bool.{leb-true, and_parts}
 use Rattle.std.proofs.lemmas.Str.{digit_value_digit}
-use Rattle.std.proofs.lemmas.Str.Parse.{numerals_by_value, tells_all_ascii_digits, digits_value_short, digits_value-take-le, digit_at}
+use Rattle.std.proofs.lemmas.Str.Parse.{numerals_by_value, tells_digits, digits_value_short, digits_value-take-le, digit_at}
 use Rattle.std.proofs.lemmas.Int.Digits.{digits_value_more}
-use Rattle.pint_client.specs.Reply.{is_length}
+use Rattle.http_heads.specs.Fields.{is_length}
+use Rattle.http_heads.proofs.LengthLemmas.{AllDigits-tested}
 
 -- the digit at a place, and the number with it
 pub record NextDigit (ds : List ℕ) (i : ℕ) : Type 0 where
@@ -18,13 +20,14 @@ pub record NextDigit (ds : List ℕ) (i : ℕ) : Type 0 where
 
 pub next_digit : (ds : List ℕ) (i : ℕ) → is_length ds ≡ true → i < length ds → NextDigit ds i
 next_digit ds i form within =
-    let parts = and_parts (nat_le 1 (length ds)) (nat_le (length ds) 19 && all_ascii_digits ds) form in
-    let rest = and_parts (nat_le (length ds) 19) (all_ascii_digits ds) parts.1 in
+    let parts = and_parts (nat_le 1 (length ds)) (nat_le (length ds) 19 && list_all is_ascii_digit ds) form in
+    let rest = and_parts (nat_le (length ds) 19) (list_all is_ascii_digit ds) parts.1 in
     let few : length ds ≤ 19 = leb-true (length ds) 19 rest.0 in
-    let own = numerals_by_value _ tells_all_ascii_digits in
-    let digit = digit_at ds i (own.to ds rest.1) within in
+    let all = AllDigits-tested ds rest.1 in
+    let own = numerals_by_value (AllDigits 10) tells_digits in
+    let digit = digit_at ds i all within in
     let value = digit_value_digit (get_or ds i 0) digit in
-    let whole : digits_value 10 ds < 10 ^ 19 = digits_value_short own ds 19 rest.1 few in
+    let whole : digits_value 10 ds < 10 ^ 19 = digits_value_short own ds 19 all few in
     let front = digits_value-take-le 10 ds (i + 1) (omega arith) in
     let step = digits_value_more 10 ds i within in
     record {

@@ -12,26 +12,27 @@ use Rattle.httparse.specs.Grammar.{ResponseHead, ReadsResponse, print_response}
 use Rattle.httparse.proofs.GrammarLemmas.{response_unique}
 use Rattle.pint_client.specs.declared.client_fault.ClientFault.{ClientFault}
 use Rattle.pint_client.specs.declared.client_fault.ClientFault.TheVariants.{Fault, BadReply, NoMemory}
-use Rattle.pint_client.specs.declared.head_scan.HeadScan.{HeadScan}
-use Rattle.pint_client.specs.declared.head_scan.HeadScan.TheVariants.{Blank}
-use Rattle.pint_client.specs.HeadScan.{scan}
+use Rattle.http_heads.specs.declared.scan.Scan.{Scan}
+use Rattle.http_heads.specs.declared.scan.Scan.TheVariants.{Blank}
+use Rattle.http_heads.specs.Scan.{scan}
 use Rattle.pint_client.specs.Reply.{IsReply, HasNoReply, NeverHasReply, States, stated_length}
 use Rattle.pint_client.specs.Exchange.{ReadsReply}
 use Rattle.pint_client.specs.Receiving.{HoldsHead, HoldsBody, LacksBytes}
-use Rattle.pint_client.proofs.ScanLemmas.{scan-found, scan-goes_on, scan-within, scan-past}
+use Rattle.http_heads.proofs.ScanLemmas.{scan-found, scan-goes_on, scan-within}
+use Rattle.pint_client.proofs.ScanLemmas.{scan-past}
 use Rattle.pint_client.proofs.HeadLemmas.{scan-reads}
 use Rattle.pint_client.proofs.ReplyLemmas.{one_some}
 
 -- ---- before the end of a head
 
-no_end : (s : HeadScan) (n : ℕ) (r : Result ℕ HeadScan) → r ≡ Err s → r ≡ Ok n → ⊥
+no_end : (s : Scan) (n : ℕ) (r : Result ℕ Scan) → r ≡ Err s → r ≡ Ok n → ⊥
 no_end s n r err ok = let both : Err s ≡ Ok n = sym err ∙ ok in absurd (cc)
 
-pub no_reply : (read : List ℕ) (s : HeadScan) → scan 0 Blank read ≡ Err s → HasNoReply read
+pub no_reply : (read : List ℕ) (s : Scan) → scan 0 Blank read ≡ Err s → HasNoReply read
 no_reply read s none status body after is =
     no_end s (length (print_response is.head)) (scan 0 Blank read) none (scan-reads read is.head (body ++ after) is.reads)
 
-never_reply : (read : List ℕ) (s : HeadScan) → scan 0 Blank read ≡ Err s → 16384 ≤ length read → NeverHasReply read
+never_reply : (read : List ℕ) (s : Scan) → scan 0 Blank read ≡ Err s → 16384 ≤ length read → NeverHasReply read
 never_reply read s none many more status body after is =
     let ends = scan-reads (read ++ more) is.head (body ++ after) is.reads in
     let goes = scan-goes_on 0 Blank s read more none in
@@ -40,7 +41,7 @@ never_reply read s none many more status body after is =
     absurd (omega (arith, past, size, many))
 
 -- the input ended
-pub ended : (a b c : Option (List ℕ)) (read piece : List ℕ) (n : ℕ) (s : HeadScan) → Consumes a b read → n ≡ 0 → 0 < length piece
+pub ended : (a b c : Option (List ℕ)) (read piece : List ℕ) (n : ℕ) (s : Scan) → Consumes a b read → n ≡ 0 → 0 < length piece
     → Consumes b c (take n piece) × (n ≡ 0 → 0 < length piece → IsAtEnd c) → scan 0 Blank read ≡ Err s → ReadsReply (Err BadReply) a c
 ended a b c read piece n s first nothing room second none =
     let last = Consumes-trans a b c read (take n piece) first second.0 in
@@ -52,12 +53,12 @@ ended a b c read piece n s first nothing room second none =
     }
 
 -- a read failed
-pub failed : (a b c : Option (List ℕ)) (read : List ℕ) (s : HeadScan) → Consumes a b read → Keeps b c → scan 0 Blank read ≡ Err s
+pub failed : (a b c : Option (List ℕ)) (read : List ℕ) (s : Scan) → Consumes a b read → Keeps b c → scan 0 Blank read ≡ Err s
     → ReadsReply (Err Fault) a c
 failed a b c read s first second none = record { read = read; consumed = Consumes-kept a b c read first second; decides = no_reply read s none }
 
 -- no head ended within the most bytes of one
-pub overlong : (a b : Option (List ℕ)) (read : List ℕ) (s : HeadScan) → Consumes a b read → scan 0 Blank read ≡ Err s → 16384 ≤ length read
+pub overlong : (a b : Option (List ℕ)) (read : List ℕ) (s : Scan) → Consumes a b read → scan 0 Blank read ≡ Err s → 16384 ≤ length read
     → ReadsReply (Err BadReply) a b
 overlong a b read s consumed none many = record { read = read; consumed = consumed; decides = inl (never_reply read s none many) }
 

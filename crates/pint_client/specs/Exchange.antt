@@ -1,7 +1,7 @@
 -- What one exchange writes and reads.
 use Rattle.std.specs.Prelude.{◌≡◌, ◌⊎◌, ℕ, ◌≤◌, List, [], length, Option, Result, Ok, Err}
 use Rattle.std.specs.Io.KnownBytes.{Appends, Consumes, IsAtEnd}
-use Rattle.pint_client.specs.declared.receiving.TheConstants.{MAX_HEAD}
+use Rattle.http_heads.specs.declared.scan.TheConstants.{MAX_HEAD}
 use Rattle.ebl_edge.specs.Sink.{AppendsFirst}
 use Rattle.pint_client.specs.declared.client_fault.ClientFault.{ClientFault}
 use Rattle.pint_client.specs.declared.client_fault.ClientFault.TheVariants.{Fault, BadReply, NoMemory}

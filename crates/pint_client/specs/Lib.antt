@@ -1,4 +1,3 @@
-pub mod HeadScan
 pub mod Reply
 pub mod Request
 pub mod Exchange

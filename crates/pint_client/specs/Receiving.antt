@@ -3,8 +3,8 @@ use Rattle.std.specs.Prelude.{◌≡◌, ◌≢◌, ℕ, ◌<◌, ◌≤◌, Lis
 use Rattle.std.specs.Io.KnownBytes.{Consumes, IsAtEnd}
 use Rattle.pint_client.specs.declared.client_fault.ClientFault.{ClientFault}
 use Rattle.pint_client.specs.declared.client_fault.ClientFault.TheVariants.{BadReply, NoMemory}
-use Rattle.pint_client.specs.declared.head_scan.HeadScan.TheVariants.{Blank}
-use Rattle.pint_client.specs.HeadScan.{scan}
+use Rattle.http_heads.specs.declared.scan.Scan.TheVariants.{Blank}
+use Rattle.http_heads.specs.Scan.{scan}
 
 -- a head of `len` bytes is in the first `count` bytes of the buffer, which were read
 pub record HoldsHead (buffer : List ℕ) (len count : ℕ) (left now_left : Option (List ℕ)) : Type 0 where

@@ -1,41 +1,18 @@
 -- A reply: a head (RFC 9112, sections 4 and 5) and a body of the length that the head states.
-use Rattle.std.specs.Prelude.{◌≡◌, ℕ, ◌≤◌, ◌==◌, nat_le, Bool, true, false, ◌&&◌, List, [], ◌∷◌, ◌++◌, length, map, codes, Option, Some, None, if◌then◌else◌}
+use Rattle.std.specs.Prelude.{◌≡◌, ℕ, ◌≤◌, ◌==◌, ◌&&◌, List, [], ◌++◌, length, map, codes, Option, Some, None, if◌then◌else◌}
 use Rattle.std.specs.List.{list_all}
-use Rattle.std.specs.Char.{to_ascii_lowercase}
-use Rattle.std.specs.Str.{all_ascii_digits, bytes_eq}
 use Rattle.std.specs.Str.Parse.{digits_value}
-use Rattle.pint_client.specs.declared.reply_head.TheConstants.{MAX_BODY, MAX_FIELDS}
-use Rattle.pint_client.specs.declared.receiving.TheConstants.{MAX_HEAD}
+use Rattle.http_heads.specs.declared.fields.TheConstants.{MAX_BODY}
+use Rattle.http_heads.specs.declared.head.TheConstants.{MAX_FIELDS}
+use Rattle.http_heads.specs.declared.scan.TheConstants.{MAX_HEAD}
+use Rattle.http_heads.specs.Fields.{Fields, is_text, values, first_of, has_one, is_length}
 use Rattle.httparse.specs.Grammar.{ResponseHead, ReadsResponse, print_response, status_code}
 use Rattle.httparse.specs.Spans.{name_and_value}
-
--- the texts are one, with letters in either case
-abbrev pub is_name : List ℕ → List ℕ → Bool
-is_name a b = bytes_eq (map to_ascii_lowercase a) (map to_ascii_lowercase b)
-
--- the values of the fields of this name, in order
-abbrev pub values : List ℕ → List (List ℕ × List ℕ) → List (List ℕ)
-values name [] = []
-values name (f ∷ fields) = if is_name name f.0 then f.1 ∷ values name fields else values name fields
-
--- there is a field of this name
-abbrev pub has_field : List ℕ → List (List ℕ × List ℕ) → Bool
-has_field name [] = false
-has_field name (f ∷ fields) = if is_name name f.0 then true else has_field name fields
-
--- 1 to 19 digits
-abbrev pub is_length : List ℕ → Bool
-is_length value = nat_le 1 (length value) && (nat_le (length value) 19 && all_ascii_digits value)
-
--- the first of these
-abbrev pub first_of : List (List ℕ) → Option (List ℕ)
-first_of [] = None
-first_of (v ∷ vs) = Some v
 
 -- the length that the first of these values states, if it is a length and all have its text
 abbrev pub length_of : Option (List ℕ) → List (List ℕ) → Option ℕ
 length_of None vs = None
-length_of (Some v) vs = if is_length v && list_all (bytes_eq v) vs then Some (digits_value 10 v) else None
+length_of (Some v) vs = if is_length v && list_all (is_text v) vs then Some (digits_value 10 v) else None
 
 -- the length that these values state
 abbrev pub length_in : List (List ℕ) → Option ℕ
@@ -43,10 +20,10 @@ length_in vs = length_of (first_of vs) vs
 
 -- the length of the body that a head states: with the status 204 it is 0, whatever the fields are (RFC 9112,
 -- section 6.3); else it is that of `content-length`, unless the body has a transfer coding
-abbrev pub length_by : ℕ → List (List ℕ × List ℕ) → Option ℕ
+abbrev pub length_by : ℕ → Fields → Option ℕ
 length_by status fields =
     if status == 204 then Some 0 else (
-    if has_field (codes "transfer-encoding") fields then None
+    if has_one (values (codes "transfer-encoding") fields) then None
     else length_in (values (codes "content-length") fields))
 
 abbrev pub stated_length : ResponseHead → Option ℕ

@@ -2,7 +2,6 @@
 #![tactic(auto)]
 
 mod client_fault;
-mod head_scan;
 mod incoming;
 mod laws;
 mod receiving;

@@ -2,19 +2,17 @@
 ghost use Rattle.std.specs.Prelude.{◌≡◌, ◌≤◌, ◌-◌, ◌++◌, length, drop, Err, IfOk, OnOk, IfErr, IsErrOf};
 ghost use Rattle.std.specs.Io.KnownBytes.{Consumes};
 ghost use Rattle.ebl_base.specs.Faults.{Rose};
+ghost use Rattle.http_heads.specs.declared.scan.TheConstants.{MAX_HEAD};
 ghost use Rattle.pint_client.specs.Exchange.{ReadsReply};
 ghost use Rattle.pint_client.specs.Receiving.{HoldsBody, HoldsHead, LacksBytes};
 
 use crate::client_fault::ClientFault;
-use crate::head_scan::HeadScan;
 use crate::incoming::Incoming;
 use crate::reply_head::reply_head;
 use ebl_base::{ByteList, NoMemory};
 use ebl_edge::Link;
+use http_heads::{MAX_HEAD, Scan};
 use std::alloc::Global;
-
-/// The most bytes of a reply's head.
-pub const MAX_HEAD: usize = 16_384;
 
 /// Reads one reply. Bytes behind it are read only if they come with its head.
 pub fn receive<L: Link>(alloc: Global, link: &mut L) -> Result<Incoming, ClientFault>
@@ -81,7 +79,7 @@ fn await_head<L: Link>(link: &mut L, buffer: &mut [u8]) -> Result<HeadAt, Client
     ensures later { L.faults link.old ≤ L.faults link.new }
     ensures written { L.written link.new ≡ L.written link.old }
 {
-    let mut scan = HeadScan::Blank;
+    let mut scan = Scan::Blank;
     let mut count = 0;
     while count < buffer.len() {
         let more = match link.read(&mut buffer[count..]) {

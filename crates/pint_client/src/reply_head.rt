@@ -1,20 +1,15 @@
 //! What the head of a reply says.
-ghost use Rattle.std.specs.Prelude.{◌≡◌, ◌≤◌, ◌<◌, ◌^◌, [], ℕ, codes, true, length, map, IfSome, IfNone, All, option_map, Option, Some};
-ghost use Rattle.std.specs.List.{list_all};
-ghost use Rattle.std.specs.Str.{all_ascii_digits, bytes_eq};
+ghost use Rattle.std.specs.Prelude.{◌≡◌, ◌≤◌, ◌<◌, ◌^◌, [], ℕ, codes, true, length, map, IfSome, IfNone, All, Option, Some};
 ghost use Rattle.std.specs.Str.Parse.{digits_value};
 ghost use Rattle.httparse.specs.Grammar.{ResponseHead, ReadsResponse};
 ghost use Rattle.httparse.specs.Spans.{header_bytes, IsHeaderWithin, IsResponseAt, IsResponseWithin};
-ghost use Rattle.pint_client.specs.Reply.{States, first_of, has_field, is_length, is_name, length_by, length_in, values};
+ghost use Rattle.http_heads.specs.declared.head.TheConstants.{MAX_FIELDS};
+ghost use Rattle.http_heads.specs.Fields.{is_length};
+ghost use Rattle.pint_client.specs.Reply.{States, length_by};
 
+use http_heads::{MAX_BODY, MAX_FIELDS, are_all, first_value, has_field, is_length};
 use httparse::Status;
 use httparse::spans::{EMPTY_HEADER_SPAN, HeaderSpan, ResponseSpans, parse_response};
-
-/// The most fields of a reply's head.
-pub const MAX_FIELDS: usize = 64;
-
-/// The most bytes of a reply's body.
-pub const MAX_BODY: usize = 4_194_304;
 
 /// What the head of a reply says: its status, and how long its body is.
 #[derive(Clone, Copy, Debug, PartialEq, Eq)]
@@ -36,7 +31,7 @@ pub fn reply_head(piece: &[u8]) -> Option<ReplyHead>
     let Some(size) = stated_length(piece, head.code, &headers[..head.headers]) else {
         return None;
     };
-    if size > MAX_BODY as u64 {
+    if size > MAX_BODY {
         return None;
     }
     Some(ReplyHead {
@@ -85,59 +80,6 @@ fn stated_length(piece: &[u8], status: u16, headers: &[HeaderSpan]) -> Option<u6
     }
 }
 
-fn has_field(piece: &[u8], headers: &[HeaderSpan], name: &[u8]) -> bool
-    requires { All (IsHeaderWithin (length piece.now)) headers.now }
-    ensures { result ≡ has_field name.now (map (header_bytes piece.now) headers.now) }
-{
-    for header in headers {
-        if is_name(name, header.name.of(piece)) {
-            return true;
-        }
-    }
-    false
-}
-
-fn first_value<'a>(piece: &'a [u8], headers: &[HeaderSpan], name: &[u8]) -> Option<&'a [u8]>
-    requires { All (IsHeaderWithin (length piece.now)) headers.now }
-    ensures { option_map (λ v. v.now) result ≡ first_of (values name.now (map (header_bytes piece.now) headers.now)) }
-{
-    for header in headers {
-        if is_name(name, header.name.of(piece)) {
-            return Some(header.value.of(piece));
-        }
-    }
-    None
-}
-
-fn are_all(piece: &[u8], headers: &[HeaderSpan], name: &[u8], value: &[u8]) -> bool
-    requires { All (IsHeaderWithin (length piece.now)) headers.now }
-    ensures { result ≡ list_all (bytes_eq value.now) (values name.now (map (header_bytes piece.now) headers.now)) }
-{
-    for header in headers {
-        if is_name(name, header.name.of(piece)) && !is_text(value, header.value.of(piece)) {
-            return false;
-        }
-    }
-    true
-}
-
-fn is_length(value: &[u8]) -> bool
-    ensures { result ≡ is_length value.now }
-{
-    1 <= value.len() && value.len() <= 19 && are_digits(value)
-}
-
-fn are_digits(value: &[u8]) -> bool
-    ensures { result ≡ all_ascii_digits value.now }
-{
-    for digit in value {
-        if !digit.is_ascii_digit() {
-            return false;
-        }
-    }
-    true
-}
-
 fn number(digits: &[u8]) -> u64
     requires { is_length digits.now ≡ true }
     ensures { result ≡ digits_value 10 digits.now }
@@ -147,16 +89,4 @@ fn number(digits: &[u8]) -> u64
         count = count * 10 + u64::from(*digit - b'0');
     }
     count
-}
-
-fn is_text(a: &[u8], b: &[u8]) -> bool
-    ensures { result ≡ bytes_eq a.now b.now }
-{
-    a == b
-}
-
-fn is_name(a: &[u8], b: &[u8]) -> bool
-    ensures { result ≡ is_name a.now b.now }
-{
-    a.eq_ignore_ascii_case(b)
 }

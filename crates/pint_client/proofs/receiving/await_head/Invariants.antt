@@ -1,8 +1,8 @@
 use Rattle.std.proofs.Common.{◌≡◌, ◌≤◌, ◌-◌, length, take}
 use Rattle.std.specs.Prelude.{Err}
 use Rattle.std.specs.Io.KnownBytes.{Consumes}
-use Rattle.pint_client.specs.declared.head_scan.HeadScan.TheVariants.{Blank}
-use Rattle.pint_client.specs.HeadScan.{scan}
+use Rattle.http_heads.specs.declared.scan.Scan.TheVariants.{Blank}
+use Rattle.http_heads.specs.Scan.{scan}
 use Rattle.pint_client.proofs.receiving.await_head.Given as goal
 
 abbrev pub invariant-loop-count : goal.invariant-loop-count
