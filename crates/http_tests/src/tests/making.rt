@@ -19,6 +19,20 @@ pub(crate) fn joined(alloc: Global, parts: &[&[u8]]) -> Result<Vec<u8>, NoMemory
     Ok(text)
 }
 
+/// A head of so many bytes, which states this length of the body.
+pub(crate) fn head_of(alloc: Global, length: &[u8], size: usize) -> Result<Vec<u8>, NoMemory> {
+    let start = b"POST /v3/envelopes HTTP/1.1\r\ncontent-length: ";
+    let mut head = joined(alloc, &[start, length, b"\r\na:"])?;
+    for _ in head.len()..size.saturating_sub(4) {
+        head.push(b'x')?;
+    }
+    head.extend_from_slice(b"\r\n\r\n")?;
+    Ok(head)
+}
+
+/// Pieces of which the last byte of a head of 16,384 bytes comes alone, with what stands behind it.
+pub(crate) const ONE_LAST: &[usize] = &[4095, 4096, 4096, 4096];
+
 /// A link that hands out these bytes in pieces of these sizes, and fails at these calls.
 pub(crate) fn link_of(
     alloc: Global,

@@ -1,5 +1,5 @@
 //! The front of a link's bytes, however they come.
-use crate::tests::making::{joined, link_of, same};
+use crate::tests::making::{ONE_LAST, head_of, joined, link_of, same};
 use ebl_base::NoMemory;
 use ebl_edge::MemoryLink;
 use http_heads::{MAX_HEAD, Plans, Route, Status};
@@ -101,22 +101,6 @@ fn two_requests_in_one_piece(rt: HostRuntime) -> Result<(), Fail> {
     asserted
 }
 
-// A head of so many bytes.
-fn head_of(alloc: Global, size: usize) -> Result<Vec<u8>, NoMemory> {
-    let mut head = Vec::from_slice(
-        alloc,
-        b"POST /v3/envelopes HTTP/1.1\r\ncontent-length: 0\r\na:",
-    )?;
-    for _ in head.len()..size.saturating_sub(4) {
-        head.push(b'x')?;
-    }
-    head.extend_from_slice(b"\r\n\r\n")?;
-    Ok(head)
-}
-
-// One byte comes last.
-const ONE_LAST: &[usize] = &[4095, 4096, 4096, 4096];
-
 const LONGEST: Front = Front::Whole {
     route: Route::Start,
     start: MAX_HEAD,
@@ -141,7 +125,7 @@ fn size_row<R: Abort>(
     pieces: &[usize],
     front: Front,
 ) -> Result<(), NoMemory> {
-    let head = head_of(alloc, size)?;
+    let head = head_of(alloc, b"0", size)?;
     same(rt, &size, head.len(), size);
     same(
         rt,

@@ -1,8 +1,12 @@
 //! The rows that were worked by hand, heads that end a session, and those that don't.
-use crate::tests::making::{cells, joined, same};
+use crate::tests::making::{ONE_LAST, cells, head_of, joined, link_of, same};
 use crate::tests::sessions::{
-    FINISH, KNOWN, REFERENCE, UNKNOWN_REFERENCE, VALIDATION, bare_desk, session, session_with,
+    FINISH, KNOWN, REFERENCE, UNKNOWN_REFERENCE, VALIDATION, bare_desk, served_bare, session,
+    session_with,
 };
+use ebl_base::NoMemory;
+use ebl_edge::MemoryLink;
+use http_heads::MAX_HEAD;
 use pint_http::LinkEnd;
 use platform_requests::{KeptCall, MemoryDesk, Request};
 use std::alloc::{AllocError, Global};
@@ -126,6 +130,47 @@ fn refused_rows<R: Abort>(rt: &R, alloc: Global, rows: &str) -> Result<(), Fail>
 fn replies_that_close_the_link(rt: HostRuntime) -> Result<(), Fail> {
     for rows in &[REFUSED, IN_ORDER, CLOSING] {
         refused_rows(&rt, rt.alloc(), rows)?;
+    }
+    Ok(())
+}
+
+// A head of so many bytes that states one byte too many, and 20,000 bytes of its body, in pieces of these sizes.
+fn too_large(alloc: Global, size: usize, pieces: &[usize]) -> Result<MemoryLink, NoMemory> {
+    let head = head_of(alloc, b"4194305", size)?;
+    let body = vec![in alloc; b'x'; 20_000]?;
+    let input = joined(alloc, &[&head, &body])?;
+    link_of(alloc, &input, pieces, &[])
+}
+
+// The size of a head, the sizes of its pieces, and how many of the 20,000 bytes are left: none was read but what came
+// among the first 16,384 bytes, in pieces of at most 4,096.
+const LEFT: [(usize, &[usize], usize); 5] = [
+    (96, &[], 16_000),
+    (16_380, &[], 19_996),
+    (16_380, &[4095, 4096, 4096, 4080], 19_996),
+    (MAX_HEAD, &[], 20_000),
+    (MAX_HEAD, ONE_LAST, 20_000),
+];
+
+fn left_row<R: Abort>(
+    rt: &R,
+    alloc: Global,
+    size: usize,
+    pieces: &[usize],
+    left: usize,
+) -> Result<u64, Fail> {
+    let written = closing_reply(alloc, "413 Payload Too Large")?;
+    let mut link = too_large(alloc, size, pieces)?;
+    let served = served_bare(rt, alloc, &mut link, LinkEnd::Closed, written.as_bytes());
+    same(rt, &size, link.left().len(), left);
+    drop(link);
+    served
+}
+
+#[test]
+fn a_refused_body_is_not_read(rt: HostRuntime) -> Result<(), Fail> {
+    for (size, pieces, left) in &LEFT {
+        let _ = left_row(&rt, rt.alloc(), *size, pieces, *left)?;
     }
     Ok(())
 }
