@@ -8,7 +8,7 @@ use Rattle.ebl_base.specs.declared.checksum.Checksum.{Checksum}
 use Rattle.ebl_base.specs.declared.chain.ChainLink.{ChainLink}
 use Rattle.ebl_base.specs.declared.platform_code.PlatformCode.{PlatformCode}
 use Rattle.ebl_base.specs.declared.reference.Reference.{Reference}
-use Rattle.bill_chain.specs.Chain.{ends_in, last_of, IsChainOfBill}
+use Rattle.bill_chain.specs.Chain.{destination, ends_in, last_of, IsChainOfBill}
 use Rattle.bill_diary.specs.declared.record.Record.{Record}
 use Rattle.bill_diary.specs.declared.record.Record.TheVariants.{Signed, Acted, Attached, Parted, Settled, Regained, Begun, Stored, Taken, Declined}
 use Rattle.bill_diary.specs.declared.frame.Frame.{Frame}
@@ -19,27 +19,30 @@ use Rattle.bill_diary.specs.Texts.{LinksAreTheirTexts}
 use Rattle.bill_diary.proofs.ReferenceLemmas.{last_of_both}
 use Rattle.platform_machine.specs.Receiving.{BegunRecord, IsLastBegun}
 
--- what a Begun that may follow says of its chain and its manifest
-pub record IsWhole (b : BegunRecord) : Type 0 where
+-- what a Begun that may follow on a platform says of its chain and its manifest
+pub record IsWhole (me : PlatformCode) (b : BegunRecord) : Type 0 where
   pub good : IsChainOfBill b.bill b.chain
   pub links_are : LinksAreTheirTexts b.chain
   pub count : length b.manifest.documents ≤ 16
   pub last : ChainLink
   pub last_is : last_of b.chain ≡ Some last
+  pub ends_here : destination b.chain ≡ Some me
   pub names_bill : b.manifest.bill ≡ b.bill
   pub names_last : b.manifest.last ≡ last.name
 
-abbrev IfBegun : Record → Type 0
-IfBegun (Begun bill chain manifest body) = IsWhole (record { bill = bill; chain = chain; manifest = manifest; body = body })
-IfBegun r = Unit {0}
+abbrev IfBegun : PlatformCode → Record → Type 0
+IfBegun me (Begun bill chain manifest body) =
+    IsWhole me (record { bill = bill; chain = chain; manifest = manifest; body = body })
+IfBegun me r = Unit {0}
 
-if_begun : (me : PlatformCode) (records h : List Record) (r : Record) → MayFollow me records h r → IfBegun r
+if_begun : (me : PlatformCode) (records h : List Record) (r : Record) → MayFollow me records h r → IfBegun me r
 if_begun me records h (Begun b c m t) may = record {
   good = may.good;
   links_are = may.links_are;
   count = may.manifest_form.documents.count;
   last = may.receives.last;
   last_is = may.receives.last_is;
+  ends_here = may.receives.destination_is;
   names_bill = may.names_bill;
   names_last = may.names_last;
 }
@@ -54,27 +57,27 @@ if_begun me records h (Taken b e) may = tt
 if_begun me records h (Declined b e x q v) may = tt
 
 -- what is found has the reference, and is a record that may follow
-record IsFound (reference : Reference) (r : Record) : Type 0 where
+record IsFound (me : PlatformCode) (reference : Reference) (r : Record) : Type 0 where
   has : has_reference reference r ≡ true
-  begun : IfBegun r
+  begun : IfBegun me r
 
 found_is : (me : PlatformCode) (reference : Reference) (records : List Record) → AreSound me records → (r : Record)
-    → last_with_reference reference records ≡ Some r → IsFound reference r
+    → last_with_reference reference records ≡ Some r → IsFound me reference r
 found_is me reference [] sound r is = cc is
 found_is me reference (x ∷ records) sound r is =
     on_test (has_reference reference x) refl is (found_is me reference records sound.2 r)
   where
     on_test : (b : Bool) → has_reference reference x ≡ b
         → cond b (Some x) (last_with_reference reference records) ≡ Some r
-        → (last_with_reference reference records ≡ Some r → IsFound reference r) → IsFound reference r
+        → (last_with_reference reference records ≡ Some r → IsFound me reference r) → IsFound me reference r
     on_test true has found further =
         let same : x ≡ r = cc found in
-        subst (IsFound reference) same
+        subst (IsFound me reference) same
         (record { has = has; begun = if_begun me records (of_bill (bill_of x) records) x sound.0 })
     on_test false has found further = further found
 
 pub found_whole : (me : PlatformCode) (diary : List Frame) (reference : Reference) (b : BegunRecord) → IsSound me diary
-    → IsLastBegun reference diary b → IsWhole b
+    → IsLastBegun reference diary b → IsWhole me b
 found_whole me diary reference b sound is =
     (found_is me reference (newest_first diary) sound.records (Begun b.bill b.chain b.manifest b.body) is).begun
 

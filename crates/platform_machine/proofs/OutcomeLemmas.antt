@@ -119,14 +119,14 @@ finish_answers roster keys me diary b step j finished is =
 
 pub finish_of_taken : (roster : RosterRecord) (keys : Keys) (me : PlatformCode) (diary : List Frame)
     (reference : Reference) (b : BegunRecord) (step : Step) → IsSound me diary → IsLastBegun reference diary b
-    → destination b.chain ≡ Some me → is_taken b.manifest.last (newest_first diary) ≡ true
-    → StepsAtFinish roster keys me diary reference step
+    → is_taken b.manifest.last (newest_first diary) ≡ true → StepsAtFinish roster keys me diary reference step
     → Answers keys me None (response_for (subject_of b.manifest) judgements.Duplicate) step
-finish_of_taken roster keys me diary reference b step sound last_begun goes taken steps =
+finish_of_taken roster keys me diary reference b step sound last_begun taken steps =
     let whole = found_whole me diary reference b sound last_begun in
     finish_answers roster keys me diary b step judgements.Duplicate
     (finished_so roster keys me diary reference b step last_begun steps)
-    (taken_is_duplicate roster me (newest_first diary) b.chain b.manifest whole.last whole.last_is goes
+    (taken_is_duplicate roster me (newest_first diary) b.chain b.manifest whole.last whole.last_is
+    whole.ends_here
     (ap (λ (n : Checksum). is_taken n (newest_first diary)) (sym whole.names_last) ∙ taken))
 
 pub finish_of_welcome : (roster : RosterRecord) (keys : Keys) (me : PlatformCode) (diary : List Frame)

@@ -50,7 +50,7 @@ finish_may roster keys me diary reference b legal is =
     sound : IsSound me diary
     sound = legal_is_sound roster keys me diary legal
 
-    whole : IsWhole b
+    whole : IsWhole me b
     whole = found_whole me diary reference b sound is
 
     named : IsNamed b.chain b.manifest

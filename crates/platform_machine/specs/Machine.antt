@@ -51,8 +51,9 @@ StepsAtAsk diary bill step = IsDone bill diary None [] step
 
 -- ---- all requests
 
--- what a platform may be asked at a moment: a command has its form, and so has its party, and one attempt more of its
--- bill can be counted; every other request may be any bytes
+-- what a platform may be asked at a moment: a command has its form, and so have its party and the moment, the document
+-- that it signs nests at most 126 deep, and one attempt more of its bill can be counted; every other request may be any
+-- bytes, at any moment
 abbrev pub MayBeAsked : List Frame → Moment → RequestRecord → Type 0
 MayBeAsked diary now (commands party command) =
     IsHandedIn party command now × HasAttempts command (newest_first diary)

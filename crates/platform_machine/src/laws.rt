@@ -82,7 +82,8 @@ pub fn held_bill_has_its_document()
 }
 
 /// Whatever may be asked, what comes of it keeps a legal diary legal. A command is to be well-formed, by a well-formed
-/// party, and one attempt more of its bill must have a number; any other request may be any bytes.
+/// party and at a well-formed moment, the document that it signs is to nest at most 126 deep, and one attempt more of
+/// its bill must have a number; any other request may be any bytes, at any moment.
 pub fn steps_keep_a_diary_legal()
     ensures { (roster : RosterRecord) (keys : Keys) (me : PlatformCode) (diary : List Frame) (now : Moment)
         → (request : RequestRecord) (step : Step) → IsRoster roster → IsLegal roster keys me diary
@@ -140,9 +141,9 @@ pub fn messages_keep_a_diary_legal()
     written_bodies_read_back();
 }
 
-/// A body shows one thing at most, or has one refusal at most, and never both: so what a start comes to is fixed, but
-/// for the signature.
-pub fn body_shows_one_thing_or_is_refused()
+/// A body shows one thing at most, has one refusal at most, and never both: so what a start comes to is fixed, but for
+/// the signature.
+pub fn body_has_at_most_one_reading_or_refusal()
     ensures shown { (roster : RosterRecord) (keys : Keys) (body : List ℕ) (a b : ShownRecord)
         → Shows roster keys body a → Shows roster keys body b → a ≡ b }
     ensures refused { (roster : RosterRecord) (keys : Keys) (body : List ℕ) (a b : Refusal)
@@ -164,11 +165,11 @@ pub fn taken_entry_is_answered_as_a_duplicate()
         → Answers keys me None (response_for (subject_of s.manifest) Duplicate) step }
     ensures finish { (roster : RosterRecord) (keys : Keys) (me : PlatformCode) (diary : List Frame)
         → (reference : Reference) (b : BegunRecord) (step : Step) → IsSound me diary
-        → IsLastBegun reference diary b → destination b.chain ≡ Some me
-        → is_taken b.manifest.last (newest_first diary) ≡ true → StepsAtFinish roster keys me diary reference step
+        → IsLastBegun reference diary b → is_taken b.manifest.last (newest_first diary) ≡ true
+        → StepsAtFinish roster keys me diary reference step
         → Answers keys me None (response_for (subject_of b.manifest) Duplicate) step }
 {
-    body_shows_one_thing_or_is_refused();
+    body_has_at_most_one_reading_or_refusal();
 }
 
 /// What nothing speaks against is received, at a start and at a finish: a Taken is written, with the Begun where that
@@ -185,5 +186,5 @@ pub fn body_without_objection_is_received()
         → Answers keys me (Some (taken_with None (subject_of b.manifest)))
         (response_for (subject_of b.manifest) Accept) step }
 {
-    body_shows_one_thing_or_is_refused();
+    body_has_at_most_one_reading_or_refusal();
 }

@@ -9,7 +9,7 @@ mod subject;
 
 pub use ending::Ending;
 pub use laws::{
-    body_shows_one_thing_or_is_refused, body_without_objection_is_received,
+    body_has_at_most_one_reading_or_refusal, body_without_objection_is_received,
     command_without_objection_is_done, held_bill_has_its_document,
     judgements_have_answers_that_can_be_sealed, known_chains_have_at_most_64_entries,
     messages_keep_a_diary_legal, parting_bill_is_under_way, refusals_change_nothing,

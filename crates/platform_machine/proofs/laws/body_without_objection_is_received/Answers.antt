@@ -5,8 +5,8 @@ pub returns-clause-start : goal.returns-clause-start
 returns-clause-start c =
     λ roster keys me diary body s step shows free steps.
     start_of_welcome roster keys me diary body s step
-    (c.body_shows_one_thing_or_is_refused.ensures.shown roster keys body)
-    (c.body_shows_one_thing_or_is_refused.ensures.never_both roster keys body) shows free steps
+    (c.body_has_at_most_one_reading_or_refusal.ensures.shown roster keys body)
+    (c.body_has_at_most_one_reading_or_refusal.ensures.never_both roster keys body) shows free steps
 
 pub returns-clause-finish : goal.returns-clause-finish
 returns-clause-finish c = finish_of_welcome

@@ -1,5 +1,5 @@
 use Rattle.platform_machine.proofs.ExclusionLemmas.{refusal_once, shown_not_refused, shown_once}
-use Rattle.platform_machine.proofs.laws.body_shows_one_thing_or_is_refused.Goals as goal
+use Rattle.platform_machine.proofs.laws.body_has_at_most_one_reading_or_refusal.Goals as goal
 
 pub returns-clause-shown : goal.returns-clause-shown
 returns-clause-shown c =
