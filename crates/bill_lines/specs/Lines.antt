@@ -27,7 +27,7 @@ title_members (Some title) =
     (codes "holder", party_value (title_holder title)) ∷ (codes "possessor", party_value (possessor title))
     ∷ (codes "state", text (state_text title)) ∷ []
 
--- the bill of this number, by its histories on these platforms, of which those that are settled have no loose frame
+-- the bill of this number, by its histories on these platforms, of which those whose shard isn't loose are settled
 abbrev pub bill_members : ℕ → Histories → List PlatformCode → List PlatformCode → List Entry
 bill_members number at platforms settled =
     front_members (acting at settled) number (end_of at platforms) (length (longest_accepted at platforms))

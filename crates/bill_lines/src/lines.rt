@@ -26,7 +26,7 @@ use std::alloc::Global;
 use title_fold::{Title, possessor, title_holder};
 
 /// The line of a bill of this number, by the diaries of its shard on the platforms. `settled` are those of them whose
-/// shard has no loose frame.
+/// shard isn't loose.
 ///
 /// It goes over each diary a few times, and copies of it what the bill's end has recorded since.
 pub fn bill_line(
