@@ -55,7 +55,7 @@ abbrev pub place_value : List ℕ → PlaceTag → Value
 place_value word place =
     object (member (codes "place") (text (place_text place)) (member (codes "reply") (text word) no_members))
 
--- a party that isn't one of this platform
+-- a party to which nothing can go
 abbrev pub no_party_value : Party → Value
 no_party_value party =
     object (member (codes "party") (party_value party) (member (codes "reply") (text (codes "NO_PARTY")) no_members))
