@@ -48,7 +48,8 @@ use transfer_judge::{PlanRefusal, Planned};
 
 /// What a party's command comes to at a moment. Nothing is written yet.
 ///
-/// Its condition is a well-formed command by a well-formed party, and fewer than 4,294,967,295 Parted of its bill.
+/// The command is well-formed, and so are its party and the moment; the document that it signs nests at most 126 deep
+/// (`canonical_json::nests_within`); of a bill on which it acts there are fewer than 4,294,967,295 Parted.
 pub fn command<G: KeyRing>(
     alloc: Global,
     roster: &Roster,

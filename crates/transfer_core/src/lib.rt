@@ -23,6 +23,7 @@ pub use commanding::command;
 pub use deciding::decide;
 pub use decision::{DecidedReply, Decision};
 pub use hearing::{finish_reply, start_reply};
+pub use replying::reply_now;
 pub use shard::Shard;
 pub use shard_desk::ShardDesk;
 pub use showing::{ask, resend};

@@ -1,5 +1,5 @@
 //! Planning: what a party's command comes to, by a register: `transfer_judge::plan` without a walk over the diary.
-ghost use Rattle.std.specs.Prelude.{◌≡◌, ◌+◌, ◌≤◌, ◌<◌, IsTrue, IfOk, IfErr, Ok, count_by, length, nat_le};
+ghost use Rattle.std.specs.Prelude.{◌≡◌, ◌↔◌, ◌+◌, ◌≤◌, ◌<◌, IsTrue, IfOk, IfErr, Ok, count_by, length, nat_le};
 ghost use Rattle.ebl_base.specs.declared.limits.TheConstants.{MAX_DOCUMENT_SIZE, MAX_DOCUMENTS_SIZE};
 ghost use Rattle.canonical_json.specs.View.{view};
 ghost use Rattle.envelope_manifest.specs.Manifest.{total_size};
@@ -32,7 +32,7 @@ use transport_document::{Document, DocumentFault};
 
 /// Whether one attempt more can be counted, where a command may make one: what [`plan`] needs.
 pub(crate) fn has_attempts(register: &Register, command: &Command) -> bool
-    ensures { IsTrue result → HasAttempts (command_view command.now) (newest_first register.now.diary) }
+    ensures { IsTrue result ↔ HasAttempts (command_view command.now) (newest_first register.now.diary) }
 {
     match command {
         Command::Act { bill, .. } => register.partings(*bill) < u32::MAX as usize,

@@ -1,4 +1,4 @@
-//! How a bill is, as a holder is shown it.
+//! How a bill is, as a holder is shown it once a request's frame is written.
 ghost use Rattle.std.specs.Prelude.{◌≡◌, ◌≤◌};
 ghost use Rattle.ebl_base.specs.declared.limits.TheConstants.{MAX_CHAIN_ENTRIES};
 ghost use Rattle.bill_diary.specs.History.{history};
@@ -13,8 +13,11 @@ use platform_requests::{Reply, View};
 use title_fold::Title;
 use title_register::Register;
 
-/// What is replied, by the register as it is now. It allocates nothing.
-pub(crate) fn reply_now(register: &Register, reply: DecidedReply) -> Reply
+/// What is replied, by the register as it is now: a reply that is ready, or how a bill is. It allocates nothing.
+///
+/// Who keeps the register asks it once the decision's frame is added, as [`Shard::take`](crate::Shard::take) does. The
+/// known chain of each bill has at most 64 entries, as in every legal diary.
+pub fn reply_now(register: &Register, reply: DecidedReply) -> Reply
     requires { AreShort register.now.diary }
     ensures { result ≡ reply_by register.now.diary reply }
 {

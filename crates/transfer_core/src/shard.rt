@@ -5,7 +5,7 @@
 //! (3) A request is decided first, with everything that it needs and signs made; then the memory that its frame needs
 //!     is taken, and the frame is added; then reply and messages are handed out. So where memory runs out or the ring
 //!     fails, nothing has changed.
-ghost use Rattle.std.specs.Prelude.{◌≡◌, ◌≤◌, [], true, false, IsTrue, None, OnErr, OnOk};
+ghost use Rattle.std.specs.Prelude.{◌≡◌, ◌↔◌, ◌≤◌, [], true, false, IsTrue, None, OnErr, OnOk};
 ghost use Rattle.ebl_base.specs.Faults.{Rose};
 ghost use Rattle.party_roster.specs.RosterForm.{IsRoster};
 ghost use Rattle.holder_commands.specs.Command.{command_view};
@@ -80,8 +80,9 @@ impl<G: KeyRing> Shard<G> {
 
     /// Takes a request at a moment: one step of the platform's machine over the diary, which grows by the step's frame.
     ///
-    /// A command is well-formed, and so is its party; of a bill on which it acts fewer than 4,294,967,295 entries were
-    /// parted ([`Shard::has_attempts`]). Every other request may hold any bytes.
+    /// A command is well-formed, and so are its party and the moment; the document that it signs nests at most 126 deep
+    /// (`canonical_json::nests_within`); of a bill on which it acts fewer than 4,294,967,295 entries were parted
+    /// ([`Shard::has_attempts`]). Every other request may hold any bytes, and come at any moment.
     ///
     /// `Sign` comes only where the ring's count of faults rose. After it, after `NoMemory` and after every refusal the
     /// diary is as it was, and nothing is sent. `Full`, `Disk` and `Damaged` never come.
@@ -118,7 +119,7 @@ impl<G: KeyRing> Shard<G> {
 
     /// Whether one attempt more can be counted, where a command may make one: what [`Shard::take`] needs of it.
     pub fn has_attempts(&self, command: &Command) -> bool
-        ensures { IsTrue result → HasAttempts (command_view command.now) (newest_first self.now.diary) }
+        ensures { IsTrue result ↔ HasAttempts (command_view command.now) (newest_first self.now.diary) }
     {
         has_attempts(&self.register, command)
     }

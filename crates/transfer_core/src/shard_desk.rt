@@ -19,11 +19,13 @@ use signed_envelope::KeyRing;
 use std::alloc::Global;
 use transfer_judge::legal_diary_is_sound;
 
-/// One shard that answers the requests of a platform: its `take` is one [`Shard::take`].
+/// One shard in memory that answers the requests of a platform: its `take` is one [`Shard::take`].
 ///
-/// A run of it is a list of calls, each of which the shard took. A desk may be asked more than a shard: a command whose
-/// party or moment isn't well-formed (every one that was read is), or of a bill of which 4,294,967,295 entries were
-/// parted. It answers these `NoMemory`, and nothing changes.
+/// A run of it is a list of calls, each of which the shard took. Like every desk it wants a command of its form, and
+/// the document that it signs nested at most 126 deep (`canonical_json::nests_within`). Its shard wants more: that the
+/// party and the moment are well-formed, as every one that was read is, and that of a bill on which the command acts
+/// fewer than 4,294,967,295 entries were parted. Where one of these fails the desk answers `NoMemory`, and nothing
+/// changes.
 #[derive(Drop)]
 pub struct ShardDesk<G: KeyRing> {
     pub shard: Shard<G>,

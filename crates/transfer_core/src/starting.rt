@@ -12,7 +12,7 @@ ghost use Rattle.platform_machine.specs.Judged.{response_for};
 ghost use Rattle.platform_machine.specs.Receiving.{IsJudged, SaysAtStart, StepsAtStart, body_text, frame_at_start, has_body, is_again, judgement_at_start, news_of};
 ghost use Rattle.platform_machine.specs.Step.{Answers};
 ghost use Rattle.transfer_core.specs.Decision.{step_by};
-ghost use Rattle.transfer_core.specs.Shown.{shown_view};
+ghost use Rattle.transfer_core.specs.Shown.{HasOwnDocument, shown_view};
 
 use crate::answering::{
     alone, answer, answer_with, frame_without, reference_for, refusal_response, response_for,
@@ -24,7 +24,6 @@ use crate::lookups::last_with_reference;
 use crate::preface::{Shown, show};
 use bill_diary::{Frame, Record};
 use ebl_base::{ByteList, Items, NoMemory, PlatformCode, Reference};
-use envelope_manifest::Body;
 use party_roster::Roster;
 use pint_responses::SealFault;
 use platform_machine::{Refusal, Subject};
@@ -36,7 +35,8 @@ use transfer_judge::Judgement;
 
 /// What the start of a transfer with this body comes to. Nothing is written yet.
 ///
-/// The body is read, hashed and checked once; its canonical text is written again where a Begun may be new.
+/// The body is read, hashed and checked once, and its document written once: where a Begun may be new, the canonical
+/// text of the body is put together around the document's.
 pub fn start<G: KeyRing>(
     alloc: Global,
     roster: &Roster,
@@ -83,7 +83,8 @@ fn start_shown<G: KeyRing>(
     register: &Register,
     shown: Shown,
 ) -> Result<Decision, SealFault>
-    requires { IsSealable (response_for (subject_of shown.manifest)
+    requires own { HasOwnDocument shown }
+    requires sealable { IsSealable (response_for (subject_of shown.manifest)
         (judgement_at_start roster.now me register.now.diary (shown_view shown))) }
     ensures ok { IfOk result (λ d. IsJudged roster.now (G.keys ring.old) me register.now.diary (shown_view shown)
         (step_by register.now.diary d)) }
@@ -121,6 +122,7 @@ fn frame_at_start(
     shown: Shown,
     judgement: &Judgement,
 ) -> Result<Option<Frame>, NoMemory>
+    requires { HasOwnDocument shown }
     ensures { IfOk result (λ frame. frame ≡ frame_at_start register.now.diary (shown_view shown) judgement.now) }
 {
     let subject = subject_of(&shown.manifest);
@@ -136,19 +138,24 @@ fn frame_at_start(
 
 // The Begun of a body, unless the last one with its reference is of the same body.
 fn news(alloc: Global, register: &Register, shown: Shown) -> Result<Option<Record>, NoMemory>
+    requires { HasOwnDocument shown }
     ensures { IfOk result (λ begun. begun ≡ news_of register.now.diary (shown_view shown)) }
 {
-    let body = body_text(alloc, &shown.body)?;
+    let body = body_text(alloc, &shown)?;
     let subject = subject_of(&shown.manifest);
     let again = is_again(register, reference_for(subject), &body);
     Ok(unless(again, begun_with(subject, shown, body)))
 }
 
+// The canonical text of the body, around the document's, which is at hand.
 #[tactic(auto, unfolding(platform_machine::specs::Receiving::body_text))]
-fn body_text(alloc: Global, body: &Body) -> Result<ByteList, NoMemory>
-    ensures { IfOk result (λ text. text ≡ body_text (body_view body.now)) }
+fn body_text(alloc: Global, shown: &Shown) -> Result<ByteList, NoMemory>
+    requires { HasOwnDocument shown.now }
+    ensures { IfOk result (λ text. text ≡ body_text (body_view shown.now.body)) }
 {
-    body.write(alloc)
+    shown
+        .body
+        .write_around(alloc, shown.document.text().as_slice())
 }
 
 fn begun_with(subject: Subject, shown: Shown, body: ByteList) -> Record
