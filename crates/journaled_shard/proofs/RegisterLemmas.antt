@@ -1,39 +1,16 @@
--- What a register's look-ups say: the entries of a known chain, and how often a bill was parted.
-use Rattle.std.proofs.Common.{◌≡◌, ◌≤◌, ◌+◌, Bool, true, false, cond, List, [], ◌∷◌, ◌++◌, Option, Some, None, inl, inr, length, map, refl, ap, ◌∙◌, arith}
+-- What a register's look-ups say: how often a bill was parted.
+use Rattle.std.proofs.Common.{◌≡◌, ◌≤◌, ◌+◌, Bool, cond, List, [], ◌∷◌, ◌++◌, Option, Some, None, inl, inr, length, map, ap, ◌∙◌, arith}
 use Rattle.std.specs.Prelude.{count_by}
 use Rattle.std.proofs.lemmas.List.{length-map, map-append}
 use Rattle.std.proofs.lemmas.List.Sums.{sum_by-append, count_by-le-length}
-use Rattle.ebl_base.specs.declared.chain.ChainLink.{ChainLink}
 use Rattle.ebl_base.specs.declared.checksum.Checksum.{Checksum}
 use Rattle.bill_diary.specs.declared.record.Record.{Record}
 use Rattle.bill_diary.specs.declared.frame.Frame.{Frame}
-use Rattle.bill_diary.specs.declared.bill_place.BillPlace.TheVariants.{Held, Gone}
 use Rattle.bill_diary.specs.History.{history}
-use Rattle.bill_diary.specs.Known.{known}
-use Rattle.bill_diary.specs.Place.{is_left, known_at, parting, place_of, place_with, since}
 use Rattle.bill_diary.specs.Searches.{kept_in, parts_bill}
 use Rattle.bill_diary.specs.Sound.{is_parted}
 use Rattle.bill_diary.proofs.CountLemmas.{parted-frames}
 use Rattle.journaled_shard.specs.Written.{IsKeptOrDropped}
-
--- ---- places
-
-known_on : (h : List Record) (k : Option (List ChainLink)) (p : Option ChainLink) → known_at (place_with k p h) ≡ k
-known_on h None p = refl
-known_on h (Some chain) (Some link) = refl
-known_on h (Some chain) None = on_test (is_left chain h)
-  where
-    on_test : (b : Bool) → known_at (cond b (Gone chain) (Held chain (since h))) ≡ Some chain
-    on_test true = refl
-    on_test false = refl
-
--- the chain that is known at a bill's place is the one that is known of it
-pub known_at-place_of : (h : List Record) → known_at (place_of h) ≡ known h
-known_at-place_of h = known_on h (known h) (parting h)
-
-pub ruleset places = (known_at-place_of)
-
--- ---- how often a bill was parted
 
 -- at most as often as there are frames
 pub partings_few : (bill : Checksum) (diary : List Frame) → count_by is_parted (history bill diary) ≤ length diary

@@ -3,7 +3,6 @@
 
 mod opening;
 mod rack;
-mod replying;
 mod shard;
 mod unwritten;
 mod written;

@@ -31,7 +31,6 @@ ghost use Rattle.journaled_shard.specs.View.{written_view};
 ghost use Rattle.journaled_shard.specs.Written.{HasDiary, HasNamesOf, IsKeptOrDropped, IsLeft, IsOnDisk, IsRead, IsStill};
 
 use crate::opening::open;
-use crate::replying::reply_now;
 use crate::unwritten::Unwritten;
 use crate::written::Written;
 use bill_diary::{Diary, Frame};
@@ -47,7 +46,7 @@ use signed_envelope::KeyRing;
 use std::alloc::Global;
 use std::marker::Model;
 use title_register::Register;
-use transfer_core::{Decision, decide};
+use transfer_core::{Decision, decide, reply_now};
 use transfer_judge::legal_diary_is_sound;
 
 /// One shard of a platform on a journal.
