@@ -13,7 +13,7 @@ use ebl_base::{ByteList, Copied, Moment, Party, PlatformCode, Reference};
 use envelope_manifest::Body;
 use holder_commands::Command;
 use party_roster::Roster;
-use platform_requests::{Message, Outcome, Request};
+use platform_requests::{Desk, Message, Outcome, Request};
 use signed_envelope::KeyRing;
 use std::alloc::Global;
 use std::fmt::Debug;
@@ -229,6 +229,16 @@ pub(crate) fn starts<G: KeyRing>(
 ) -> Result<Outcome, Fail> {
     let (now, body) = (moment(2000)?, ByteList::from_slice(alloc, body)?);
     Ok(shard.take(alloc, now, Request::Start { body }))
+}
+
+/// The same start comes to a desk.
+pub(crate) fn starts_at<D: Desk>(
+    alloc: Global,
+    desk: &mut D,
+    body: &[u8],
+) -> Result<Outcome, Fail> {
+    let (now, body) = (moment(2000)?, ByteList::from_slice(alloc, body)?);
+    Ok(desk.take(alloc, now, Request::Start { body }))
 }
 
 /// A document of these bytes comes to a shard, under its checksum.

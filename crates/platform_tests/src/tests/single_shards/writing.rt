@@ -1,7 +1,7 @@
 //! What is written down of what is answered: a chain that is received, one that is declined for good, and a document,
-//! each once.
+//! each once; and a start that comes to a shard by its desk.
 use super::asking::{
-    ENDORSE, ISSUE, comes_to, keyed, puts, sent_after, sent_with_document, starts,
+    ENDORSE, ISSUE, comes_to, keyed, puts, sent_after, sent_with_document, starts, starts_at,
 };
 use ebl_base::Reference;
 use platform_requests::{Outcome, Reply};
@@ -9,7 +9,7 @@ use std::alloc::Global;
 use std::process::Abort;
 use std::test::Fail;
 use test_signer::KeyedRing;
-use transfer_core::Shard;
+use transfer_core::{Shard, ShardDesk};
 
 // Each of these bodies comes twice, with these replies; so many frames stand in the diary after each.
 fn tell_starts<R: Abort>(
@@ -96,4 +96,23 @@ fn frames_of_a_document(rt: HostRuntime) -> Result<(), Fail> {
     let body = sent_with_document(rt.alloc())?;
     let mut shard = keyed(rt.alloc(), "BETA")?;
     tell_document(&rt, rt.alloc(), &mut shard, body.as_slice())
+}
+
+fn tell_desk<R: Abort>(
+    rt: &R,
+    alloc: Global,
+    desk: &mut ShardDesk<KeyedRing>,
+    body: &[u8],
+) -> Result<(), Fail> {
+    let outcome = starts_at(alloc, desk, body)?;
+    comes_to(rt, &desk.shard, outcome, ("RECE", 0, 1));
+    Ok(())
+}
+
+#[test]
+fn start_at_a_desk(rt: HostRuntime) -> Result<(), Fail> {
+    let body = sent_after(rt.alloc(), &[ISSUE])?;
+    let shard = keyed(rt.alloc(), "BETA")?;
+    let mut desk = ShardDesk { shard };
+    tell_desk(&rt, rt.alloc(), &mut desk, body.as_slice())
 }
