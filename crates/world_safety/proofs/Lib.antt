@@ -4,5 +4,7 @@ pub mod Sent
 pub mod Opening
 pub mod Comes
 pub mod Runs
+pub mod Undisputed
 pub mod BillLines
+pub mod Ended
 pub mod Scripts

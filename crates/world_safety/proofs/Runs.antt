@@ -39,10 +39,12 @@ use Rattle.platform_world.specs.Step.{Happens, IsStep, bills_signed, kind_of, pa
 use Rattle.platform_world.specs.Run.{Ends, Happened, IsAnsweredIn, OnEvent, Run, Runs, bad_line}
 use Rattle.platform_world.specs.Script.{event_in}
 use Rattle.run_safety.specs.Honest.{Comes}
+use Rattle.run_safety.specs.Network as networks
 use Rattle.run_safety.specs.Network.{Network, diary_of, written}
 use Rattle.run_safety.specs.Steady.{Rings}
 use Rattle.run_safety.specs.Run as runs
-use Rattle.run_safety.specs.Run.{LooseIs, Reaches, at_opening}
+use Rattle.run_safety.specs.Run.{LeadsTo, LooseIs, Reaches, at_once, at_opening}
+use Rattle.run_safety.proofs.Moments.{leads_reached}
 use Rattle.world_safety.specs.Safety.{AreHonest, IsHonestEvent}
 use Rattle.world_safety.specs.Worlds.{loose_in, network_of, no_keys, rings_of, sent_by, sent_of}
 use Rattle.world_safety.proofs.Comes.{event_comes}
@@ -51,22 +53,36 @@ use Rattle.world_safety.proofs.Puts.{at_put, elsewhere, put_same, put_twice, sam
 use Rattle.world_safety.proofs.Sent.{parcels_sent}
 use Rattle.world_safety.proofs.Worlds.{diary_at, family_after, platforms_stay, shards_stay, with_diary}
 
--- what holds of each world of a run: its platforms are reached, and roster, platforms and keys stay
-pub record Holds (roster : RosterRecord) (rings : Rings) (w : WorldRecord) : Type 0 where
+-- what holds of each world of a run that comes after a moment: it is led to from there, and roster, platforms and keys
+-- stay
+pub record Holds (roster : RosterRecord) (rings : Rings) (start : Network) (w : WorldRecord) : Type 0 where
   pub roster_is : w.roster ≡ roster
   pub platforms_are : platforms_of w ≡ roster.platforms
   pub keys_are : (p : PlatformCode) (i : ℕ) → rings_of w p i ≡ rings p i
-  pub reached : Reaches roster rings (network_of w)
+  pub led : LeadsTo roster rings start (network_of w)
+
+-- the moment of a world comes after itself
+pub from_here : (roster : RosterRecord) (rings : Rings) (start : Network) (w : WorldRecord)
+    → Holds roster rings start w → Holds roster rings (network_of w) w
+from_here roster rings start w H =
+    record { roster_is = H.roster_is; platforms_are = H.platforms_are; keys_are = H.keys_are; led = at_once }
+
+-- a world that comes after the opening is reached
+pub is_reached : (roster : RosterRecord) (rings : Rings) (w : WorldRecord)
+    → Holds roster rings (networks.opening roster) w → Reaches roster rings (network_of w)
+is_reached roster rings w H =
+    leads_reached roster rings (networks.opening roster) (network_of w) at_opening H.led
 
 -- ---- the opening
 
 pub opening_holds : (roster : RosterRecord) (rings : List Keys) → 16 * length roster.platforms ≤ length rings
-    → Holds roster (rings_of (opening roster rings)) (opening roster rings)
+    → Holds roster (rings_of (opening roster rings)) (networks.opening roster) (opening roster rings)
 opening_holds roster rings enough = record {
   roster_is = refl;
   platforms_are = opened_names roster.platforms rings;
   keys_are = λ p i. refl;
-  reached = subst (Reaches roster (rings_of (opening roster rings))) (sym (opened_network roster rings enough)) at_opening;
+  led = subst (LeadsTo roster (rings_of (opening roster rings)) (networks.opening roster))
+      (sym (opened_network roster rings enough)) at_once;
 }
 
 -- ---- what is sent where a request is refused for a failure
@@ -114,15 +130,15 @@ nothing_sent sent a out reply fails is =
 
 -- ---- one shard changes
 
-abbrev step_of : Option Frame → Outcome → Step
+abbrev pub step_of : Option Frame → Outcome → Step
 step_of frame out = record { frame = frame; reply = out.reply; messages = out.messages }
 
 -- a world with these platforms and these parcels
-abbrev world_with : WorldRecord → List PlatformState → List Parcel → List Checksum → WorldRecord
+abbrev pub world_with : WorldRecord → List PlatformState → List Parcel → List Checksum → WorldRecord
 world_with w platforms sent signed =
     record { roster = w.roster; platforms = platforms; sent = sent; signed = signed }
 
-abbrev network_with : List PlatformState → List Parcel → Network
+abbrev pub network_with : List PlatformState → List Parcel → Network
 network_with platforms sent = record {
   family = map member_of platforms;
   loose = λ p i. option_and_then loose_frame (shard_at p i platforms);
@@ -134,27 +150,33 @@ loose_by : (o : Option ShardState) → option_and_then loose_frame o
 loose_by None = refl
 loose_by (Some s) = refl
 
-module _ (roster : RosterRecord) (rings : Rings) (apart : are_distinct code_eq roster.platforms ≡ true) where
-  module _ (w : WorldRecord) (H : Holds roster rings w) (p : PlatformCode) (i : ℕ) (shard put : ShardState)
+-- a shard of which it is found out isn't loose
+pub found_whole : (shard found : ShardState) (kept : Bool) → IsResolved shard kept found → found.loose ≡ None
+found_whole shard found true (frame, was, is) = ap (λ (s : ShardState). s.loose) is
+found_whole shard found false is = ap (λ (s : ShardState). s.loose) is
+
+module _ (roster : RosterRecord) (rings : Rings) (start : Network)
+    (apart : are_distinct code_eq roster.platforms ≡ true) where
+  module _ (w : WorldRecord) (H : Holds roster rings start w) (p : PlatformCode) (i : ℕ) (shard put : ShardState)
       (is_there : shard_at p i w.platforms ≡ Some shard) where
     stays_apart : are_distinct code_eq (platforms_of w) ≡ true
     stays_apart = ap (are_distinct code_eq) H.platforms_are ∙ apart
 
     -- the other shard is reached too, with the keys of the first one
     put_holds : (sent : List Parcel) (signed : List Checksum) → put.keys ≡ shard.keys
-        → Reaches roster rings (network_with (with_shard p i put w.platforms) sent)
-        → Holds roster rings (world_with w (with_shard p i put w.platforms) sent signed)
-    put_holds sent signed same_keys reached = record {
+        → LeadsTo roster rings start (network_with (with_shard p i put w.platforms) sent)
+        → Holds roster rings start (world_with w (with_shard p i put w.platforms) sent signed)
+    put_holds sent signed same_keys led = record {
       roster_is = H.roster_is;
       platforms_are = platforms_stay p i put w.platforms ∙ H.platforms_are;
       keys_are = λ q k.
           ap (λ (o : Option Keys). unwrap_or o no_keys)
           (shards_stay (λ (s : ShardState). s.keys) p i shard put same_keys w.platforms q k is_there)
           ∙ H.keys_are q k;
-      reached = reached;
+      led = led;
     }
 
-    has_diary : diary_of (family_of w) p i ≡ Some shard.diary
+    pub has_diary : diary_of (family_of w) p i ≡ Some shard.diary
     has_diary = diary_at p i w.platforms ∙ ap (option_map (λ (s : ShardState). s.diary)) is_there
 
     family_put : (frame : Option Frame) → put.diary ≡ with_frame shard.diary frame
@@ -192,11 +214,11 @@ module _ (roster : RosterRecord) (rings : Rings) (apart : are_distinct code_eq r
 
     -- ---- what is loose is found out
 
-    resolve_holds : (kept : Bool) → IsResolved shard kept put
-        → Holds roster rings (world_with w (with_shard p i put w.platforms) w.sent w.signed)
+    pub resolve_holds : (kept : Bool) → IsResolved shard kept put
+        → Holds roster rings start (world_with w (with_shard p i put w.platforms) w.sent w.signed)
     resolve_holds true (frame, was, is) =
         put_holds w.sent w.signed (ap (λ (s : ShardState). s.keys) is)
-        (runs.after_event (network_of w) (network_with (with_shard p i put w.platforms) w.sent) H.reached
+        (runs.and_on (network_of w) (network_with (with_shard p i put w.platforms) w.sent) H.led
         (inr (inr (inl (record {
           p = p;
           i = i;
@@ -210,7 +232,7 @@ module _ (roster : RosterRecord) (rings : Rings) (apart : are_distinct code_eq r
         })))))
     resolve_holds false is =
         put_holds w.sent w.signed (ap (λ (s : ShardState). s.keys) is)
-        (runs.after_event (network_of w) (network_with (with_shard p i put w.platforms) w.sent) H.reached
+        (runs.and_on (network_of w) (network_with (with_shard p i put w.platforms) w.sent) H.led
         (inr (inr (inr (record {
           p = p;
           i = i;
@@ -223,24 +245,24 @@ module _ (roster : RosterRecord) (rings : Rings) (apart : are_distinct code_eq r
 
     quiet_holds : (a : Asking) (out : Outcome) (reply : Reply) (signed : List Checksum) → is_failure reply ≡ true
         → out ≡ refusal_of reply → put ≡ shard
-        → Holds roster rings (world_with w (with_shard p i put w.platforms)
+        → Holds roster rings start (world_with w (with_shard p i put w.platforms)
         (w.sent ++ parcels_of a out.reply out.messages) signed)
     quiet_holds a out reply signed fails is same =
         let stays : with_shard p i put w.platforms ≡ w.platforms =
         ap (λ (s : ShardState). with_shard p i s w.platforms) same ∙ put_same p i shard w.platforms is_there in
         put_holds (w.sent ++ parcels_of a out.reply out.messages) signed (ap (λ (s : ShardState). s.keys) same)
         (subst (λ (ps : List PlatformState).
-        Reaches roster rings (network_with ps (w.sent ++ parcels_of a out.reply out.messages))) (sym stays)
-        (subst (λ (xs : List Parcel). Reaches roster rings (network_with w.platforms xs))
-        (sym (nothing_sent w.sent a out reply fails is)) H.reached))
+        LeadsTo roster rings start (network_with ps (w.sent ++ parcels_of a out.reply out.messages))) (sym stays)
+        (subst (λ (xs : List Parcel). LeadsTo roster rings start (network_with w.platforms xs))
+        (sym (nothing_sent w.sent a out reply fails is)) H.led))
 
   -- ---- a request at a shard that isn't loose
 
-  module _ (w : WorldRecord) (H : Holds roster rings w) (a : Asking) (shard later : ShardState) (now : Moment)
+  module _ (w : WorldRecord) (H : Holds roster rings start w) (a : Asking) (shard later : ShardState) (now : Moment)
       (out : Outcome) (is_there : shard_at a.at (shard_of a.request) w.platforms ≡ Some shard)
       (not_loose : shard.loose ≡ None) (may : MayBeAsked shard.diary now a.request)
       (comes : Comes roster rings (sent_by w) a.request) where
-    abbrev asked_here : (step : Step) → Steps w.roster shard.keys a.at shard.diary now a.request step
+    abbrev pub asked_here : (step : Step) → Steps w.roster shard.keys a.at shard.diary now a.request step
         → runs.Asked roster rings (network_of w)
     asked_here step steps = record {
       p = a.at;
@@ -262,33 +284,41 @@ module _ (roster : RosterRecord) (rings : Rings) (apart : are_distinct code_eq r
     }
 
     abbrev After : Type 0
-    After = Holds roster rings (world_with w (with_shard a.at (shard_of a.request) later w.platforms)
+    After = Holds roster rings start (world_with w (with_shard a.at (shard_of a.request) later w.platforms)
         (w.sent ++ parcels_of a out.reply out.messages) (w.signed ++ bills_signed a.request out.reply))
+
+    -- by a step with this outcome
+    abbrev pub whole_asked : IsTakenWhole w.roster a.at shard now a.request out later → runs.Asked roster rings (network_of w)
+    whole_asked t =
+        asked_here (step_of t.step.frame out)
+        (subst (Steps w.roster shard.keys a.at shard.diary now a.request)
+        (λ j. record { frame = t.step.frame; reply = sym t.reply_is j; messages = sym t.messages_are j }) t.steps)
+
+    pub whole_happens : IsTakenWhole w.roster a.at shard now a.request out later
+        → runs.Happens roster rings (network_of w)
+        (network_with (with_shard a.at (shard_of a.request) later w.platforms) (w.sent ++ parcels_of a out.reply out.messages))
+    whole_happens t =
+        inl (record {
+          asked = whole_asked t;
+          family_is = family_put w H a.at (shard_of a.request) shard later is_there t.step.frame
+              (ap (λ (s : ShardState). s.diary) t.after_is);
+          loose_is = loose_stays w H a.at (shard_of a.request) shard later is_there (ap loose_frame t.after_is);
+          sends = λ s among. parcels_sent w.sent a (step_of t.step.frame out) s among;
+        })
 
     whole_holds : IsTakenWhole w.roster a.at shard now a.request out later → After
     whole_holds t =
         put_holds w H a.at (shard_of a.request) shard later is_there (w.sent ++ parcels_of a out.reply out.messages)
         (w.signed ++ bills_signed a.request out.reply) (ap (λ (s : ShardState). s.keys) t.after_is)
-        (runs.after_event (network_of w) (network_with (with_shard a.at (shard_of a.request) later w.platforms)
-        (w.sent ++ parcels_of a out.reply out.messages)) H.reached
-        (inl (record {
-          asked = asked_here (step_of t.step.frame out) steps;
-          family_is = family_put w H a.at (shard_of a.request) shard later is_there t.step.frame
-              (ap (λ (s : ShardState). s.diary) t.after_is);
-          loose_is = loose_stays w H a.at (shard_of a.request) shard later is_there (ap loose_frame t.after_is);
-          sends = λ s among. parcels_sent w.sent a (step_of t.step.frame out) s among;
-        })))
-      where
-        steps : Steps w.roster shard.keys a.at shard.diary now a.request (step_of t.step.frame out)
-        steps = subst (Steps w.roster shard.keys a.at shard.diary now a.request)
-            (λ j. record { frame = t.step.frame; reply = sym t.reply_is j; messages = sym t.messages_are j }) t.steps
+        (runs.and_on (network_of w) (network_with (with_shard a.at (shard_of a.request) later w.platforms)
+        (w.sent ++ parcels_of a out.reply out.messages)) H.led (whole_happens t))
 
     failed_holds : IsNotWritten w.roster a.at shard now a.request out later → After
     failed_holds t =
         put_holds w H a.at (shard_of a.request) shard later is_there (w.sent ++ parcels_of a out.reply out.messages)
         (w.signed ++ bills_signed a.request out.reply) (ap (λ (s : ShardState). s.keys) t.after_is)
-        (runs.after_event (network_of w) (network_with (with_shard a.at (shard_of a.request) later w.platforms)
-        (w.sent ++ parcels_of a out.reply out.messages)) H.reached
+        (runs.and_on (network_of w) (network_with (with_shard a.at (shard_of a.request) later w.platforms)
+        (w.sent ++ parcels_of a out.reply out.messages)) H.led
         (inr (inl (record {
           asked = asked_here t.steps.step t.steps.steps;
           family_is = family_put w H a.at (shard_of a.request) shard later is_there None
@@ -315,13 +345,13 @@ module _ (roster : RosterRecord) (rings : Rings) (apart : are_distinct code_eq r
 
   -- ---- a request at any shard
 
-  unread_holds : (w : WorldRecord) → Holds roster rings w → (a : Asking) (fate : Fate) (out : Outcome)
+  unread_holds : (w : WorldRecord) → Holds roster rings start w → (a : Asking) (fate : Fate) (out : Outcome)
       (shard later : ShardState) → shard_at a.at (shard_of a.request) w.platforms ≡ Some shard
-      → IsUnread (shard_of a.request) shard fate out later → Holds roster rings (world_after w a later out)
+      → IsUnread (shard_of a.request) shard fate out later → Holds roster rings start (world_after w a later out)
   unread_holds w H a fate out shard later is_there t = on_cause t.cause
     where
       on_cause : ((fate.end ≡ Stuck (shard_of a.request)) × (t.reply ≡ replies.Disk))
-          ⊎ ((fate.end ≡ Short) × (t.reply ≡ replies.NoMemory)) → Holds roster rings (world_after w a later out)
+          ⊎ ((fate.end ≡ Short) × (t.reply ≡ replies.NoMemory)) → Holds roster rings start (world_after w a later out)
       on_cause (inl (end, disk)) =
           quiet_holds w H a.at (shard_of a.request) shard later is_there a out t.reply
           (w.signed ++ bills_signed a.request out.reply) (ap is_failure disk) t.refused.0 t.refused.1
@@ -329,86 +359,82 @@ module _ (roster : RosterRecord) (rings : Rings) (apart : are_distinct code_eq r
           quiet_holds w H a.at (shard_of a.request) shard later is_there a out t.reply
           (w.signed ++ bills_signed a.request out.reply) (ap is_failure memory) t.refused.0 t.refused.1
 
-  asked_holds : (w : WorldRecord) → Holds roster rings w → (a : Asking) (fate : Fate) (out : Outcome) (now : Moment)
+  asked_holds : (w : WorldRecord) → Holds roster rings start w → (a : Asking) (fate : Fate) (out : Outcome) (now : Moment)
       (shard later : ShardState) → shard_at a.at (shard_of a.request) w.platforms ≡ Some shard
       → Comes roster rings (sent_by w) a.request
       → IsAskedOnceRead w.roster a.at (shard_of a.request) shard now a.request fate out later
-      → Holds roster rings (world_after w a later out)
+      → Holds roster rings start (world_after w a later out)
   asked_holds w H a fate out now shard later is_there comes t =
       let found_there : shard_at a.at (shard_of a.request)
       (with_shard a.at (shard_of a.request) t.found w.platforms) ≡ Some t.found =
       at_put a.at (shard_of a.request) shard t.found w.platforms is_there in
       let first = resolve_holds w H a.at (shard_of a.request) shard t.found is_there t.kept t.resolved in
-      subst (λ (ps : List PlatformState). Holds roster rings (world_with w ps
+      subst (λ (ps : List PlatformState). Holds roster rings start (world_with w ps
       (w.sent ++ parcels_of a out.reply out.messages) (w.signed ++ bills_signed a.request out.reply)))
       (put_twice a.at (shard_of a.request) t.found later w.platforms)
       (ended_holds
       (world_with w (with_shard a.at (shard_of a.request) t.found w.platforms) w.sent w.signed) first a t.found later now
-      out found_there (found_whole t.kept t.resolved) t.may comes fate.end t.ends)
-    where
-      found_whole : (kept : Bool) → IsResolved shard kept t.found → t.found.loose ≡ None
-      found_whole true (frame, was, is) = ap (λ (s : ShardState). s.loose) is
-      found_whole false is = ap (λ (s : ShardState). s.loose) is
+      out found_there (found_whole shard t.found t.kept t.resolved) t.may comes fate.end t.ends)
 
   -- ---- a platform that starts again
 
   loosened_holds : (w : WorldRecord) (before after : List PlatformState) (p : PlatformCode) (i : ℕ)
-      → Holds roster rings (world_with w before w.sent w.signed) → IsLoosenedAt p i before after
-      → Holds roster rings (world_with w after w.sent w.signed)
+      → Holds roster rings start (world_with w before w.sent w.signed) → IsLoosenedAt p i before after
+      → Holds roster rings start (world_with w after w.sent w.signed)
   loosened_holds w before after p i H t =
-      subst (λ (ps : List PlatformState). Holds roster rings (world_with w ps w.sent w.signed)) (sym t.after_is)
+      subst (λ (ps : List PlatformState). Holds roster rings start (world_with w ps w.sent w.signed)) (sym t.after_is)
       (put_holds (world_with w before w.sent w.signed) H p i t.shard (loosened t.shard) t.is_there w.sent w.signed refl
-      (subst (Reaches roster rings)
+      (subst (LeadsTo roster rings start)
       (sym (same_network (world_with w before w.sent w.signed) H p i t.shard (loosened t.shard) t.is_there refl refl))
-      H.reached))
+      H.led))
 
   all_loosened_hold : (w : WorldRecord) (p : PlatformCode) (i n : ℕ) (before after : List PlatformState)
-      → Holds roster rings (world_with w before w.sent w.signed) → AreLoosened p i n before after
-      → Holds roster rings (world_with w after w.sent w.signed)
+      → Holds roster rings start (world_with w before w.sent w.signed) → AreLoosened p i n before after
+      → Holds roster rings start (world_with w after w.sent w.signed)
   all_loosened_hold w p i zero before after H is =
-      subst (λ (ps : List PlatformState). Holds roster rings (world_with w ps w.sent w.signed)) (sym is) H
+      subst (λ (ps : List PlatformState). Holds roster rings start (world_with w ps w.sent w.signed)) (sym is) H
   all_loosened_hold w p i (suc n) before after H (between, first, rest) =
       all_loosened_hold w p (i + 1) n between after (loosened_holds w before between p i H first) rest
 
   started_holds : (w : WorldRecord) (p : PlatformCode) (i n : ℕ) (before : List PlatformState) (end : FateEnd)
       (kept : List ℕ) (after : List PlatformState)
-      → Holds roster rings (world_with w before w.sent w.signed) → AreReadAgain p i n before end kept after
-      → Holds roster rings (world_with w after w.sent w.signed)
+      → Holds roster rings start (world_with w before w.sent w.signed) → AreReadAgain p i n before end kept after
+      → Holds roster rings start (world_with w after w.sent w.signed)
   started_holds w p i zero before end kept after H (whole, none, is) =
-      subst (λ (ps : List PlatformState). Holds roster rings (world_with w ps w.sent w.signed)) (sym is) H
+      subst (λ (ps : List PlatformState). Holds roster rings start (world_with w ps w.sent w.signed)) (sym is) H
   started_holds w p i (suc n) before end kept after H (inl cut) = on_cause cut.cause
     where
       on_cause : ((end ≡ Stuck i) × AreLoosened p i (suc n) before after)
           ⊎ ((end ≡ Short) × IsLoosenedAt p i before after)
-          → Holds roster rings (world_with w after w.sent w.signed)
+          → Holds roster rings start (world_with w after w.sent w.signed)
       on_cause (inl (stuck, are)) = all_loosened_hold w p i (suc n) before after H are
       on_cause (inr (short, is)) = loosened_holds w before after p i H is
   started_holds w p i (suc n) before end kept after H (inr (here, between, behind, read, kept_is, goes)) =
       started_holds w p (i + 1) n between end behind after
-      (subst (λ (ps : List PlatformState). Holds roster rings (world_with w ps w.sent w.signed)) (sym read.after_is)
+      (subst (λ (ps : List PlatformState). Holds roster rings start (world_with w ps w.sent w.signed)) (sym read.after_is)
       (resolve_holds (world_with w before w.sent w.signed) H p i read.shard read.found read.is_there here read.resolved))
       goes
 
   -- ---- an event
 
-  pub step_holds : (w : WorldRecord) → Holds roster rings w → (event : EventRecord) (fate : Fate) (answer : Answer)
-      (after : WorldRecord) → IsStep w event fate answer after → IsHonestEvent w event → Holds roster rings after
+  pub step_holds : (w : WorldRecord) → Holds roster rings start w → (event : EventRecord) (fate : Fate) (answer : Answer)
+      (after : WorldRecord) → IsStep w event fate answer after → IsHonestEvent w event → Holds roster rings start after
   step_holds w H event fate answer after step honest = on_happening (comes_to w.signed w.sent event) refl step
     where
       on_happening : (h : Happening) → comes_to w.signed w.sent event ≡ h → Happens w h fate answer after
-          → Holds roster rings after
-      on_happening (answers said) is (whole, said_so, same) = subst (Holds roster rings) (sym same) H
+          → Holds roster rings start after
+      on_happening (answers said) is (whole, said_so, same) = subst (Holds roster rings start) (sym same) H
       on_happening (asks a) is t =
-          subst (Holds roster rings) (sym t.after_is)
+          subst (Holds roster rings start) (sym t.after_is)
           (on_shard (event_comes roster rings w H.roster_is H.keys_are event honest a is) t.takes)
         where
           on_shard : Comes roster rings (sent_by w) a.request
               → TakesAs w.roster a.at (shard_of a.request) t.shard t.now a.request fate t.out t.later
-              → Holds roster rings (world_after w a t.later t.out)
+              → Holds roster rings start (world_after w a t.later t.out)
           on_shard comes (inl unread) = unread_holds w H a fate t.out t.shard t.later t.is_asked unread
           on_shard comes (inr asked) = asked_holds w H a fate t.out t.now t.shard t.later t.is_asked comes asked
       on_happening (starts_again at) is t =
-          subst (Holds roster rings) (sym t.after_is)
+          subst (Holds roster rings start) (sym t.after_is)
           (started_holds w at 0 16 w.platforms fate.end fate.kept t.platforms H t.reads)
 
 -- ---- runs
@@ -455,15 +481,55 @@ runs_go_on roster (line ∷ lines) w n fates run (inr numbered) =
     on_number true (none, is) further = subst (GoOn w) (sym (ap (λ (r : Run). r.happened) is)) tt
     on_number false goes further = on_event (event_in roster line) fates goes further
 
--- after each of some honest events the world holds
-pub goes_on_holds : (roster : RosterRecord) (rings : Rings) → are_distinct code_eq roster.platforms ≡ true
-    → (w : WorldRecord) → Holds roster rings w → (front : List Happened) (h : Happened) (rest : List Happened)
-    → GoOn w (front ++ h ∷ rest) → AreHonest (front ++ h ∷ []) → Holds roster rings h.after
-goes_on_holds roster rings apart w H [] h rest goes honest =
-    step_holds roster rings apart w H h.event h.fate h.answer h.after goes.1
-    (subst (λ (x : WorldRecord). IsHonestEvent x h.event) goes.0 honest.0)
-goes_on_holds roster rings apart w H (x ∷ front) h rest goes honest =
-    goes_on_holds roster rings apart x.after
-    (step_holds roster rings apart w H x.event x.fate x.answer x.after goes.1
-    (subst (λ (y : WorldRecord). IsHonestEvent y x.event) goes.0 honest.0))
-    front h rest goes.2 honest.1
+-- an honest event of a run, and what holds before it
+pub record IsHonestIn (roster : RosterRecord) (rings : Rings) (start : Network) (h : Happened) : Type 0 where
+  pub before : Holds roster rings start h.before
+  pub step : IsStep h.before h.event h.fate h.answer h.after
+  pub honest : IsHonestEvent h.before h.event
+
+module _ (roster : RosterRecord) (rings : Rings) (start : Network)
+    (apart : are_distinct code_eq roster.platforms ≡ true) where
+  -- the last of some honest events
+  pub honest_in : (w : WorldRecord) → Holds roster rings start w → (front : List Happened) (h : Happened)
+      (rest : List Happened) → GoOn w (front ++ h ∷ rest) → AreHonest (front ++ h ∷ [])
+      → IsHonestIn roster rings start h
+  honest_in w H [] h rest goes honest = record {
+    before = subst (Holds roster rings start) (sym goes.0) H;
+    step = subst (λ (x : WorldRecord). IsStep x h.event h.fate h.answer h.after) (sym goes.0) goes.1;
+    honest = honest.0;
+  }
+  honest_in w H (x ∷ front) h rest goes honest =
+      honest_in x.after
+      (step_holds roster rings start apart w H x.event x.fate x.answer x.after goes.1
+      (subst (λ (y : WorldRecord). IsHonestEvent y x.event) goes.0 honest.0))
+      front h rest goes.2 honest.1
+
+  -- after it the world holds
+  pub holds_after : (h : Happened) → IsHonestIn roster rings start h → Holds roster rings start h.after
+  holds_after h x = step_holds roster rings start apart h.before x.before h.event h.fate h.answer h.after x.step x.honest
+
+-- the world after an earlier one of them leads to the world after the last
+pub earlier_holds : (roster : RosterRecord) (rings : Rings) (start : Network)
+    → are_distinct code_eq roster.platforms ≡ true
+    → (w : WorldRecord) → Holds roster rings start w → (front : List Happened) (h : Happened) (rest : List Happened)
+    → GoOn w (front ++ h ∷ rest) → AreHonest (front ++ h ∷ []) → (e : Happened) → IsAmong e front
+    → Holds roster rings start e.after × Holds roster rings (network_of e.after) h.after
+earlier_holds roster rings start apart w H [] h rest goes honest e among = absurd among
+earlier_holds roster rings start apart w H (x ∷ front) h rest goes honest e among =
+    on_place among (earlier_holds roster rings start apart x.after first front h rest goes.2 honest.1 e)
+  where
+    first : Holds roster rings start x.after
+    first = step_holds roster rings start apart w H x.event x.fate x.answer x.after goes.1
+        (subst (λ (y : WorldRecord). IsHonestEvent y x.event) goes.0 honest.0)
+
+    on_place : (x ≡ e) ⊎ IsAmong e front
+        → (IsAmong e front → Holds roster rings start e.after × Holds roster rings (network_of e.after) h.after)
+        → Holds roster rings start e.after × Holds roster rings (network_of e.after) h.after
+    on_place (inl same) further =
+        subst (λ (y : Happened). Holds roster rings start y.after × Holds roster rings (network_of y.after) h.after) same (
+          first,
+          holds_after roster rings (network_of x.after) apart h
+              (honest_in roster rings (network_of x.after) apart x.after (from_here roster rings start x.after first)
+              front h rest goes.2 honest.1),
+        )
+    on_place (inr later) further = further later

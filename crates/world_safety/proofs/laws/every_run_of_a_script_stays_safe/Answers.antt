@@ -9,5 +9,11 @@ returns c =
       safe = c.every_run_stays_safe.ensures.safe;
       sound = c.every_run_stays_safe.ensures.sound;
       closed = c.every_run_stays_safe.ensures.closed;
+      steady = c.every_run_is_steady.ensures;
+      undisputed = c.no_chain_is_disputed_in_a_run.ensures.answers;
+      declined = c.no_chain_is_disputed_in_a_run.ensures.declined;
+      ended = c.ended_bill_stays_ended_in_a_run.ensures.ended;
+      carrier = c.ended_bill_stays_ended_in_a_run.ensures.carrier;
+      nobody = c.ended_bill_stays_ended_in_a_run.ensures.nobody;
       line = c.line_of_a_safe_bill_is_known_at_its_end.ensures.line;
     })
