@@ -1,13 +1,14 @@
 //! Disputes: where the chain that is known here and the one that was shown part. Nothing is copied but the evidence.
-ghost use Rattle.std.specs.Prelude.{◌≡◌, ◌∷◌, [], ◌++◌, IfOk, Some, None, if◌then◌else◌, option_copied, option_map};
+ghost use Rattle.std.specs.Prelude.{◌≡◌, ◌∷◌, [], ◌++◌, IfOk, Some, None, if◌then◌else◌};
 ghost use Rattle.bill_chain.specs.Chain.{common_front, goes_beyond};
 ghost use Rattle.title_register.specs.PlaceRef.{place_view};
 ghost use Rattle.transfer_judge.specs.Dispute.{dispute_of, evidence_of, text_at};
 
-use bill_chain::{common_front, goes_beyond, last_link};
-use ebl_base::{Chain, ChainLink, Copied, Evidence, NoMemory, SignedText};
+use bill_chain::common_front;
+use ebl_base::{Chain, ChainLink, Copied, Evidence, NoMemory};
 use std::alloc::Global;
 use title_register::PlaceRef;
+use transfer_judge::{evidence_of, evidence_unless_beyond, text_at};
 
 /// What disputes a chain that was shown: nothing where it continues the place.
 pub(crate) fn dispute(
@@ -19,30 +20,10 @@ pub(crate) fn dispute(
 {
     match place {
         PlaceRef::Absent => Ok(None),
-        PlaceRef::Held { known, .. } => Ok(Some(evidence(alloc, known, shown)?)),
+        PlaceRef::Held { known, .. } => Ok(Some(evidence_of(alloc, known, shown)?)),
         PlaceRef::Parting { known, entry } => unless_beyond_both(alloc, known, entry, shown),
-        PlaceRef::Gone { known } => unless_beyond(alloc, known, shown),
+        PlaceRef::Gone { known } => evidence_unless_beyond(alloc, known, shown),
     }
-}
-
-// The evidence, unless the chain that was shown goes on beyond the own one.
-fn unless_beyond(alloc: Global, own: &Chain, shown: &Chain) -> Result<Option<Evidence>, NoMemory>
-    ensures { IfOk result (λ evidence. evidence
-        ≡ (if goes_beyond own.now shown.now then None else Some (evidence_of own.now shown.now))) }
-{
-    if goes_beyond(own.as_slice(), shown.as_slice()) {
-        return Ok(None);
-    }
-    Ok(Some(evidence(alloc, own, shown)?))
-}
-
-fn evidence(alloc: Global, own: &Chain, shown: &Chain) -> Result<Evidence, NoMemory>
-    ensures { IfOk result (λ evidence. evidence ≡ evidence_of own.now shown.now) }
-{
-    let index = common_front(own.as_slice(), shown.as_slice());
-    let own = text_at(alloc, index, own.as_slice())?;
-    let theirs = text_at(alloc, index, shown.as_slice())?;
-    Ok(Evidence { own, theirs })
 }
 
 // ---- the known chain and the entry that is parting, by reference
@@ -105,26 +86,5 @@ fn own_link_at<'a>(index: usize, known: &'a [ChainLink], entry: &'a ChainLink) -
     match known.get(index) {
         Some(link) => link,
         None => entry,
-    }
-}
-
-// ---- texts
-
-// The text of the entry at an index, or of the last one.
-fn text_at(alloc: Global, index: usize, chain: &[ChainLink]) -> Result<Option<SignedText>, NoMemory>
-    ensures { IfOk result (λ text. text ≡ text_at index chain.now) }
-{
-    match link_at(index, chain) {
-        Some(link) => Ok(Some(link.text.copy(alloc)?)),
-        None => Ok(None),
-    }
-}
-
-fn link_at(index: usize, chain: &[ChainLink]) -> Option<&ChainLink>
-    ensures { option_map (λ link. link.text) (option_copied result) ≡ text_at index chain.now }
-{
-    match chain.get(index) {
-        Some(link) => Some(link),
-        None => last_link(chain),
     }
 }

@@ -1,33 +1,29 @@
 //! Planning: what a party's command comes to, by a register: `transfer_judge::plan` without a walk over the diary.
-ghost use Rattle.std.specs.Prelude.{◌≡◌, ◌↔◌, ◌+◌, ◌≤◌, ◌<◌, IsTrue, IfOk, IfErr, Ok, count_by, length, nat_le};
-ghost use Rattle.ebl_base.specs.declared.limits.TheConstants.{MAX_DOCUMENT_SIZE, MAX_DOCUMENTS_SIZE};
+ghost use Rattle.std.specs.Prelude.{◌≡◌, ◌↔◌, ◌<◌, IsTrue, IfOk, IfErr, Ok, count_by};
 ghost use Rattle.canonical_json.specs.View.{view};
-ghost use Rattle.envelope_manifest.specs.Manifest.{total_size};
-ghost use Rattle.bill_chain.specs.Chain.{last_name};
 ghost use Rattle.bill_diary.specs.declared.bill_place.BillPlace.TheVariants.{Held};
 ghost use Rattle.bill_diary.specs.History.{history, newest_first};
-ghost use Rattle.bill_diary.specs.Pieces.{lists};
 ghost use Rattle.bill_diary.specs.Place.{place_of};
-ghost use Rattle.bill_diary.specs.Sound.{is_parted, most_with};
+ghost use Rattle.bill_diary.specs.Sound.{is_parted};
 ghost use Rattle.holder_commands.specs.Command.{command_view};
-ghost use Rattle.transfer_judge.specs.Plan.{HasAttempts, IsRefusal, attach_refusal, entry_by, is_unknown, missing_party, party_if, plan_act, plan_attach, plan_attachment, plan_bytes, plan_held, plan_move, plan_of, plan_sign, plan_stay};
+ghost use Rattle.transfer_judge.specs.Plan.{HasAttempts, IsRefusal, entry_by, plan_act, plan_attach, plan_attachment, plan_held, plan_move, plan_of, plan_sign};
 
-use bill_chain::last_link;
 use bill_diary::Record;
 use canonical_json::Json;
-use document_checksum::checksum;
 use ebl_base::{
     ByteList, Chain, CharList, Checksum, Copied, Entry, Items, Kind, LimitKind, MAX_CHAIN_ENTRIES,
-    MAX_DOCUMENT_SIZE, MAX_DOCUMENTS, MAX_DOCUMENTS_SIZE, MAX_ENTRY_TRANSACTIONS, Moment, NoMemory,
-    Party, PlatformCode, Transaction, TransactionList,
+    MAX_DOCUMENT_SIZE, MAX_ENTRY_TRANSACTIONS, Moment, NoMemory, Party, PlatformCode, Transaction,
+    TransactionList,
 };
 use envelope_manifest::Piece;
 use holder_commands::Command;
 use party_roster::Roster;
 use std::alloc::Global;
-use title_fold::{FoldRefusal, Title, apply, moves, possessor};
+use title_fold::{Title, apply, moves, possessor};
 use title_register::{PlaceRef, Register};
-use transfer_judge::{PlanRefusal, Planned};
+use transfer_judge::{
+    PlanRefusal, Planned, attach_refusal, last_name, missing_party, plan_bytes, plan_stay,
+};
 use transport_document::{Document, DocumentFault};
 
 /// Whether one attempt more can be counted, where a command may make one: what [`plan`] needs.
@@ -185,37 +181,6 @@ fn plan_held(
     }
 }
 
-// The party to which nothing can go.
-fn missing_party(
-    roster: &Roster,
-    me: PlatformCode,
-    before: Option<Title>,
-    kind: Kind,
-    recipient: Option<Party>,
-) -> Option<Party>
-    ensures { result ≡ missing_party roster.now me before kind recipient }
-{
-    match (before, kind, recipient) {
-        (_, _, Some(recipient)) => party_if(is_unknown(roster, me, recipient), recipient),
-        (Some(Title::Asked { by, .. }), Kind::SurrenderRefused, None) => {
-            party_if(!roster.has_platform(by.platform), by)
-        }
-        _ => None,
-    }
-}
-
-fn party_if(so: bool, party: Party) -> Option<Party>
-    ensures { result ≡ party_if so party }
-{
-    if so { Some(party) } else { None }
-}
-
-fn is_unknown(roster: &Roster, me: PlatformCode, party: Party) -> bool
-    ensures { result ≡ is_unknown roster.now me party }
-{
-    !roster.has_platform(party.platform) || (party.platform == me && !roster.knows(party))
-}
-
 // A transaction that moves possession to another platform.
 fn plan_move(
     alloc: Global,
@@ -271,45 +236,6 @@ fn entry_by(
     })
 }
 
-fn last_name(known: &Chain) -> Option<Checksum>
-    ensures { result ≡ last_name known.now }
-{
-    match last_link(known.as_slice()) {
-        Some(link) => Some(link.name),
-        None => None,
-    }
-}
-
-// A transaction that leaves possession here.
-fn plan_stay(
-    bill: Checksum,
-    since: &TransactionList,
-    t: Transaction,
-) -> Result<Planned, PlanRefusal>
-    ensures ok { IfOk result (λ planned. plan_stay bill since.now t ≡ Ok planned) }
-    ensures err { IfErr result (IsRefusal (plan_stay bill since.now t)) }
-{
-    if since.len() >= most_with(t.kind) {
-        return Err(PlanRefusal::Limit(LimitKind::Transactions));
-    }
-    Ok(Planned::Add(Record::Acted {
-        bill,
-        transaction: t,
-    }))
-}
-
-// How many transactions may be made since the known chain, with one of this kind that stays: a place is left for what
-// has to follow, an answer to a surrender that is asked for and a move.
-fn most_with(kind: Kind) -> usize
-    ensures { result ≡ most_with kind }
-{
-    match kind {
-        Kind::SurrenderAccepted => MAX_ENTRY_TRANSACTIONS,
-        Kind::SurrenderForDelivery | Kind::SurrenderForAmendment => MAX_ENTRY_TRANSACTIONS - 2,
-        _ => MAX_ENTRY_TRANSACTIONS - 1,
-    }
-}
-
 // ---- an attachment
 
 fn plan_attach(
@@ -363,78 +289,4 @@ fn plan_attachment(
         return Err(PlanRefusal::Limit(LimitKind::DocumentSize));
     }
     plan_bytes(alloc, bill, register.pieces(bill), name, media, bytes)
-}
-
-// The rule that refuses an attachment.
-fn attach_refusal(title: Option<Title>, party: Party) -> Option<FoldRefusal>
-    ensures { result ≡ attach_refusal title party }
-{
-    match title {
-        Some(Title::Ended { .. }) => Some(FoldRefusal::F3),
-        Some(title) => if possessor(title) == party {
-            None
-        } else {
-            Some(FoldRefusal::F7)
-        },
-        None => Some(FoldRefusal::F7),
-    }
-}
-
-// An attachment to a bill with these documents.
-fn plan_bytes(
-    alloc: Global,
-    bill: Checksum,
-    pieces: &[Piece],
-    name: &CharList,
-    media: &CharList,
-    bytes: &ByteList,
-) -> Result<Planned, PlanRefusal>
-    requires { length bytes.now ≤ MAX_DOCUMENT_SIZE }
-    ensures ok { IfOk result (λ planned.
-        plan_bytes bill pieces.now name.now media.now bytes.now ≡ Ok planned) }
-    ensures err { IfErr result (IsRefusal (plan_bytes bill pieces.now name.now media.now bytes.now)) }
-{
-    let checksum = checksum(bytes.as_slice());
-    if lists(pieces, checksum) {
-        return Ok(Planned::Nothing);
-    }
-    if pieces.len() >= MAX_DOCUMENTS {
-        return Err(PlanRefusal::Limit(LimitKind::Documents));
-    }
-    let size = bytes.len() as u32;
-    if !fits_beside(pieces, size) {
-        return Err(PlanRefusal::Limit(LimitKind::DocumentBytes));
-    }
-    Ok(Planned::Add(Record::Attached {
-        bill,
-        piece: Piece {
-            name: name.copy(alloc)?,
-            media: media.copy(alloc)?,
-            size,
-            checksum,
-        },
-        bytes: bytes.copy(alloc)?,
-    }))
-}
-
-// Whether a document with this checksum is among some that are listed.
-fn lists(pieces: &[Piece], checksum: Checksum) -> bool
-    ensures { result ≡ lists pieces.now checksum }
-{
-    pieces.iter().any(|piece| piece.checksum == checksum)
-}
-
-// Whether a document of this size fits beside others.
-fn fits_beside(pieces: &[Piece], size: u32) -> bool
-    requires { size ≤ MAX_DOCUMENT_SIZE }
-    ensures { result ≡ nat_le (total_size pieces.now + size) MAX_DOCUMENTS_SIZE }
-{
-    let mut room = MAX_DOCUMENTS_SIZE - size;
-    for piece in pieces {
-        if room < piece.size {
-            return false;
-        }
-        room -= piece.size;
-    }
-    true
 }
