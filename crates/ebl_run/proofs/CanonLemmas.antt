@@ -12,7 +12,7 @@ use Rattle.ebl_run.specs.declared.status.Status.{Status}
 use Rattle.ebl_run.specs.declared.status.Status.TheVariants.{Done, Usage, ReadFault, TooLong, BadJson, BadScript, WrongRacks, NotBlank, OpenFault, WriteFault, NoMemory}
 use Rattle.ebl_run.specs.Output.{complete, bad_json, stopped, Wrote}
 use Rattle.ebl_run.specs.Canon.{Canonizes, IsRefusal, canonical_lines}
-use Rattle.ebl_run.specs.Status.{EndsAs, EndsAsLast, IsBeforeWrite, IsCanonEnd, IsCommandEnd, Outputs}
+use Rattle.ebl_run.specs.Status.{EndsAs, EndsAsLast, IsBeforeWrite, IsCanonEnd, Outputs}
 use Rattle.ebl_base.specs.Segments.{segments_of}
 use Rattle.platform_world.specs.declared.fate.Fate.{Fate}
 use Rattle.ebl_run.specs.Drive.{Refuses, WritesRun, racks_for, serve}
@@ -67,19 +67,6 @@ command_stops Canon rings lengths text now =
 command_stops (Rehearse seed bills steps) rings lengths text now = rehearsal_stops seed bills steps rings now
 
 -- ---- the ends of `canon`
-
-pub canon_ends : (status : Status) → IsCanonEnd status → IsCommandEnd status
-canon_ends Done is = tt
-canon_ends (BadJson fault) is = tt
-canon_ends WriteFault is = tt
-canon_ends NoMemory is = tt
-canon_ends Usage is = is
-canon_ends ReadFault is = is
-canon_ends TooLong is = is
-canon_ends (BadScript n) is = absurd is
-canon_ends (WrongRacks given needed) is = absurd is
-canon_ends (NotBlank place) is = absurd is
-canon_ends (OpenFault place) is = absurd is
 
 pub canon_writes : (status : Status) → IsCanonEnd status → IsBeforeWrite status → ⊥
 canon_writes Done is before = before

@@ -26,7 +26,7 @@ use Rattle.platform_world.specs.Opening.{RoseAt}
 use Rattle.ebl_run.specs.declared.ended.Ended.{Ended}
 use Rattle.ebl_run.specs.Racks.{AreBack, AreMeasured, IsRefused, IsUnfit, keys_of, lengths_of, status_by, written_among}
 use Rattle.ebl_run.specs.Safe.{AreHandedBack, Ran, RunsBehind}
-use Rattle.ebl_run.specs.Status.{EndsAs, IsAfterOpen, IsBeforeRun, IsBeforeWrite, IsCausedBy, IsCommandEnd}
+use Rattle.ebl_run.specs.Status.{EndsAs, IsAfterOpen, IsBeforeRun, IsBeforeWrite, IsCausedBy, IsDriveEnd}
 use Rattle.ebl_run.proofs.Worlds.{back_behind, back_from_measuring, keys_measured, left_behind, rose_behind, same_back}
 
 -- ---- racks that serve
@@ -111,7 +111,7 @@ after_open_touched ReadFault is before = absurd is
 after_open_touched TooLong is before = absurd is
 after_open_touched (BadJson fault) is before = absurd is
 
-pub after_open_ends : (status : Status) → IsAfterOpen status → IsCommandEnd status
+pub after_open_ends : (status : Status) → IsAfterOpen status → IsDriveEnd status
 after_open_ends Done is = tt
 after_open_ends (BadScript n) is = tt
 after_open_ends WriteFault is = tt
@@ -214,7 +214,7 @@ drives_run script rings lengths fates run status old new served goes ends =
 pub drives_nothing : (script : List ℕ) (rings : List Keys) (lengths : List ℕ) (fates : List Fate) (status : Status)
     (given : ℕ) (now : Option (List ℕ)) → given ≡ length lengths
     → serve (racks_for (segments_of 10 script)) lengths ≡ false → fates ≡ []
-    → IsCommandEnd status
+    → IsDriveEnd status
     → IsCausedBy status (first_bad_line (segments_of 10 script)) given (racks_for (segments_of 10 script))
     (written_among (racks_for (segments_of 10 script)) lengths)
     → EndsAs status (Drives script rings lengths fates) now now
@@ -233,7 +233,7 @@ drives_nothing script rings lengths fates status given now given_is unserved non
         let served = they_serve needed lengths (subst (λ (n : ℕ). needed ≤ n) given_is enough) blank in
         false≢true (sym unserved ∙ served)
 
-    by : (s : Status) → IsCommandEnd s
+    by : (s : Status) → IsDriveEnd s
         → IsCausedBy s (first_bad_line (segments_of 10 script)) given needed (written_among needed lengths)
         → EndsAs s (Drives script rings lengths fates) now now
     by (BadScript n) is bad =
@@ -250,7 +250,7 @@ drives_nothing script rings lengths fates status given now given_is unserved non
     by Usage is caused_so = absurd is
     by ReadFault is caused_so = absurd is
     by TooLong is caused_so = absurd is
-    by (BadJson fault) is caused_so = absurd caused_so
+    by (BadJson fault) is caused_so = absurd is
 
 -- ---- a world that wasn't opened
 
@@ -273,7 +273,7 @@ pub unopened_at : (fault : WorldFault) (place : ℕ) → status_by fault ≡ Ope
 unopened_at (faults.OpenFault at) place is = let same : at ≡ place = cc is in ap faults.OpenFault same
 unopened_at faults.NoMemory place is = let no : NoMemory ≡ OpenFault place = is in cc no
 
-pub unopened_ends : (fault : WorldFault) → IsCommandEnd (status_by fault)
+pub unopened_ends : (fault : WorldFault) → IsDriveEnd (status_by fault)
 unopened_ends (faults.OpenFault place) = tt
 unopened_ends faults.NoMemory = tt
 
@@ -336,14 +336,14 @@ refused_rose seen disk_faults needed racks after (unfits.NotBlank at) bad status
 refused_rose seen disk_faults needed racks after (unfits.NotBlank at) bad status place why (inr (inr (none, is))) fault =
     let no : NotBlank at ≡ OpenFault place = sym is ∙ fault in cc no
 
-pub refused_ends : (unfit : Unfit) (bad : Option ℕ) (status : Status) → IsRefused unfit bad status → IsCommandEnd status
-refused_ends (unfits.Faulty place) bad status is = subst IsCommandEnd (sym is) tt
-refused_ends (unfits.TooFew given wanted) bad status (inl is) = subst IsCommandEnd (sym is) tt
-refused_ends (unfits.TooFew given wanted) bad status (inr (inl (n, is_bad, is))) = subst IsCommandEnd (sym is) tt
-refused_ends (unfits.TooFew given wanted) bad status (inr (inr (none, is))) = subst IsCommandEnd (sym is) tt
-refused_ends (unfits.NotBlank place) bad status (inl is) = subst IsCommandEnd (sym is) tt
-refused_ends (unfits.NotBlank place) bad status (inr (inl (n, is_bad, is))) = subst IsCommandEnd (sym is) tt
-refused_ends (unfits.NotBlank place) bad status (inr (inr (none, is))) = subst IsCommandEnd (sym is) tt
+pub refused_ends : (unfit : Unfit) (bad : Option ℕ) (status : Status) → IsRefused unfit bad status → IsDriveEnd status
+refused_ends (unfits.Faulty place) bad status is = subst IsDriveEnd (sym is) tt
+refused_ends (unfits.TooFew given wanted) bad status (inl is) = subst IsDriveEnd (sym is) tt
+refused_ends (unfits.TooFew given wanted) bad status (inr (inl (n, is_bad, is))) = subst IsDriveEnd (sym is) tt
+refused_ends (unfits.TooFew given wanted) bad status (inr (inr (none, is))) = subst IsDriveEnd (sym is) tt
+refused_ends (unfits.NotBlank place) bad status (inl is) = subst IsDriveEnd (sym is) tt
+refused_ends (unfits.NotBlank place) bad status (inr (inl (n, is_bad, is))) = subst IsDriveEnd (sym is) tt
+refused_ends (unfits.NotBlank place) bad status (inr (inr (none, is))) = subst IsDriveEnd (sym is) tt
 
 pub refused_put : (unfit : Unfit) (bad : Option ℕ) (status : Status) → IsRefused unfit bad status → status ≡ WriteFault → ⊥
 refused_put (unfits.Faulty place) bad status is fault = let no : OpenFault place ≡ WriteFault = sym is ∙ fault in cc no
@@ -462,7 +462,7 @@ ran_at_once {D} {G} seen may_leave disk_faults keys ring_faults IsRun racks ende
 
 -- what `drive` wrote, by whether the racks serve
 pub drives_by : (script : List ℕ) (rings : List Keys) (lengths : List ℕ) (fates : List Fate) (status : Status)
-    (given : ℕ) (old new : Option (List ℕ)) → given ≡ length lengths → IsCommandEnd status
+    (given : ℕ) (old new : Option (List ℕ)) → given ≡ length lengths → IsDriveEnd status
     → IsCausedBy status (first_bad_line (segments_of 10 script)) given (racks_for (segments_of 10 script))
     (written_among (racks_for (segments_of 10 script)) lengths)
     → (serve (racks_for (segments_of 10 script)) lengths ≡ true → (run : Run) × RunsScript script rings fates run

@@ -1,18 +1,18 @@
 -- What a command writes of what it read, where the source tells its bytes.
-use Rattle.std.proofs.Common.{◌≡◌, ℕ, true, List, [], refl, sym, ap, subst, ◌∙◌}
-use Rattle.std.specs.Prelude.{Option, Some, None, IfSome}
+use Rattle.std.proofs.Common.{◌≡◌, ◌≢◌, inl, inr, ℕ, true, false, List, [], refl, sym, ap, subst, ◌∙◌}
+use Rattle.std.specs.Prelude.{Option, Some, None, IfSome, option_map}
 use Rattle.std.proofs.KnownBytes.{Appends-nil}
 use Rattle.signed_envelope.specs.KeyRing.{Keys}
 use Rattle.platform_world.specs.declared.fate.Fate.{Fate}
 use Rattle.ebl_run.specs.declared.command.Command.{Command}
 use Rattle.ebl_run.specs.declared.command.Command.TheVariants.{Drive, Canon, Rehearse}
-use Rattle.ebl_run.specs.declared.status.Status.TheVariants.{ReadFault, TooLong, OpenFault, NoMemory}
+use Rattle.ebl_run.specs.declared.status.Status.TheVariants.{Usage, ReadFault, TooLong, OpenFault, NoMemory}
 use Rattle.ebl_run.specs.declared.reading.ReadError.{ReadError}
 use Rattle.ebl_run.specs.declared.reading.ReadError.TheVariants as errors
 use Rattle.ebl_run.specs.Drive.{output_of}
 use Rattle.ebl_run.specs.Command.{reads_source}
 use Rattle.ebl_run.specs.Needed.{racks_wanted, racks_wanted_by}
-use Rattle.ebl_run.specs.Status.{EndsAs, IsCausedBy, Outputs, status_for}
+use Rattle.ebl_run.specs.Status.{EndsAs, IsCausedBy, IsEndOf, MayEnd, Outputs, status_for}
 use Rattle.ebl_run.proofs.CanonLemmas.{command_stops}
 use Rattle.ebl_run.proofs.DriveLemmas.{never_begun}
 
@@ -26,6 +26,33 @@ of_script P named command (Some script) text is read holds driven =
     let same : Some command ≡ Some Drive = is ∙ driven in
     let drive : command ≡ Drive = cc in
     subst P (read (ap reads_source drive)) (holds drive)
+
+-- a command that has what it reads ends by none of these
+pub ends_used : (command : Command) → IsEndOf command Usage → ⊥
+ends_used Drive is = is
+ends_used Canon is = is
+ends_used (Rehearse seed bills steps) is = is
+
+pub ends_unread : (command : Command) → IsEndOf command ReadFault → ⊥
+ends_unread Drive is = is
+ends_unread Canon is = is
+ends_unread (Rehearse seed bills steps) is = is
+
+pub ends_too_long : (command : Command) → IsEndOf command TooLong → ⊥
+ends_too_long Drive is = is
+ends_too_long Canon is = is
+ends_too_long (Rehearse seed bills steps) is = is
+
+-- where the words don't name a command that reads, their command doesn't
+pub reads_nothing : (command : Command) (named : Option Command) → Some command ≡ named
+    → option_map reads_source named ≢ Some true → reads_source command ≡ false
+reads_nothing command named is other =
+    of command (λ (reads : Some (reads_source command) ≡ Some true). other (ap (option_map reads_source) (sym is) ∙ reads))
+  where
+    of : (c : Command) → (Some (reads_source c) ≡ Some true → ⊥) → reads_source c ≡ false
+    of Drive never = absurd (never refl)
+    of Canon never = absurd (never refl)
+    of (Rehearse seed bills steps) never = refl
 
 -- how many racks are wanted isn't told by what a rehearsal reads
 pub further_by : (P : ℕ → Type 0) (named : Option Command) (command : Command) (left : Option (List ℕ)) (text : List ℕ)
@@ -67,6 +94,21 @@ pub unread_caused : (fault : ReadError) (bad : Option ℕ) (given needed : ℕ) 
 unread_caused errors.ReadFault bad given needed written = tt
 unread_caused errors.TooLong bad given needed written = tt
 unread_caused errors.NoMemory bad given needed written = tt
+
+-- a command that reads may end so
+pub unread_ends : (fault : ReadError) (named : Option Command) (command : Command) → Some command ≡ named
+    → reads_source command ≡ true → MayEnd named (status_for fault)
+unread_ends fault named command is reads = subst (λ (n : Option Command). MayEnd n (status_for fault)) is (by fault)
+  where
+    no_memory : (c : Command) → IsEndOf c NoMemory
+    no_memory Drive = tt
+    no_memory Canon = tt
+    no_memory (Rehearse seed bills steps) = tt
+
+    by : (f : ReadError) → MayEnd (Some command) (status_for f)
+    by errors.ReadFault = inr (reads, tt)
+    by errors.TooLong = inr (reads, tt)
+    by errors.NoMemory = inl (no_memory command)
 
 pub unread_no_open : (fault : ReadError) (place : ℕ) → status_for fault ≡ OpenFault place → ⊥
 unread_no_open errors.ReadFault place is = let no : ReadFault ≡ OpenFault place = is in cc no

@@ -19,7 +19,7 @@ use Rattle.ebl_run.specs.declared.racks.Unfit.TheVariants as unfits
 use Rattle.ebl_run.specs.declared.racks.Unfit.TheVariants.{TooFew, Faulty}
 use Rattle.ebl_run.specs.Racks.{IsRefused, status_by, status_of}
 use Rattle.ebl_run.specs.Rehearse.{WritesRehearsal, output_by, output_of}
-use Rattle.ebl_run.specs.Status.{EndsAs, EndsAsLast, IsAfterOpen, IsCausedBy}
+use Rattle.ebl_run.specs.Status.{EndsAs, EndsAsLast, IsAfterOpen, IsCausedBy, IsRehearsalEnd}
 
 -- a rehearsal may stop before its first event
 goes_nowhere : (bills : ℕ) (ms : List Move) (w : WorldRecord) (x : ℕ) → Goes bills ms w x (ends_in rehearsals.stopped w)
@@ -138,6 +138,29 @@ rehearsed_good (Err e) status old new ends (is, same) n bad =
     let no : NoMemory ≡ BadScript n = sym is ∙ bad in cc no
 rehearsed_good (Ok line) status old new ends short n bad =
     subst (λ (s : Status). EndsAsLast s line old new) bad ends
+
+pub rehearsal_ends : (status : Status) → IsAfterOpen status → ((n : ℕ) → status ≡ BadScript n → ⊥)
+    → IsRehearsalEnd status
+rehearsal_ends Done is good = tt
+rehearsal_ends WriteFault is good = tt
+rehearsal_ends NoMemory is good = tt
+rehearsal_ends (BadScript n) is good = absurd (good n refl)
+rehearsal_ends (WrongRacks given needed) is good = absurd is
+rehearsal_ends (NotBlank place) is good = absurd is
+rehearsal_ends (OpenFault place) is good = absurd is
+rehearsal_ends Usage is good = absurd is
+rehearsal_ends ReadFault is good = absurd is
+rehearsal_ends TooLong is good = absurd is
+rehearsal_ends (BadJson fault) is good = absurd is
+
+pub unopened_rehearsal_ends : (fault : WorldFault) → IsRehearsalEnd (status_by fault)
+unopened_rehearsal_ends (faults.OpenFault place) = tt
+unopened_rehearsal_ends faults.NoMemory = tt
+
+pub unfit_rehearsal_ends : (unfit : Unfit) → IsRehearsalEnd (status_of unfit)
+unfit_rehearsal_ends (TooFew given needed) = tt
+unfit_rehearsal_ends (unfits.NotBlank place) = tt
+unfit_rehearsal_ends (Faulty place) = tt
 
 -- what follows where a result is an error
 pub on_err : {T E P Q : Type 0} (r : Result T E) → (P → Q) → OnErr r P → OnErr r Q

@@ -1,5 +1,5 @@
 -- What each status says of the bytes written, and of the script.
-use Rattle.std.specs.Prelude.{◌≡◌, ◌<◌, ◌≤◌, ℕ, List, [], Option, Some, None, IfSome}
+use Rattle.std.specs.Prelude.{◌≡◌, ◌⊎◌, ◌<◌, ◌≤◌, ℕ, true, List, [], Option, Some, None, IfSome}
 use Rattle.std.specs.Io.KnownBytes.{Appends}
 use Rattle.ebl_edge.specs.Sink.{AppendsFirst}
 use Rattle.ebl_run.specs.declared.status.Status.{Status}
@@ -10,6 +10,7 @@ use Rattle.ebl_run.specs.declared.command.Command.{Command}
 use Rattle.ebl_run.specs.declared.command.Command.TheVariants.{Drive, Canon, Rehearse}
 use Rattle.signed_envelope.specs.KeyRing.{Keys}
 use Rattle.platform_world.specs.declared.fate.Fate.{Fate}
+use Rattle.ebl_run.specs.Command.{reads_source}
 use Rattle.ebl_run.specs.Output.{Output, complete, bad_line, bad_json, stopped, Wrote, WroteFirst}
 use Rattle.ebl_run.specs.Drive.{Drives}
 use Rattle.ebl_run.specs.Canon.{Canonizes}
@@ -76,12 +77,18 @@ IsBeforeRun (OpenFault place) = Unit {0}
 IsBeforeRun (BadJson fault) = Unit {0}
 IsBeforeRun status = IsBeforeWrite status
 
--- the end of a command over what was read
-abbrev pub IsCommandEnd : Status → Type 0
-IsCommandEnd Usage = ⊥
-IsCommandEnd ReadFault = ⊥
-IsCommandEnd TooLong = ⊥
-IsCommandEnd status = Unit {0}
+-- ---- with which statuses a command may end
+
+-- the end of `drive` over what was read
+abbrev pub IsDriveEnd : Status → Type 0
+IsDriveEnd Done = Unit {0}
+IsDriveEnd (BadScript n) = Unit {0}
+IsDriveEnd (WrongRacks given needed) = Unit {0}
+IsDriveEnd (NotBlank place) = Unit {0}
+IsDriveEnd (OpenFault place) = Unit {0}
+IsDriveEnd WriteFault = Unit {0}
+IsDriveEnd NoMemory = Unit {0}
+IsDriveEnd status = ⊥
 
 -- the end of `canon` over what was read
 abbrev pub IsCanonEnd : Status → Type 0
@@ -90,6 +97,37 @@ IsCanonEnd (BadJson fault) = Unit {0}
 IsCanonEnd WriteFault = Unit {0}
 IsCanonEnd NoMemory = Unit {0}
 IsCanonEnd status = ⊥
+
+-- the end of `rehearse`
+abbrev pub IsRehearsalEnd : Status → Type 0
+IsRehearsalEnd Done = Unit {0}
+IsRehearsalEnd (WrongRacks given needed) = Unit {0}
+IsRehearsalEnd (NotBlank place) = Unit {0}
+IsRehearsalEnd (OpenFault place) = Unit {0}
+IsRehearsalEnd WriteFault = Unit {0}
+IsRehearsalEnd NoMemory = Unit {0}
+IsRehearsalEnd status = ⊥
+
+-- the end of a command that has what it reads
+abbrev pub IsEndOf : Command → Status → Type 0
+IsEndOf Drive status = IsDriveEnd status
+IsEndOf Canon status = IsCanonEnd status
+IsEndOf (Rehearse seed bills steps) status = IsRehearsalEnd status
+
+-- the source failed, or has too many bytes
+abbrev pub IsSourceEnd : Status → Type 0
+IsSourceEnd ReadFault = Unit {0}
+IsSourceEnd TooLong = Unit {0}
+IsSourceEnd status = ⊥
+
+-- words that name no command are wrong usage. A command ends by an end of its own; one that reads the source may also
+-- end where that fails or is too long
+abbrev pub MayEnd : Option Command → Status → Type 0
+MayEnd None status = status ≡ Usage
+MayEnd (Some command) status =
+    IsEndOf command status ⊎ ((reads_source command ≡ true) × IsSourceEnd status)
+
+-- ---- the end of a run
 
 -- the end of a run whose world was opened
 abbrev pub IsAfterOpen : Status → Type 0

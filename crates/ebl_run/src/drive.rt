@@ -10,7 +10,7 @@ ghost use Rattle.ebl_run.specs.Drive.{Drives, first_bad, first_bad_line, racks_f
 ghost use Rattle.ebl_run.specs.Events.{IsLineAnswered, IsLineCut, RanLines};
 ghost use Rattle.ebl_run.specs.Racks.{AllTell, IsRefused, keys_of, lengths_of, written_among};
 ghost use Rattle.ebl_run.specs.Safe.{AreHandedBack, Ran, RunsBehind};
-ghost use Rattle.ebl_run.specs.Status.{EndsAs, EndsAsLast, IsAfterOpen, IsBeforeWrite, IsCausedBy, IsCommandEnd};
+ghost use Rattle.ebl_run.specs.Status.{EndsAs, EndsAsLast, IsAfterOpen, IsBeforeWrite, IsCausedBy, IsDriveEnd};
 
 use crate::ended::Ended;
 use crate::opened::{close, status_by, status_of};
@@ -50,7 +50,7 @@ pub fn drive<K: Sink, D: Disk + Drop, G: KeyRing + Drop>(
         (lengths_of D.seen racks.items) result.fates) (K.written sink.old) (K.written sink.new) }
     ensures racks { AreHandedBack D.faults G.faults (racks_for (segments_of 10 script.now)) racks.items result }
     ensures unwritten { IsBeforeWrite result.status → sink.new ≡ sink.old }
-    ensures after_read { IsCommandEnd result.status }
+    ensures end { IsDriveEnd result.status }
     ensures write_fault { result.status ≡ Status.WriteFault → Rose (K.faults sink.old) (K.faults sink.new) }
     ensures later { K.faults sink.old ≤ K.faults sink.new }
 {
@@ -84,7 +84,7 @@ fn drive_roster<K: Sink, D: Disk + Drop, G: KeyRing + Drop>(
         → (result.fates ≡ []) × (sink.new ≡ sink.old) }
     ensures racks { AreHandedBack D.faults G.faults (racks_needed roster) racks.items result }
     ensures unwritten { IsBeforeWrite result.status → sink.new ≡ sink.old }
-    ensures after_read { IsCommandEnd result.status }
+    ensures end { IsDriveEnd result.status }
     ensures write_fault { result.status ≡ Status.WriteFault → Rose (K.faults sink.old) (K.faults sink.new) }
     ensures later { K.faults sink.old ≤ K.faults sink.new }
 {
@@ -148,7 +148,7 @@ fn drive_world<K: Sink, D: Disk + Drop, G: KeyRing + Drop>(
         racks.items result (K.written sink.old) (K.written sink.new) }
     ensures racks { AreHandedBack D.faults G.faults (racks_needed roster) racks.items result }
     ensures touched { IsBeforeWrite result.status → ⊥ }
-    ensures after_read { IsCommandEnd result.status }
+    ensures end { IsDriveEnd result.status }
     ensures write_fault { result.status ≡ Status.WriteFault → Rose (K.faults sink.old) (K.faults sink.new) }
     ensures later { K.faults sink.old ≤ K.faults sink.new }
 {

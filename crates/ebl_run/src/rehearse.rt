@@ -7,7 +7,7 @@ ghost use Rattle.ebl_run.specs.Drive.{racks_needed, serve};
 ghost use Rattle.ebl_run.specs.Racks.{AllTell, keys_of, lengths_of, written_among};
 ghost use Rattle.ebl_run.specs.Rehearse.{WritesRehearsal};
 ghost use Rattle.ebl_run.specs.Safe.{AreHandedBack};
-ghost use Rattle.ebl_run.specs.Status.{EndsAs, EndsAsLast, IsBeforeWrite, IsCausedBy, IsCommandEnd};
+ghost use Rattle.ebl_run.specs.Status.{EndsAs, EndsAsLast, IsBeforeWrite, IsCausedBy, IsRehearsalEnd};
 
 use crate::ended::Ended;
 use crate::opened::{close, status_by, status_of};
@@ -44,7 +44,7 @@ pub fn rehearse<K: Sink, D: Disk + Drop, G: KeyRing + Drop>(
         (K.written sink.old) (K.written sink.new) }
     ensures racks { AreHandedBack D.faults G.faults (racks_needed made_roster) racks.items result }
     ensures unwritten { IsBeforeWrite result.status → sink.new ≡ sink.old }
-    ensures after_read { IsCommandEnd result.status }
+    ensures end { IsRehearsalEnd result.status }
     ensures write_fault { result.status ≡ Status.WriteFault → Rose (K.faults sink.old) (K.faults sink.new) }
     ensures later { K.faults sink.old ≤ K.faults sink.new }
 {
@@ -81,7 +81,7 @@ fn rehearse_on<K: Sink, D: Disk + Drop, G: KeyRing + Drop>(
         (K.written sink.old) (K.written sink.new) }
     ensures racks { AreHandedBack D.faults G.faults (racks_needed made_roster) racks.items result }
     ensures touched { IsBeforeWrite result.status → ⊥ }
-    ensures after_read { IsCommandEnd result.status }
+    ensures end { IsRehearsalEnd result.status }
     ensures write_fault { result.status ≡ Status.WriteFault → Rose (K.faults sink.old) (K.faults sink.new) }
     ensures later { K.faults sink.old ≤ K.faults sink.new }
 {

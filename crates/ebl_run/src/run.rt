@@ -1,5 +1,5 @@
-//! The top call: a script comes in, answer lines and bill lines go out.
-ghost use Rattle.std.specs.Prelude.{◌≡◌, ◌↔◌, ◌<◌, ◌≤◌, ℕ, List, None, Some, [], drop, false, true, length, map, option_map, vec_len, IfErr, IfOk, IfSome, IsErrOf};
+//! The top call: words, a source, a sink and racks come in, and what the command of the words writes goes out.
+ghost use Rattle.std.specs.Prelude.{◌≡◌, ◌≢◌, ◌↔◌, ◌<◌, ◌≤◌, ℕ, List, None, Some, [], drop, false, true, length, map, option_map, vec_len, IfErr, IfOk, IfSome, IsErrOf};
 ghost use Rattle.ebl_base.specs.Faults.{Rose};
 ghost use Rattle.ebl_base.specs.Segments.{segments_of};
 ghost use Rattle.platform_world.specs.Opening.{RoseAt};
@@ -10,7 +10,7 @@ ghost use Rattle.ebl_run.specs.Drive.{first_bad_line, racks_for, racks_needed, s
 ghost use Rattle.ebl_run.specs.Needed.{racks_wanted, racks_wanted_by};
 ghost use Rattle.ebl_run.specs.Racks.{AllTell, AreBack, keys_of, lengths_of, written_among};
 ghost use Rattle.ebl_run.specs.Safe.{AreHandedBack, Ran, RanSafely};
-ghost use Rattle.ebl_run.specs.Status.{EndsAs, IsAfterRead, IsBeforeRun, IsBeforeWrite, IsCausedBy, IsCommandEnd, Outputs, status_for};
+ghost use Rattle.ebl_run.specs.Status.{EndsAs, IsAfterRead, IsBeforeRun, IsBeforeWrite, IsCausedBy, IsEndOf, MayEnd, Outputs, status_for};
 ghost use Rattle.rehearsal.specs.Roster.{made_roster};
 
 use crate::canon::canon;
@@ -44,6 +44,8 @@ pub fn run_ebl<S: Source, K: Sink, D: Disk + Drop, G: KeyRing + Drop>(
     racks: Vec<Rack<D, G>>,
 ) -> Ended<D, G>
     requires told { AllTell D.tells racks.items }
+    // With which statuses a command may end.
+    ensures end { MayEnd (command_of words.now.items) result.status }
     ensures usage { (result.status ≡ Status.Usage) ↔ (command_of words.now.items ≡ None) }
     ensures read_fault { result.status ≡ Status.ReadFault → Rose (S.faults source.old) (S.faults source.new) }
     ensures too_long { result.status ≡ Status.TooLong
@@ -86,7 +88,7 @@ pub fn run_ebl<S: Source, K: Sink, D: Disk + Drop, G: KeyRing + Drop>(
         ≡ drop (racks_wanted_by (command_of words.now.items) script) racks.items) }
     ensures untouched { IsBeforeWrite result.status → (sink.new ≡ sink.old) × (result.racks ≡ racks.items) }
     ensures unrun { IsBeforeRun result.status → result.fates ≡ [] }
-    ensures unread { option_map reads_source (command_of words.now.items) ≡ Some false → source.new ≡ source.old }
+    ensures unread { option_map reads_source (command_of words.now.items) ≢ Some true → source.new ≡ source.old }
     ensures source_later { S.faults source.old ≤ S.faults source.new }
     ensures sink_later { K.faults sink.old ≤ K.faults sink.new }
 {
@@ -122,6 +124,7 @@ fn text_for<S: Source>(
     ensures fits { IfOk result (λ bytes. vec_len bytes ≤ MOST_BYTES) }
     ensures read_fault { IsErrOf result ReadFault → Rose (S.faults source.old) (S.faults source.new) }
     ensures too_long { IsErrOf result TooLong → IfSome (S.left source.old) (λ script. MOST_BYTES < length script) }
+    ensures read { IfErr result (λ _. reads_source command ≡ true) }
     ensures unread { reads_source command ≡ false → source.new ≡ source.old }
     ensures later { S.faults source.old ≤ S.faults source.new }
 {
@@ -156,7 +159,7 @@ fn run_command<K: Sink, D: Disk + Drop, G: KeyRing + Drop>(
         (K.written sink.old) (K.written sink.new) }
     ensures racks { AreHandedBack D.faults G.faults (racks_wanted command text.now) racks.items result }
     ensures unwritten { IsBeforeWrite result.status → sink.new ≡ sink.old }
-    ensures after_read { IsCommandEnd result.status }
+    ensures end { IsEndOf command result.status }
     ensures write_fault { result.status ≡ Status.WriteFault → Rose (K.faults sink.old) (K.faults sink.new) }
     ensures later { K.faults sink.old ≤ K.faults sink.new }
 {

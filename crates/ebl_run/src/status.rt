@@ -4,7 +4,8 @@ ghost use Rattle.ebl_run.specs.Status.{exit_of};
 
 use canonical_json::ReadError;
 
-/// How a run of the program ends. The first of these that applies, in the order of the variants, `Done` last.
+/// How a run of the program ends. A bad line is reported before `WrongRacks` and `NotBlank`. A disk or a sink that
+/// fails is told where it is met, and so is memory that runs out: also before a later bad line.
 #[derive(Clone, Copy, Debug, PartialEq, Eq)]
 pub enum Status {
     /// Each line was answered, and the bill lines stand; or the one line of the command does.

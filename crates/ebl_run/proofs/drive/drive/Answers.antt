@@ -8,7 +8,7 @@ use Rattle.platform_world.specs.Run.{RunsScript}
 use Rattle.ebl_run.specs.Drive.{first_bad_line, output_of, racks_for, racks_needed}
 use Rattle.ebl_run.specs.Racks.{keys_of, lengths_of, written_among}
 use Rattle.ebl_run.specs.Safe.{AreHandedBack}
-use Rattle.ebl_run.specs.Status.{IsCausedBy, IsCommandEnd}
+use Rattle.ebl_run.specs.Status.{IsCausedBy, IsDriveEnd}
 use Rattle.ebl_run.specs.declared.status.Status.{Status}
 use Rattle.ebl_run.specs.declared.status.Status.TheVariants.{BadScript, NoMemory}
 use Rattle.ebl_run.proofs.DriveLemmas.{bad_at_once, bad_behind, bad_empty, bad_first_line, bad_is_no_open, drives_by, handed_at_once, memory_is_no_open, never_begun, racks_behind, ran_at_once, runs_behind_roster, runs_empty, runs_no_roster, stops_at_once}
@@ -36,7 +36,7 @@ returns-in_default-clause-ends g c =
     let rings = keys_of g.G.KeyRing.keys c.args.racks.items in
     drives_by c.args.script.now rings lengths c.at_once.result.fates c.at_once.result.status (length c.args.racks.items)
     now now (sym (length-map c.args.racks.items (λ rack. length (g.D.Disk.seen rack.disk))))
-    (subst IsCommandEnd (sym c.at_once.ensures.status) tt) (returns-in_default-clause-cause g c)
+    (subst IsDriveEnd (sym c.at_once.ensures.status) tt) (returns-in_default-clause-cause g c)
     (λ served. let ran = returns-in_default-clause-ran g c served in (ran.run, ran.runs, ran.wrote))
     (λ unserved. (c.at_once.ensures.fates, refl))
 
@@ -72,7 +72,7 @@ returns-in-Ok-None-clause-ends g c =
     let rings = keys_of g.G.KeyRing.keys c.args.racks.items in
     drives_by c.args.script.now rings lengths c.at_once-in-Ok-None.result.fates c.at_once-in-Ok-None.result.status
     (length c.args.racks.items) now now (sym (length-map c.args.racks.items (λ rack. length (g.D.Disk.seen rack.disk))))
-    (subst IsCommandEnd (sym c.at_once-in-Ok-None.ensures.status) tt) (returns-in-Ok-None-clause-cause g c)
+    (subst IsDriveEnd (sym c.at_once-in-Ok-None.ensures.status) tt) (returns-in-Ok-None-clause-cause g c)
     (λ served. let ran = returns-in-Ok-None-clause-ran g c served in (ran.run, ran.runs, ran.wrote))
     (λ unserved. (c.at_once-in-Ok-None.ensures.fates, refl))
 
@@ -104,7 +104,7 @@ returns-in-Err-clause-ends g c =
     let rings = keys_of g.G.KeyRing.keys c.args.racks.items in
     drives_by c.args.script.now rings lengths c.at_once-in-Err.result.fates c.at_once-in-Err.result.status
     (length c.args.racks.items) now now (sym (length-map c.args.racks.items (λ rack. length (g.D.Disk.seen rack.disk))))
-    (subst IsCommandEnd (sym c.at_once-in-Err.ensures.status) tt) (returns-in-Err-clause-cause g c)
+    (subst IsDriveEnd (sym c.at_once-in-Err.ensures.status) tt) (returns-in-Err-clause-cause g c)
     (λ served. let ran = returns-in-Err-clause-ran g c served in (ran.run, ran.runs, ran.wrote))
     (λ unserved. (c.at_once-in-Err.ensures.fates, refl))
 
@@ -151,7 +151,7 @@ returns-in-Ok-Some-clause-ends g c =
     let rings = keys_of g.G.KeyRing.keys c.args.racks.items in
     drives_by c.args.script.now rings lengths c.drive_roster.result.fates c.drive_roster.result.status
     (length c.args.racks.items) (g.K.Sink.written c.args.sink.now) (g.K.Sink.written c.drive_roster.new.sink)
-    (sym (length-map c.args.racks.items (λ rack. length (g.D.Disk.seen rack.disk)))) c.drive_roster.ensures.after_read
+    (sym (length-map c.args.racks.items (λ rack. length (g.D.Disk.seen rack.disk)))) c.drive_roster.ensures.end
     (returns-in-Ok-Some-clause-cause g c)
     (λ served. let ran = returns-in-Ok-Some-clause-ran g c served in (ran.run, ran.runs, ran.wrote))
     (λ unserved. let it = c.drive_roster.ensures.refused (rw needed at unserved) in (it.0, ap g.K.Sink.written it.1))

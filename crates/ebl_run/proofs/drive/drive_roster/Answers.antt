@@ -7,7 +7,7 @@ use Rattle.platform_world.specs.declared.fate.Fate.{Fate}
 use Rattle.ebl_run.specs.Drive.{first_bad, output_of, racks_needed, serve}
 use Rattle.ebl_run.specs.Racks.{IsUnfit, keys_of, lengths_of, written_among}
 use Rattle.ebl_run.specs.Safe.{RunsBehind}
-use Rattle.ebl_run.specs.Status.{EndsAs, IsCausedBy, IsCommandEnd}
+use Rattle.ebl_run.specs.Status.{EndsAs, IsCausedBy, IsDriveEnd}
 use Rattle.ebl_run.specs.declared.status.Status.{Status}
 use Rattle.ebl_run.proofs.DriveLemmas.{handed_behind, never_begun, ran_behind, refused_cause, refused_ends, refused_handed, refused_put, refused_wrote, they_serve}
 use Rattle.ebl_run.proofs.Worlds.{lengths_measured, told_measured}
@@ -107,9 +107,9 @@ returns-in-Err-clause-racks g c =
     c.measure.ensures.measured further why c.refuse-status.ensures c.at_once.ensures.status c.at_once.ensures.racks
     c.at_once.ensures.fates
 
-pub returns-in-Err-clause-after_read : goal.returns-in-Err-clause-after_read
-returns-in-Err-clause-after_read g c =
-    subst IsCommandEnd (sym c.at_once.ensures.status)
+pub returns-in-Err-clause-end : goal.returns-in-Err-clause-end
+returns-in-Err-clause-end g c =
+    subst IsDriveEnd (sym c.at_once.ensures.status)
     (refused_ends c.in-Err.unfit (first_bad c.args.roster 1 (segments_of 10 c.args.lines.now)) c.refuse-status.result c.refuse-status.ensures)
 
 pub returns-in-Err-clause-write_fault : goal.returns-in-Err-clause-write_fault

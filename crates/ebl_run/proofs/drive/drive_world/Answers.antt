@@ -8,7 +8,7 @@ use Rattle.ebl_run.specs.Drive.{first_bad, output_of, racks_needed}
 use Rattle.platform_world.specs.Opening.{RoseAt}
 use Rattle.ebl_run.specs.Safe.{RunsBehind}
 use Rattle.ebl_run.specs.Racks.{AreBack, keys_of, lengths_of}
-use Rattle.ebl_run.specs.Status.{EndsAs, IsAfterOpen, IsBeforeRun, IsBeforeWrite, IsCausedBy, IsCommandEnd}
+use Rattle.ebl_run.specs.Status.{EndsAs, IsAfterOpen, IsBeforeRun, IsBeforeWrite, IsCausedBy, IsDriveEnd}
 use Rattle.ebl_run.specs.declared.status.Status.{Status}
 use Rattle.ebl_run.proofs.DriveLemmas.{after_open_ends, after_open_touched, after_open_written, caused_with, never_begun, runs_opened, serve_blank, serve_enough, unopened_at, unopened_caused, unopened_ends, unopened_put, unopened_untouched, unopened_wrote}
 use Rattle.ebl_run.proofs.Measuring.{blank_racks}
@@ -84,9 +84,9 @@ returns-in-Ok-clause-racks g c =
           (subst IsBeforeRun c.close.ensures.status before));
     }
 
-pub returns-in-Ok-clause-after_read : goal.returns-in-Ok-clause-after_read
-returns-in-Ok-clause-after_read g c =
-    subst (λ (s : Status). IsCommandEnd s) (sym c.close.ensures.status)
+pub returns-in-Ok-clause-end : goal.returns-in-Ok-clause-end
+returns-in-Ok-clause-end g c =
+    subst (λ (s : Status). IsDriveEnd s) (sym c.close.ensures.status)
     (after_open_ends c.run_events-status.result c.run_events-status.ensures.after_open)
 
 pub returns-in-Ok-clause-touched : goal.returns-in-Ok-clause-touched
@@ -137,9 +137,9 @@ pub returns-in-Err-clause-touched : goal.returns-in-Err-clause-touched
 returns-in-Err-clause-touched g c before =
     unopened_untouched c.in-Err.fault (subst IsBeforeWrite (c.at_once.ensures.status ∙ c.status_by.ensures) before)
 
-pub returns-in-Err-clause-after_read : goal.returns-in-Err-clause-after_read
-returns-in-Err-clause-after_read g c =
-    subst IsCommandEnd (sym (c.at_once.ensures.status ∙ c.status_by.ensures)) (unopened_ends c.in-Err.fault)
+pub returns-in-Err-clause-end : goal.returns-in-Err-clause-end
+returns-in-Err-clause-end g c =
+    subst IsDriveEnd (sym (c.at_once.ensures.status ∙ c.status_by.ensures)) (unopened_ends c.in-Err.fault)
 
 pub returns-in-Err-clause-write_fault : goal.returns-in-Err-clause-write_fault
 returns-in-Err-clause-write_fault g c is =

@@ -6,10 +6,10 @@ use Rattle.rehearsal.specs.Roster.{made_roster}
 use Rattle.ebl_run.specs.Drive.{racks_needed, serve}
 use Rattle.ebl_run.specs.Racks.{IsUnfit, keys_of, lengths_of, written_among}
 use Rattle.ebl_run.specs.Rehearse.{WritesRehearsal}
-use Rattle.ebl_run.specs.Status.{EndsAs, IsCausedBy}
+use Rattle.ebl_run.specs.Status.{EndsAs, IsCausedBy, IsRehearsalEnd}
 use Rattle.ebl_run.specs.declared.status.Status.{Status}
 use Rattle.ebl_run.proofs.DriveLemmas.{handed_at_once, handed_behind, memory_is_no_open, refused_cause, refused_handed, they_serve}
-use Rattle.ebl_run.proofs.RehearseLemmas.{refused_plainly, rehearsal_stops, unfit_writes}
+use Rattle.ebl_run.proofs.RehearseLemmas.{refused_plainly, rehearsal_stops, unfit_rehearsal_ends, unfit_writes}
 use Rattle.ebl_run.proofs.Worlds.{keys_measured, lengths_measured, told_measured}
 use Rattle.ebl_run.proofs.rehearse.rehearse.Goals as goal
 
@@ -86,3 +86,7 @@ returns-in-Err-clause-racks g c =
     c.args.racks.items c.measure.new.racks.items c.in-Err.unfit None _ c.at_once-in-Err.result
     c.measure.ensures.measured further why (refused_plainly c.in-Err.unfit)
     (c.at_once-in-Err.ensures.status ∙ c.status_of.ensures) c.at_once-in-Err.ensures.racks c.at_once-in-Err.ensures.fates
+
+pub returns-in-Err-clause-end : goal.returns-in-Err-clause-end
+returns-in-Err-clause-end g c =
+    subst IsRehearsalEnd (sym (c.at_once-in-Err.ensures.status ∙ c.status_of.ensures)) (unfit_rehearsal_ends c.in-Err.unfit)

@@ -9,11 +9,11 @@ use Rattle.rehearsal.specs.Summary.{SumsUp}
 use Rattle.ebl_run.specs.Drive.{racks_needed}
 use Rattle.ebl_run.specs.Racks.{AreBack, keys_of, lengths_of}
 use Rattle.ebl_run.specs.Rehearse.{WritesRehearsal}
-use Rattle.ebl_run.specs.Status.{EndsAs, IsAfterOpen, IsBeforeRun, IsBeforeWrite, IsCausedBy, IsCommandEnd}
+use Rattle.ebl_run.specs.Status.{EndsAs, IsAfterOpen, IsBeforeRun, IsBeforeWrite, IsCausedBy, IsRehearsalEnd}
 use Rattle.ebl_run.specs.declared.status.Status.{Status}
-use Rattle.ebl_run.proofs.DriveLemmas.{after_open_ends, after_open_touched, after_open_written, serve_blank, serve_enough, unopened_at, unopened_caused, unopened_ends, unopened_put, unopened_untouched}
+use Rattle.ebl_run.proofs.DriveLemmas.{after_open_touched, after_open_written, serve_blank, serve_enough, unopened_at, unopened_caused, unopened_put, unopened_untouched}
 use Rattle.ebl_run.proofs.Measuring.{blank_racks}
-use Rattle.ebl_run.proofs.RehearseLemmas.{caused_plainly, on_err, rehearsed, rehearsed_ends, rehearsed_good, unopened_writes}
+use Rattle.ebl_run.proofs.RehearseLemmas.{caused_plainly, on_err, rehearsal_ends, rehearsed, rehearsed_ends, rehearsed_good, unopened_rehearsal_ends, unopened_writes}
 use Rattle.ebl_run.proofs.Worlds.{back_from_opening, back_from_shards, further_from_shards}
 use Rattle.ebl_run.proofs.rehearse.rehearse_on.Goals as goal
 
@@ -99,13 +99,15 @@ returns-in-Ok-clause-touched g c before =
     (g.K.Sink.written c.put_if_any-status.new.sink) c.put_if_any-status.ensures.ok short)
     (subst IsBeforeWrite c.close.ensures.status before)
 
-pub returns-in-Ok-clause-after_read : goal.returns-in-Ok-clause-after_read
-returns-in-Ok-clause-after_read g c =
+pub returns-in-Ok-clause-end : goal.returns-in-Ok-clause-end
+returns-in-Ok-clause-end g c =
+    let old = g.K.Sink.written c.args.sink.now in
+    let new = g.K.Sink.written c.put_if_any-status.new.sink in
     let short = on_err c.rehearse-world.result.1 (λ it. (it.0, ap g.K.Sink.written it.1)) c.put_if_any-status.ensures.short in
-    subst IsCommandEnd (sym c.close.ensures.status)
-    (after_open_ends c.put_if_any-status.result
-    (rehearsed_ends c.rehearse-world.result.1 c.put_if_any-status.result (g.K.Sink.written c.args.sink.now)
-    (g.K.Sink.written c.put_if_any-status.new.sink) c.put_if_any-status.ensures.ok short))
+    subst IsRehearsalEnd (sym c.close.ensures.status)
+    (rehearsal_ends c.put_if_any-status.result
+    (rehearsed_ends c.rehearse-world.result.1 c.put_if_any-status.result old new c.put_if_any-status.ensures.ok short)
+    (rehearsed_good c.rehearse-world.result.1 c.put_if_any-status.result old new c.put_if_any-status.ensures.ok short))
 
 pub returns-in-Err-clause-ends : goal.returns-in-Err-clause-ends
 returns-in-Err-clause-ends g c =
@@ -145,9 +147,9 @@ pub returns-in-Err-clause-touched : goal.returns-in-Err-clause-touched
 returns-in-Err-clause-touched g c before =
     unopened_untouched c.in-Err.fault (subst IsBeforeWrite (c.at_once.ensures.status ∙ c.status_by.ensures) before)
 
-pub returns-in-Err-clause-after_read : goal.returns-in-Err-clause-after_read
-returns-in-Err-clause-after_read g c =
-    subst IsCommandEnd (sym (c.at_once.ensures.status ∙ c.status_by.ensures)) (unopened_ends c.in-Err.fault)
+pub returns-in-Err-clause-end : goal.returns-in-Err-clause-end
+returns-in-Err-clause-end g c =
+    subst IsRehearsalEnd (sym (c.at_once.ensures.status ∙ c.status_by.ensures)) (unopened_rehearsal_ends c.in-Err.fault)
 
 pub returns-in-Err-clause-write_fault : goal.returns-in-Err-clause-write_fault
 returns-in-Err-clause-write_fault g c is =

@@ -2,10 +2,10 @@ use Rattle.std.proofs.Common.{◌∙◌, Some, sym, subst}
 use Rattle.ebl_run.specs.Needed.{racks_wanted}
 use Rattle.ebl_run.specs.Racks.{keys_of, lengths_of}
 use Rattle.ebl_run.specs.declared.command.Command.{Command}
-use Rattle.ebl_run.specs.Status.{EndsAs, IsBeforeWrite, IsCanonEnd, IsCommandEnd, Outputs}
+use Rattle.ebl_run.specs.Status.{EndsAs, IsBeforeWrite, IsCanonEnd, IsEndOf, Outputs}
 use Rattle.ebl_run.specs.declared.status.Status.{Status}
 use Rattle.ebl_run.specs.Canon.{Canonizes}
-use Rattle.ebl_run.proofs.CanonLemmas.{EndsAs-canon, canon_ends, canon_writes}
+use Rattle.ebl_run.proofs.CanonLemmas.{EndsAs-canon, canon_writes}
 use Rattle.ebl_run.proofs.DriveLemmas.{handed_at_once}
 use Rattle.ebl_run.proofs.run.run_command.Goals as goal
 
@@ -29,6 +29,7 @@ pub returns-in-Canon-clause-unwritten : goal.returns-in-Canon-clause-unwritten
 returns-in-Canon-clause-unwritten g c before =
     absurd (canon_writes c.canon.result c.canon.ensures.end (subst IsBeforeWrite c.at_once.ensures.status before))
 
-pub returns-in-Canon-clause-after_read : goal.returns-in-Canon-clause-after_read
-returns-in-Canon-clause-after_read g c =
-    subst IsCommandEnd (sym c.at_once.ensures.status) (canon_ends c.canon.result c.canon.ensures.end)
+pub returns-in-Canon-clause-end : goal.returns-in-Canon-clause-end
+returns-in-Canon-clause-end g c =
+    subst (λ (command : Command). IsEndOf command c.at_once.result.status) (sym c.in-Canon.is)
+    (subst IsCanonEnd (sym c.at_once.ensures.status) c.canon.ensures.end)

@@ -1,5 +1,5 @@
-use Rattle.std.proofs.Common.{◌≡◌, ◌∙◌, List, ℕ, None, drop, length, sym, ap, subst, true}
-use Rattle.std.specs.Prelude.{IfSome}
+use Rattle.std.proofs.Common.{◌≡◌, ◌∙◌, inl, List, ℕ, None, Some, drop, length, sym, ap, subst, true}
+use Rattle.std.specs.Prelude.{IfSome, Option}
 use Rattle.ebl_base.specs.Segments.{segments_of}
 use Rattle.platform_world.specs.Run as runs
 use Rattle.platform_world.specs.Run.{RunsScript}
@@ -8,10 +8,11 @@ use Rattle.ebl_run.specs.Command.{command_of}
 use Rattle.ebl_run.specs.Drive.{first_bad_line, racks_for, racks_needed, serve}
 use Rattle.ebl_run.specs.Racks.{AreBack, keys_of, lengths_of, written_among}
 use Rattle.ebl_run.specs.Safe.{RanSafely}
-use Rattle.ebl_run.specs.Status.{EndsAs, IsCausedBy, Outputs, status_for}
+use Rattle.ebl_run.specs.Status.{EndsAs, IsCausedBy, IsEndOf, MayEnd, Outputs, status_for}
+use Rattle.ebl_run.specs.declared.command.Command.{Command}
 use Rattle.ebl_run.specs.declared.status.Status.{Status}
 use Rattle.ebl_run.proofs.DriveLemmas.{ran_at_once, stops_at_once}
-use Rattle.ebl_run.proofs.ReadLemmas.{further_by, further_same, if_told, of_script, unread_caused, unread_no_open, unread_ran, unread_wrote}
+use Rattle.ebl_run.proofs.ReadLemmas.{ends_too_long, ends_unread, ends_used, further_by, further_same, if_told, of_script, reads_nothing, unread_caused, unread_ends, unread_no_open, unread_ran, unread_wrote}
 use Rattle.ebl_run.proofs.SafeLemmas.{ran_safely}
 use Rattle.ebl_run.proofs.Worlds.{same_back}
 use Rattle.ebl_run.proofs.run.run_ebl.Goals as goal
@@ -32,6 +33,39 @@ returns-in-Ok-clause-further g c =
     further_by (λ (n : ℕ). drop n c.run_command.result.racks ≡ drop n c.args.racks.items)
     _ c.in-Some.command (g.S.Source.left c.args.source.now) c.in-Ok.text.items c.in-Some.ensures.command c.in-Ok.ensures.ok
     (rw c.as_slice.ensures.value at c.run_command.ensures.racks).further
+
+pub returns-in-Ok-clause-usage : goal.returns-in-Ok-clause-usage
+returns-in-Ok-clause-usage g c = (
+  λ is. absurd (ends_used c.in-Some.command (subst (IsEndOf c.in-Some.command) is c.run_command.ensures.end)),
+  λ none. let no : Some c.in-Some.command ≡ None = c.in-Some.ensures.command ∙ none in cc no,
+)
+
+pub returns-in-Ok-clause-read_fault : goal.returns-in-Ok-clause-read_fault
+returns-in-Ok-clause-read_fault g c is =
+    absurd (ends_unread c.in-Some.command (subst (IsEndOf c.in-Some.command) is c.run_command.ensures.end))
+
+pub returns-in-Ok-clause-too_long : goal.returns-in-Ok-clause-too_long
+returns-in-Ok-clause-too_long g c is =
+    absurd (ends_too_long c.in-Some.command (subst (IsEndOf c.in-Some.command) is c.run_command.ensures.end))
+
+pub returns-in-Ok-clause-end : goal.returns-in-Ok-clause-end
+returns-in-Ok-clause-end g c =
+    subst (λ (n : Option Command). MayEnd n c.run_command.result.status) c.in-Some.ensures.command
+    (inl c.run_command.ensures.end)
+
+pub returns-in-Ok-clause-unread : goal.returns-in-Ok-clause-unread
+returns-in-Ok-clause-unread g c other =
+    c.text_for.ensures.unread (reads_nothing c.in-Some.command _ c.in-Some.ensures.command other)
+
+pub returns-in-Err-clause-end : goal.returns-in-Err-clause-end
+returns-in-Err-clause-end g c =
+    subst (λ (s : Status). MayEnd (command_of c.args.words.now.items) s)
+    (sym (c.at_once-in-Err.ensures.status ∙ c.status_for.ensures))
+    (unread_ends c.in-Err.fault _ c.in-Some.command c.in-Some.ensures.command c.in-Err.ensures.read)
+
+pub returns-in-Err-clause-unread : goal.returns-in-Err-clause-unread
+returns-in-Err-clause-unread g c other =
+    c.text_for.ensures.unread (reads_nothing c.in-Some.command _ c.in-Some.ensures.command other)
 
 pub returns-in-Err-clause-ends : goal.returns-in-Err-clause-ends
 returns-in-Err-clause-ends g c =
