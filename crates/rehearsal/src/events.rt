@@ -1,5 +1,5 @@
-//! The events that the generator makes, one by one. Each costs the draws for it; for a party that acts, the line of one
-//! bill is looked up, and none is written.
+//! The events that the generator makes, one by one. Each costs the draws for it; for a party that acts, the diaries of
+//! one bill's shards are gone over, and no line is written.
 ghost use Rattle.std.specs.Prelude.{◌≡◌, ◌≤◌, ◌<◌, [], ◌++◌, codes, find, length, IfOk, OnOk};
 ghost use Rattle.std.specs.Fmt.{decimal};
 ghost use Rattle.ebl_base.specs.Party.{party_eq};
@@ -130,7 +130,8 @@ fn platform_at(roster: &Roster, i: u64) -> PlatformCode
 /// The next event, where the rehearsal has so many bills: four times of ten a party acts on a bill, four times one of
 /// the last eight messages is delivered, once a bill is sent again, and once a platform starts again.
 ///
-/// It costs a few draws and, for a party that acts, a look at one bill's records on the three platforms.
+/// It costs a few draws and, for a party that acts, a walk over the whole diaries of one bill's shards on the three
+/// platforms.
 pub fn next_event<M: Machine>(
     alloc: Global,
     world: &World<M>,

@@ -54,7 +54,7 @@ const WORDS: [&str; 30] = [
 
 /// The line of a rehearsal of so many bills that ended in this world, with the words of its answers.
 ///
-/// It looks at each bill's records once, and goes over the answers once for each word.
+/// It goes over the whole diaries of each bill's shards, and over the answers once for each word.
 pub(crate) fn summary_line<M: Machine>(
     alloc: Global,
     bills: u64,
