@@ -126,8 +126,9 @@ impl<D: Disk, G: KeyRing> JournaledShard<D, G> {
     /// before reply and messages are handed out. Where an earlier call failed, the journal is read again first, and the
     /// frame that it left loose is kept or dropped.
     ///
-    /// A command is well-formed, and so is its party; of a bill on which it acts fewer than 4,294,967,295 entries were
-    /// parted ([`JournaledShard::has_attempts`]). Every other request may hold any bytes.
+    /// A command is well-formed, and so are its party and the moment; the document that it signs nests at most 126 deep
+    /// (`canonical_json::nests_within`); of a bill on which it acts fewer than 4,294,967,295 entries were parted
+    /// ([`JournaledShard::has_attempts`]). Every other request may hold any bytes.
     ///
     /// `Full` comes where the step's frame has no room behind the diary; it never answers what would settle a bill that
     /// is parting, since a settlement always has room. `Sign` and `Disk` come only where the count of

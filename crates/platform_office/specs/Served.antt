@@ -16,8 +16,8 @@ use Rattle.journaled_shard.specs.Shard.{HasNoRoom, IsStepOn}
 use Rattle.platform_office.specs.declared.post.Post.{Post}
 use Rattle.platform_office.specs.Post.{IsOfShard}
 
--- what an office may be asked at a moment: a command has its form, and so has its party; every other request may be any
--- bytes
+-- what an office may be asked at a moment: a command has its form, and so have its party and the moment, and the
+-- document that it signs nests at most 126 deep; every other request may be any bytes
 abbrev pub MayBeServed : Moment → RequestRecord → Type 0
 MayBeServed now (commands party command) = IsHandedIn party command now
 MayBeServed now (starts body) = Unit {0}
