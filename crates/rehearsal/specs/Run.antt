@@ -1,5 +1,5 @@
 -- A rehearsal: what happened, event by event. It may stop before every event, where memory fails.
-use Rattle.std.specs.Prelude.{◌≡◌, ◌≢◌, ◌⊎◌, ℕ, List, [], ◌∷◌}
+use Rattle.std.specs.Prelude.{◌≡◌, ◌≢◌, ◌⊎◌, ℕ, List, [], ◌∷◌, map}
 use Rattle.answer_lines.specs.declared.answer.Answer.{Answer}
 use Rattle.platform_world.specs.declared.fate.Fate.{Fate}
 use Rattle.platform_world.specs.declared.fate.FateEnd.TheVariants.{Short}
@@ -20,6 +20,10 @@ pub record Rehearsal : Type 0 where
   pub happened : List Happened
   pub last : WorldRecord
   pub end : RehearsalEnd
+
+-- the fates of what happened, in their order
+abbrev pub fates_of : List Happened → List Fate
+fates_of happened = map (λ h. h.fate) happened
 
 -- no event more
 abbrev pub ends_in : RehearsalEnd → WorldRecord → Rehearsal

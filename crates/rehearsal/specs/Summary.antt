@@ -7,10 +7,13 @@ use Rattle.canonical_json.specs.View.{Entry, members_of}
 use Rattle.json_forms.specs.Writing.{capped_value}
 use Rattle.answer_lines.specs.Lines.{members_line}
 use Rattle.answer_lines.specs.Words.{answer_text}
-use Rattle.platform_world.specs.Run.{Happened}
+use Rattle.platform_world.specs.Machine.{Counts, MachineRecord}
+use Rattle.platform_world.specs.Platforms.{EachRose}
+use Rattle.platform_world.specs.Run.{Happened, disk_answers, sign_answers}
 use Rattle.platform_world.specs.Standing.{standing_in}
+use Rattle.platform_world.specs.State.{WorldState, world_of}
 use Rattle.platform_world.specs.World.{WorldRecord}
-use Rattle.rehearsal.specs.Run.{Rehearsal, Rehearses, complete}
+use Rattle.rehearsal.specs.Run.{Rehearsal, Rehearses, complete, fates_of}
 
 -- the sum of the entries over the bill lines
 abbrev pub entries_in : WorldRecord → ℕ
@@ -64,9 +67,15 @@ summary_members bills w answers =
 abbrev pub summary_line : ℕ → Rehearsal → List ℕ
 summary_line bills run = members_line (summary_members bills run.last (answers_of run.happened))
 
--- the line sums up a whole rehearsal from this seed, with so many bills and steps, that began in this world
-pub record SumsUp (seed bills steps : ℕ) (w : WorldRecord) (line : List ℕ) : Type 0 where
+-- the line sums up a whole rehearsal from this seed, with so many bills and steps, from one world to another, which
+-- kept the fates of what happened; and no disk and no ring failed less often than it tells
+pub record SumsUp {M R : Type 0} (seen : M → MachineRecord) (faults : Counts M) (seed bills steps : ℕ)
+    (before : WorldState M R) (line : List ℕ) (after : WorldState M R) : Type 0 where
   pub run : Rehearsal
-  pub goes : Rehearses seed bills steps w run
+  pub goes : Rehearses seed bills steps (world_of seen before) run
   pub whole : run.end ≡ complete
   pub line_is : line ≡ summary_line bills run
+  pub last_is : run.last ≡ world_of seen after
+  pub fates_are : after.fates ≡ before.fates ++ fates_of run.happened
+  pub disks : EachRose faults.disk (λ k. disk_answers k run.happened) before.platforms.shards after.platforms.shards
+  pub rings : EachRose faults.ring (λ k. sign_answers k run.happened) before.platforms.shards after.platforms.shards

@@ -41,7 +41,7 @@ pub fn rehearse<M: Machine>(
     requires some { 0 < bills }
     requires bills { bills ≤ MOST_BILLS }
     requires steps { steps ≤ MOST_STEPS }
-    ensures line { IfOk result.1 (λ line. SumsUp seed bills steps (world_of M.seen world) line) }
+    ensures line { IfOk result.1 (λ line. SumsUp M.seen M.faults seed bills steps world line result.0) }
     ensures roster { result.0.platforms.roster ≡ world.platforms.roster }
     ensures spare { result.0.platforms.spare ≡ world.platforms.spare }
     ensures disks { EachRose M.faults.disk (λ k. 0) world.platforms.shards result.0.platforms.shards }
@@ -82,8 +82,8 @@ impl<M: Machine> Rehearsal<M> {
         requires some { 0 < bills }
         requires bills { bills ≤ MOST_BILLS }
         requires steps { steps ≤ MOST_STEPS }
-        ensures line { IfOk result (λ line. SumsUp self.old.draws.state bills steps (world_of M.seen self.old.world)
-            line) }
+        ensures line { IfOk result (λ line. SumsUp M.seen M.faults self.old.draws.state bills steps self.old.world
+            line self.new.world) }
         ensures roster { self.new.world.platforms.roster ≡ made_roster }
         ensures spare { self.new.world.platforms.spare ≡ self.old.world.platforms.spare }
         ensures disks { EachRose M.faults.disk (λ k. 0) self.old.world.platforms.shards
@@ -101,11 +101,9 @@ impl<M: Machine> Rehearsal<M> {
         requires roster { self.old.world.platforms.roster ≡ made_roster }
         requires fresh { self.old.world.fates ≡ [] }
         requires bills { bills ≤ MOST_BILLS }
-        ensures takes { OnOk result (TakesAll bills (flat_map begin_bill (range_with_len 1 bills))
-            (progress (world_of M.seen self.old.world) self.old.draws.state
-            (map (λ a. a.now) self.old.answers.items))
-            (progress (world_of M.seen self.new.world) self.new.draws.state
-            (map (λ a. a.now) self.new.answers.items))) }
+        ensures takes { OnOk result (TakesAll M.seen M.faults bills (flat_map begin_bill (range_with_len 1 bills))
+            (progress self.old.world self.old.draws.state (map (λ a. a.now) self.old.answers.items))
+            (progress self.new.world self.new.draws.state (map (λ a. a.now) self.new.answers.items))) }
         ensures events { OnOk result (length self.new.world.fates ≡ 2 * bills) }
         ensures roster { self.new.world.platforms.roster ≡ made_roster }
         ensures spare { self.new.world.platforms.spare ≡ self.old.world.platforms.spare }
@@ -126,11 +124,9 @@ impl<M: Machine> Rehearsal<M> {
         requires few { length self.old.world.fates < 4294967294 }
         requires first { 1 ≤ number }
         requires last { number ≤ MOST_BILLS }
-        ensures takes { OnOk result ((bills : ℕ) → TakesAll bills (begin_bill number)
-            (progress (world_of M.seen self.old.world) self.old.draws.state
-            (map (λ a. a.now) self.old.answers.items))
-            (progress (world_of M.seen self.new.world) self.new.draws.state
-            (map (λ a. a.now) self.new.answers.items))) }
+        ensures takes { OnOk result ((bills : ℕ) → TakesAll M.seen M.faults bills (begin_bill number)
+            (progress self.old.world self.old.draws.state (map (λ a. a.now) self.old.answers.items))
+            (progress self.new.world self.new.draws.state (map (λ a. a.now) self.new.answers.items))) }
         ensures events { OnOk result (length self.new.world.fates ≡ length self.old.world.fates + 2) }
         ensures roster { self.new.world.platforms.roster ≡ made_roster }
         ensures spare { self.new.world.platforms.spare ≡ self.old.world.platforms.spare }
@@ -151,11 +147,9 @@ impl<M: Machine> Rehearsal<M> {
         requires some { 0 < bills }
         requires bills { bills ≤ MOST_BILLS }
         requires steps { length self.old.world.fates + steps < 4294967295 }
-        ensures takes { OnOk result (TakesAll bills (replicate steps happen)
-            (progress (world_of M.seen self.old.world) self.old.draws.state
-            (map (λ a. a.now) self.old.answers.items))
-            (progress (world_of M.seen self.new.world) self.new.draws.state
-            (map (λ a. a.now) self.new.answers.items))) }
+        ensures takes { OnOk result (TakesAll M.seen M.faults bills (replicate steps happen)
+            (progress self.old.world self.old.draws.state (map (λ a. a.now) self.old.answers.items))
+            (progress self.new.world self.new.draws.state (map (λ a. a.now) self.new.answers.items))) }
         ensures roster { self.new.world.platforms.roster ≡ made_roster }
         ensures spare { self.new.world.platforms.spare ≡ self.old.world.platforms.spare }
         ensures disks { EachRose M.faults.disk (λ k. 0) self.old.world.platforms.shards
@@ -175,12 +169,10 @@ impl<M: Machine> Rehearsal<M> {
         requires some { 0 < bills }
         requires bills { bills ≤ MOST_BILLS }
         requires few { length self.old.world.fates < 4294967295 }
-        ensures takes { OnOk result (Takes
-            (progress (world_of M.seen self.old.world) self.old.draws.state
-            (map (λ a. a.now) self.old.answers.items))
+        ensures takes { OnOk result (Takes M.seen M.faults
+            (progress self.old.world self.old.draws.state (map (λ a. a.now) self.old.answers.items))
             (happening bills (world_of M.seen self.old.world) self.old.draws.state)
-            (progress (world_of M.seen self.new.world) self.new.draws.state
-            (map (λ a. a.now) self.new.answers.items))) }
+            (progress self.new.world self.new.draws.state (map (λ a. a.now) self.new.answers.items))) }
         ensures events { OnOk result (length self.new.world.fates ≡ length self.old.world.fates + 1) }
         ensures roster { self.new.world.platforms.roster ≡ made_roster }
         ensures spare { self.new.world.platforms.spare ≡ self.old.world.platforms.spare }
@@ -197,12 +189,10 @@ impl<M: Machine> Rehearsal<M> {
     fn take(&mut self, alloc: Global, event: Event) -> Result<(), NoMemory>
         requires may { MayCome self.old.world.platforms.roster (event_view event) }
         requires few { length self.old.world.fates < 4294967295 }
-        ensures takes { OnOk result (Takes
-            (progress (world_of M.seen self.old.world) self.old.draws.state
-            (map (λ a. a.now) self.old.answers.items))
+        ensures takes { OnOk result (Takes M.seen M.faults
+            (progress self.old.world self.old.draws.state (map (λ a. a.now) self.old.answers.items))
             (made (event_view event) self.old.draws.state)
-            (progress (world_of M.seen self.new.world) self.new.draws.state
-            (map (λ a. a.now) self.new.answers.items))) }
+            (progress self.new.world self.new.draws.state (map (λ a. a.now) self.new.answers.items))) }
         ensures events { OnOk result (length self.new.world.fates ≡ length self.old.world.fates + 1) }
         ensures roster { self.new.world.platforms.roster ≡ self.old.world.platforms.roster }
         ensures spare { self.new.world.platforms.spare ≡ self.old.world.platforms.spare }

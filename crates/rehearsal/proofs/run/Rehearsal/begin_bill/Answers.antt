@@ -25,7 +25,7 @@ take-requires-2-clause-may g c =
 pub returns-clause-takes : goal.returns-clause-takes
 returns-clause-takes g c =
     on_ok c.take-2.result
-    (began c.args.number _ _ _ _ _ _ _ _ _ _ c.in_ok-signing.ensures c.issue-issuing.ensures
+    (began g.M.Machine.seen g.M.Machine.faults c.args.number _ _ _ _ _ _ _ _ _ _ c.in_ok-signing.ensures c.issue-issuing.ensures
     c.in_ok-take.ensures.takes)
     c.take-2.ensures.takes
 

@@ -2,7 +2,6 @@
 use Rattle.std.proofs.Common.{◌≡◌, ◌*◌, length, map}
 use Rattle.std.specs.List.{flat_map, range_with_len}
 use Rattle.platform_world.specs.Platforms.{EachRose}
-use Rattle.platform_world.specs.State.{world_of}
 use Rattle.rehearsal.specs.Events.{begin_bill}
 use Rattle.rehearsal.specs.Progress.{TakesAll, progress}
 use Rattle.rehearsal.specs.Roster.{made_roster}
@@ -10,10 +9,9 @@ use Rattle.rehearsal.proofs.run.Rehearsal.begin_bills.Given as goal
 
 abbrev pub invariant-loop-i : goal.invariant-loop-i
 invariant-loop-i g l = record {
-  takes : TakesAll l.bills (flat_map begin_bill (range_with_len 1 l.i))
-      (progress (world_of g.M.Machine.seen l.initial.self.world) l.initial.self.draws.state
-      (map (λ a. a.now) l.initial.self.answers.items))
-      (progress (world_of g.M.Machine.seen l.self.world) l.self.draws.state (map (λ a. a.now) l.self.answers.items));
+  takes : TakesAll g.M.Machine.seen g.M.Machine.faults l.bills (flat_map begin_bill (range_with_len 1 l.i))
+      (progress l.initial.self.world l.initial.self.draws.state (map (λ a. a.now) l.initial.self.answers.items))
+      (progress l.self.world l.self.draws.state (map (λ a. a.now) l.self.answers.items));
   events : length l.self.world.fates ≡ 2 * l.i;
   roster : l.self.world.platforms.roster ≡ made_roster;
   spare : l.self.world.platforms.spare ≡ l.initial.self.world.platforms.spare;

@@ -5,7 +5,7 @@ use Rattle.rehearsal.proofs.run.Rehearsal.go_on.Goals as goal
 
 pub loop-step-preserved : goal.loop-step-preserved
 loop-step-preserved g c = record {
-  takes = one_step_more c.args.bills c.loop-step.step _ _ _ c.loop-step.invariant.takes c.in_ok-happen.ensures.takes;
+  takes = one_step_more g.M.Machine.seen g.M.Machine.faults c.args.bills c.loop-step.step _ _ _ c.loop-step.invariant.takes c.in_ok-happen.ensures.takes;
   events = omega (arith, c.in_ok-happen.ensures.events, c.loop-step.invariant.events);
   roster = c.happen.ensures.roster;
   spare = c.happen.ensures.spare ∙ c.loop-step.invariant.spare;

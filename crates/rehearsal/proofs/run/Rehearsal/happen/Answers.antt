@@ -19,7 +19,7 @@ take-requires-clause-may g c =
 
 pub returns-clause-takes : goal.returns-clause-takes
 returns-clause-takes g c =
-    on_ok c.take.result (happened c.args.bills _ _ _ _ _ _ c.in_ok-event.ensures.made) c.take.ensures.takes
+    on_ok c.take.result (happened g.M.Machine.seen g.M.Machine.faults c.args.bills _ _ _ _ _ _ c.in_ok-event.ensures.made) c.take.ensures.takes
 
 pub returns-in_err-event-clause-disks : goal.returns-in_err-event-clause-disks
 returns-in_err-event-clause-disks g c = none_rose g.M.Machine.faults.disk c.args.self.now.world.platforms.shards

@@ -1,4 +1,4 @@
-use Rattle.std.proofs.Common.{◌≡◌, ℕ, List, Bor, ap, map, refl, subst}
+use Rattle.std.proofs.Common.{◌≡◌, ℕ, List, Bor, ap, map, subst}
 use Rattle.std.specs.Prelude.{IfOk}
 use Rattle.answer_lines.specs.Lines.{members_line}
 use Rattle.platform_world.specs.State.{world_of}
@@ -9,9 +9,9 @@ use Rattle.rehearsal.proofs.run.Rehearsal.sum_up.Goals as goal
 
 pub returns-clause-line : goal.returns-clause-line
 returns-clause-line g c =
-    summed_up_if c.args.self.now.draws.state c.args.bills c.args.steps (world_of g.M.Machine.seen c.args.self.now.world) _ _ _
-    c.summary_line.result
-    (same_progress _ _ _ _ _ _ refl refl (ap (map (λ a. a.now)) c.requires.answers))
+    summed_up_if g.M.Machine.seen g.M.Machine.faults c.args.self.now.draws.state c.args.bills c.args.steps
+    c.args.self.now.world _ _ _ c.summary_line.result
+    (same_progress _ _ _ _ (ap (map (λ a. a.now)) c.requires.answers))
     c.in_ok-begin_bills.ensures.takes c.in_ok-go_on.ensures.takes
     (subst (λ (xs : List (Bor (List ℕ))). IfOk c.summary_line.result (λ line. line
     ≡ members_line (summary_members c.args.bills (world_of g.M.Machine.seen c.go_on.new.self.world) (map (λ a. a.now) xs))))
