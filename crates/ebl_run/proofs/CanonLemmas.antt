@@ -64,7 +64,7 @@ command_stops Drive rings lengths text now =
     drives false = (refl, inl refl)
 command_stops Canon rings lengths text now =
     (record { text = []; end = stopped }, (inl refl, refl), refl, Appends-nil now)
-command_stops (Rehearse seed bills steps) rings lengths text now = rehearsal_stops seed bills steps rings now
+command_stops (Rehearse seed bills steps) rings lengths text now = rehearsal_stops seed bills steps rings [] now
 
 -- ---- the ends of `canon`
 

@@ -6,7 +6,7 @@ use Rattle.signed_envelope.specs.KeyRing.{Keys}
 use Rattle.platform_world.specs.declared.fate.Fate.{Fate}
 use Rattle.ebl_run.specs.declared.command.Command.{Command}
 use Rattle.ebl_run.specs.declared.command.Command.TheVariants.{Drive, Canon, Rehearse}
-use Rattle.ebl_run.specs.declared.status.Status.TheVariants.{Usage, ReadFault, TooLong, OpenFault, NoMemory}
+use Rattle.ebl_run.specs.declared.status.Status.TheVariants.{Usage, ReadFault, TooLong, OpenFault, WriteFault, NoMemory}
 use Rattle.ebl_run.specs.declared.reading.ReadError.{ReadError}
 use Rattle.ebl_run.specs.declared.reading.ReadError.TheVariants as errors
 use Rattle.ebl_run.specs.Drive.{output_of}
@@ -15,6 +15,7 @@ use Rattle.ebl_run.specs.Needed.{racks_wanted, racks_wanted_by}
 use Rattle.ebl_run.specs.Status.{EndsAs, IsCausedBy, IsEndOf, MayEnd, Outputs, status_for}
 use Rattle.ebl_run.proofs.CanonLemmas.{command_stops}
 use Rattle.ebl_run.proofs.DriveLemmas.{never_begun}
+use Rattle.ebl_run.proofs.RehearseLemmas.{nothing}
 
 -- of what the source has, where the command that the words name is `drive`
 pub of_script : (P : List ℕ → Type 0) (named : Option Command) (command : Command) (left : Option (List ℕ))
@@ -125,3 +126,14 @@ pub unread_ran : (fault : ReadError) (now : Option (List ℕ)) → EndsAs (statu
 unread_ran errors.ReadFault now = Appends-nil now
 unread_ran errors.TooLong now = Appends-nil now
 unread_ran errors.NoMemory now = (output_of never_begun, refl, refl, Appends-nil now)
+
+-- a rehearsal has written nothing
+pub unread_nothing : (fault : ReadError) (now : Option (List ℕ)) → EndsAs (status_for fault) (λ out. out ≡ nothing) now now
+unread_nothing errors.ReadFault now = Appends-nil now
+unread_nothing errors.TooLong now = Appends-nil now
+unread_nothing errors.NoMemory now = (nothing, refl, refl, Appends-nil now)
+
+pub unread_no_put : (fault : ReadError) → status_for fault ≡ WriteFault → ⊥
+unread_no_put errors.ReadFault is = let no : ReadFault ≡ WriteFault = is in cc no
+unread_no_put errors.TooLong is = let no : TooLong ≡ WriteFault = is in cc no
+unread_no_put errors.NoMemory is = let no : NoMemory ≡ WriteFault = is in cc no

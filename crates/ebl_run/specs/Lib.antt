@@ -8,3 +8,4 @@ pub mod Rehearse
 pub mod Status
 pub mod Events
 pub mod Safe
+pub mod Rehearsed

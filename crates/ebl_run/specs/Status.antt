@@ -37,7 +37,7 @@ Outputs None rings lengths fates text out = ⊥
 Outputs (Some Drive) rings lengths fates script out = Drives script rings lengths fates out
 Outputs (Some Canon) rings lengths fates text out = Canonizes text out × (fates ≡ [])
 Outputs (Some (Rehearse seed bills steps)) rings lengths fates text out =
-    WritesRehearsal seed bills steps rings out
+    WritesRehearsal seed bills steps rings fates out
 
 -- what was written where it ends so
 abbrev pub EndsAs : Status → (Output → Type 0) → Option (List ℕ) → Option (List ℕ) → Type 0

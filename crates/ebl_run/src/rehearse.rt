@@ -4,10 +4,10 @@ ghost use Rattle.ebl_base.specs.Faults.{Rose};
 ghost use Rattle.party_roster.specs.RosterForm.{IsRoster};
 ghost use Rattle.rehearsal.specs.Roster.{made_roster};
 ghost use Rattle.ebl_run.specs.Drive.{racks_needed, serve};
-ghost use Rattle.ebl_run.specs.Racks.{AllTell, keys_of, lengths_of, written_among};
-ghost use Rattle.ebl_run.specs.Rehearse.{WritesRehearsal};
+ghost use Rattle.ebl_run.specs.Racks.{AllTell, lengths_of, written_among};
+ghost use Rattle.ebl_run.specs.Rehearsed.{Rehearsed};
 ghost use Rattle.ebl_run.specs.Safe.{AreHandedBack};
-ghost use Rattle.ebl_run.specs.Status.{EndsAs, EndsAsLast, IsBeforeWrite, IsCausedBy, IsRehearsalEnd};
+ghost use Rattle.ebl_run.specs.Status.{EndsAsLast, IsBeforeWrite, IsCausedBy, IsRehearsalEnd};
 
 use crate::ended::Ended;
 use crate::opened::{close, status_by, status_of};
@@ -40,7 +40,7 @@ pub fn rehearse<K: Sink, D: Disk + Drop, G: KeyRing + Drop>(
     requires steps { steps ≤ MOST_STEPS }
     ensures cause { IsCausedBy result.status None (length racks.items) (racks_needed made_roster)
         (written_among (racks_needed made_roster) (lengths_of D.seen racks.items)) }
-    ensures ends { EndsAs result.status (WritesRehearsal seed bills steps (keys_of G.keys racks.items))
+    ensures rehearsed { Rehearsed D.seen D.may_leave D.faults G.keys G.faults seed bills steps racks.items result
         (K.written sink.old) (K.written sink.new) }
     ensures racks { AreHandedBack D.faults G.faults (racks_needed made_roster) racks.items result }
     ensures unwritten { IsBeforeWrite result.status → sink.new ≡ sink.old }
@@ -77,7 +77,7 @@ fn rehearse_on<K: Sink, D: Disk + Drop, G: KeyRing + Drop>(
     requires bills { bills ≤ MOST_BILLS }
     requires steps { steps ≤ MOST_STEPS }
     ensures cause { IsCausedBy result.status None (length racks.items) (racks_needed made_roster) None }
-    ensures ends { EndsAs result.status (WritesRehearsal seed bills steps (keys_of G.keys racks.items))
+    ensures rehearsed { Rehearsed D.seen D.may_leave D.faults G.keys G.faults seed bills steps racks.items result
         (K.written sink.old) (K.written sink.new) }
     ensures racks { AreHandedBack D.faults G.faults (racks_needed made_roster) racks.items result }
     ensures touched { IsBeforeWrite result.status → ⊥ }

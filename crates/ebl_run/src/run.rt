@@ -9,6 +9,7 @@ ghost use Rattle.ebl_run.specs.declared.reading.ReadError.TheVariants.{ReadFault
 ghost use Rattle.ebl_run.specs.Drive.{first_bad_line, racks_for, racks_needed, serve};
 ghost use Rattle.ebl_run.specs.Needed.{racks_wanted, racks_wanted_by};
 ghost use Rattle.ebl_run.specs.Racks.{AllTell, AreBack, keys_of, lengths_of, written_among};
+ghost use Rattle.ebl_run.specs.Rehearsed.{Rehearsed};
 ghost use Rattle.ebl_run.specs.Safe.{AreHandedBack, Ran, RanSafely};
 ghost use Rattle.ebl_run.specs.Status.{EndsAs, IsAfterRead, IsBeforeRun, IsBeforeWrite, IsCausedBy, IsEndOf, MayEnd, Outputs, status_for};
 ghost use Rattle.rehearsal.specs.Roster.{made_roster};
@@ -74,6 +75,14 @@ pub fn run_ebl<S: Source, K: Sink, D: Disk + Drop, G: KeyRing + Drop>(
     ensures ends { IfSome (S.left source.old) (λ script.
         EndsAs result.status (Outputs (command_of words.now.items) (keys_of G.keys racks.items)
         (lengths_of D.seen racks.items) result.fates script) (K.written sink.old) (K.written sink.new)) }
+
+    // The same of a rehearsal, whether the source tells or not: what was written is its line. Where the sink takes that
+    // or fails, the rehearsal is whole: its events have the fates that come back, the disks have its last diaries, and
+    // its events were answered DISK and SIGN no more often than disks and rings failed.
+    ensures rehearsed { (seed bills steps : ℕ)
+        → command_of words.now.items ≡ Some (Command.Rehearse seed bills steps)
+        → Rehearsed D.seen D.may_leave D.faults G.keys G.faults seed bills steps racks.items result
+        (K.written sink.old) (K.written sink.new) }
 
     // What was written of a script is the text of a run in which no two platforms ever let somebody act on one bill.
     // The disks have its last diaries, and its events were answered DISK and SIGN no more often than disks and rings
@@ -152,6 +161,9 @@ fn run_command<K: Sink, D: Disk + Drop, G: KeyRing + Drop>(
         (written_among (racks_needed made_roster) (lengths_of D.seen racks.items)) }
     ensures ends { EndsAs result.status (Outputs (Some command) (keys_of G.keys racks.items)
         (lengths_of D.seen racks.items) result.fates text.now) (K.written sink.old) (K.written sink.new) }
+    ensures rehearsed { (seed bills steps : ℕ) → command ≡ Command.Rehearse seed bills steps
+        → Rehearsed D.seen D.may_leave D.faults G.keys G.faults seed bills steps racks.items result
+        (K.written sink.old) (K.written sink.new) }
     ensures ran { command ≡ Command.Drive
         → serve (racks_for (segments_of 10 text.now)) (lengths_of D.seen racks.items) ≡ true
         → Ran D.seen D.may_leave D.faults G.keys G.faults

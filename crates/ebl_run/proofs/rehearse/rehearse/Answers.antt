@@ -1,24 +1,24 @@
-use Rattle.std.proofs.Common.{◌≡◌, ◌≤◌, ◌*◌, ◌∙◌, List, ℕ, None, drop, length, sym, ap, subst, arith}
+use Rattle.std.proofs.Common.{◌≡◌, ◌≤◌, ◌*◌, ◌∙◌, ℕ, None, drop, length, refl, sym, ap, subst, arith}
+use Rattle.std.proofs.KnownBytes.{Appends-nil}
 use Rattle.std.proofs.lemmas.List.{length-map}
-use Rattle.signed_envelope.specs.KeyRing.{Keys}
 use Rattle.party_roster.specs.RosterRecord.{RosterRecord}
 use Rattle.rehearsal.specs.Roster.{made_roster}
 use Rattle.ebl_run.specs.Drive.{racks_needed, serve}
-use Rattle.ebl_run.specs.Racks.{IsUnfit, keys_of, lengths_of, written_among}
-use Rattle.ebl_run.specs.Rehearse.{WritesRehearsal}
-use Rattle.ebl_run.specs.Status.{EndsAs, IsCausedBy, IsRehearsalEnd}
+use Rattle.ebl_run.specs.Racks.{IsUnfit, lengths_of, status_of, written_among}
+use Rattle.ebl_run.specs.Status.{IsCausedBy, IsRehearsalEnd}
 use Rattle.ebl_run.specs.declared.status.Status.{Status}
-use Rattle.ebl_run.proofs.DriveLemmas.{handed_at_once, handed_behind, memory_is_no_open, refused_cause, refused_handed, they_serve}
-use Rattle.ebl_run.proofs.RehearseLemmas.{refused_plainly, rehearsal_stops, unfit_rehearsal_ends, unfit_writes}
-use Rattle.ebl_run.proofs.Worlds.{keys_measured, lengths_measured, told_measured}
+use Rattle.ebl_run.specs.declared.status.Status.TheVariants.{NoMemory}
+use Rattle.ebl_run.proofs.DriveLemmas.{handed_at_once, handed_behind, memory_is_no_open, refused_cause, refused_handed, refused_put, they_serve}
+use Rattle.ebl_run.proofs.RehearseLemmas.{memory_is_no_put, nothing, refused_plainly, rehearsed_behind, rehearsed_nothing, unfit_nothing, unfit_rehearsal_ends}
+use Rattle.ebl_run.proofs.Worlds.{lengths_measured, told_measured}
 use Rattle.ebl_run.proofs.rehearse.rehearse.Goals as goal
 
-pub returns-in_default-clause-ends : goal.returns-in_default-clause-ends
-returns-in_default-clause-ends g c =
+pub returns-in_default-clause-rehearsed : goal.returns-in_default-clause-rehearsed
+returns-in_default-clause-rehearsed g c =
     let now = g.K.Sink.written c.args.sink.now in
-    let rings = keys_of g.G.KeyRing.keys c.args.racks.items in
-    subst (λ (s : Status). EndsAs s (WritesRehearsal c.args.seed c.args.bills c.args.steps rings) now now)
-    (sym c.at_once.ensures.status) (rehearsal_stops c.args.seed c.args.bills c.args.steps rings now)
+    rehearsed_nothing g.D.Disk.seen g.D.Disk.may_leave g.D.Disk.faults g.G.KeyRing.keys g.G.KeyRing.faults
+    c.args.seed c.args.bills c.args.steps c.args.racks.items c.at_once.result NoMemory now now c.at_once.ensures.status
+    (nothing, refl, refl, Appends-nil now) memory_is_no_put
 
 pub returns-in_default-clause-racks : goal.returns-in_default-clause-racks
 returns-in_default-clause-racks g c =
@@ -41,12 +41,12 @@ rehearse_on-requires-clause-serve g c =
     ap (serve (racks_needed made_roster)) (lengths_measured g.D.Disk.tells g.D.Disk.seen g.D.Disk.faults c.args.racks.items c.measure.new.racks.items c.measure.ensures.measured)
     ∙ they_serve (racks_needed made_roster) lengths enough blank
 
-pub returns-in-Ok-measure-clause-ends : goal.returns-in-Ok-measure-clause-ends
-returns-in-Ok-measure-clause-ends g c =
-    subst (λ (ks : List Keys). EndsAs c.rehearse_on.result.status (WritesRehearsal c.args.seed c.args.bills c.args.steps ks)
-    (g.K.Sink.written c.args.sink.now) (g.K.Sink.written c.rehearse_on.new.sink))
-    (keys_measured g.D.Disk.tells g.D.Disk.seen g.D.Disk.faults g.G.KeyRing.keys c.args.racks.items c.measure.new.racks.items
-    c.measure.ensures.measured) c.rehearse_on.ensures.ends
+pub returns-in-Ok-measure-clause-rehearsed : goal.returns-in-Ok-measure-clause-rehearsed
+returns-in-Ok-measure-clause-rehearsed g c =
+    rehearsed_behind g.D.Disk.seen g.D.Disk.may_leave g.D.Disk.faults g.G.KeyRing.keys g.G.KeyRing.faults
+    c.args.seed c.args.bills c.args.steps g.D.Disk.tells c.args.racks.items c.measure.new.racks.items c.rehearse_on.result
+    (g.K.Sink.written c.args.sink.now) (g.K.Sink.written c.rehearse_on.new.sink) c.measure.ensures.measured
+    c.rehearse_on.ensures.rehearsed
 
 pub returns-in-Ok-measure-clause-racks : goal.returns-in-Ok-measure-clause-racks
 returns-in-Ok-measure-clause-racks g c =
@@ -57,13 +57,13 @@ returns-in-Ok-measure-clause-racks g c =
     c.args.racks.items c.measure.new.racks.items c.rehearse_on.result c.measure.ensures.measured further
     c.rehearse_on.ensures.touched c.rehearse_on.ensures.racks
 
-pub returns-in-Err-clause-ends : goal.returns-in-Err-clause-ends
-returns-in-Err-clause-ends g c =
+pub returns-in-Err-clause-rehearsed : goal.returns-in-Err-clause-rehearsed
+returns-in-Err-clause-rehearsed g c =
     let now = g.K.Sink.written c.args.sink.now in
-    let rings = keys_of g.G.KeyRing.keys c.args.racks.items in
-    subst (λ (s : Status). EndsAs s (WritesRehearsal c.args.seed c.args.bills c.args.steps rings) now now)
-    (sym (c.at_once-in-Err.ensures.status ∙ c.status_of.ensures))
-    (unfit_writes c.args.seed c.args.bills c.args.steps rings c.in-Err.unfit now)
+    rehearsed_nothing g.D.Disk.seen g.D.Disk.may_leave g.D.Disk.faults g.G.KeyRing.keys g.G.KeyRing.faults
+    c.args.seed c.args.bills c.args.steps c.args.racks.items c.at_once-in-Err.result (status_of c.in-Err.unfit) now now
+    (c.at_once-in-Err.ensures.status ∙ c.status_of.ensures) (unfit_nothing c.in-Err.unfit now)
+    (refused_put c.in-Err.unfit None (status_of c.in-Err.unfit) (refused_plainly c.in-Err.unfit))
 
 pub returns-in-Err-clause-cause : goal.returns-in-Err-clause-cause
 returns-in-Err-clause-cause g c =

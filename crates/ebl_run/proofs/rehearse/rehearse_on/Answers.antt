@@ -1,20 +1,20 @@
-use Rattle.std.proofs.Common.{◌≡◌, ◌≤◌, ◌*◌, ◌∙◌, ℕ, None, drop, length, take, sym, ap, subst, arith}
-use Rattle.std.specs.Prelude.{IfOk, reverse}
+use Rattle.std.proofs.Common.{◌≡◌, ◌≤◌, ◌*◌, ◌++◌, ◌∙◌, ℕ, List, None, drop, length, take, sym, ap, subst, arith}
+use Rattle.std.specs.Prelude.{reverse}
 use Rattle.std.proofs.lemmas.List.{length-map}
 use Rattle.party_roster.specs.RosterRecord.{RosterRecord}
+use Rattle.platform_world.specs.declared.fate.Fate.{Fate}
 use Rattle.platform_world.specs.Opening.{AreBlank, RoseAt}
 use Rattle.platform_world.specs.World.{WorldRecord, opening}
 use Rattle.rehearsal.specs.Roster.{made_roster}
-use Rattle.rehearsal.specs.Summary.{SumsUp}
+use Rattle.rehearsal.specs.Run.{Rehearses, fates_of}
 use Rattle.ebl_run.specs.Drive.{racks_needed}
-use Rattle.ebl_run.specs.Racks.{AreBack, keys_of, lengths_of}
-use Rattle.ebl_run.specs.Rehearse.{WritesRehearsal}
-use Rattle.ebl_run.specs.Status.{EndsAs, IsAfterOpen, IsBeforeRun, IsBeforeWrite, IsCausedBy, IsRehearsalEnd}
+use Rattle.ebl_run.specs.Racks.{AreBack, keys_of, lengths_of, status_by}
+use Rattle.ebl_run.specs.Status.{IsAfterOpen, IsBeforeRun, IsBeforeWrite, IsCausedBy, IsRehearsalEnd}
 use Rattle.ebl_run.specs.declared.status.Status.{Status}
 use Rattle.ebl_run.proofs.DriveLemmas.{after_open_touched, after_open_written, serve_blank, serve_enough, unopened_at, unopened_caused, unopened_put, unopened_untouched}
 use Rattle.ebl_run.proofs.Measuring.{blank_racks}
-use Rattle.ebl_run.proofs.RehearseLemmas.{caused_plainly, on_err, rehearsal_ends, rehearsed, rehearsed_ends, rehearsed_good, unopened_rehearsal_ends, unopened_writes}
-use Rattle.ebl_run.proofs.Worlds.{back_from_opening, back_from_shards, further_from_shards}
+use Rattle.ebl_run.proofs.RehearseLemmas.{IsSummed, caused_plainly, if_ok, on_err, rehearsal_ends, rehearsed, rehearsed_ends, rehearsed_good, rehearsed_nothing, unopened_nothing, unopened_rehearsal_ends}
+use Rattle.ebl_run.proofs.Worlds.{back_from_opening, back_from_shards, further_from_shards, left_on_racks}
 use Rattle.ebl_run.proofs.rehearse.rehearse_on.Goals as goal
 
 pub open-requires-clause-racks : goal.open-requires-clause-racks
@@ -32,17 +32,33 @@ open-requires-clause-blank g c =
     (serve_blank (racks_needed made_roster) (lengths_of g.D.Disk.seen c.args.racks.items) c.requires.serve)
     c.requires.told)
 
-pub returns-in-Ok-clause-ends : goal.returns-in-Ok-clause-ends
-returns-in-Ok-clause-ends g c =
+pub returns-in-Ok-clause-rehearsed : goal.returns-in-Ok-clause-rehearsed
+returns-in-Ok-clause-rehearsed g c =
     let rings = keys_of g.G.KeyRing.keys c.args.racks.items in
-    let old = g.K.Sink.written c.args.sink.now in
-    let new = g.K.Sink.written c.put_if_any-status.new.sink in
-    subst (λ (s : Status). EndsAs s (WritesRehearsal c.args.seed c.args.bills c.args.steps rings) old new)
-    (sym c.close.ensures.status)
-    (rehearsed c.args.seed c.args.bills c.args.steps rings c.rehearse-world.result.1 c.put_if_any-status.result old new
-    (subst (λ (w : WorldRecord). IfOk c.rehearse-world.result.1 (λ line. SumsUp c.args.seed c.args.bills c.args.steps w line))
-    (c.in-Ok.ensures.opening ∙ ap (λ (r : RosterRecord). opening r rings) c.requires.roster) c.rehearse-world.ensures.line)
-    c.put_if_any-status.ensures.ok (on_err c.rehearse-world.result.1 (λ it. (it.0, ap g.K.Sink.written it.1)) c.put_if_any-status.ensures.short))
+    let after = c.rehearse-world.result.0 in
+    let opened = c.in-Ok.ensures.opening ∙ ap (λ (r : RosterRecord). opening r rings) c.requires.roster in
+    rehearsed g.D.Disk.seen g.D.Disk.may_leave g.D.Disk.faults g.G.KeyRing.keys g.G.KeyRing.faults
+    c.args.seed c.args.bills c.args.steps c.args.racks.items c.close.result c.rehearse-world.result.1 c.put_if_any-status.result
+    (g.K.Sink.written c.args.sink.now) (g.K.Sink.written c.put_if_any-status.new.sink) c.close.ensures.status
+    (if_ok _
+    (λ (line : List ℕ). IsSummed g.D.Disk.seen g.D.Disk.may_leave g.D.Disk.faults g.G.KeyRing.keys g.G.KeyRing.faults
+    c.args.seed c.args.bills c.args.steps c.args.racks.items c.close.result line)
+    c.rehearse-world.result.1 c.rehearse-world.ensures.line
+    (λ line sums. record {
+      run = sums.run;
+      goes = subst (λ (w : WorldRecord). Rehearses c.args.seed c.args.bills c.args.steps w sums.run) opened sums.goes;
+      whole = sums.whole;
+      line_is = sums.line_is;
+      fates_are = c.close.ensures.fates ∙ sums.fates_are
+          ∙ ap (λ (fs : List Fate). fs ++ fates_of sums.run.happened) c.in-Ok.ensures.fates;
+      left = left_on_racks g.D.Disk.seen g.D.Disk.may_leave g.D.Disk.faults g.G.KeyRing.keys g.G.KeyRing.faults
+          c.args.racks.items c.close.result.racks (reverse after.platforms.spare) after.platforms.roster.platforms
+          c.in-Ok.world.platforms.shards after.platforms.shards sums.run.happened sums.run.last.platforms
+          (ap (λ (w : WorldRecord). w.platforms) sums.last_is) c.close.ensures.racks c.in-Ok.ensures.shards sums.disks
+          sums.rings c.close.ensures.hold;
+    }))
+    c.put_if_any-status.ensures.ok
+    (on_err c.rehearse-world.result.1 (λ it. (it.0, ap g.K.Sink.written it.1)) c.put_if_any-status.ensures.short)
 
 pub returns-in-Ok-clause-cause : goal.returns-in-Ok-clause-cause
 returns-in-Ok-clause-cause g c =
@@ -109,13 +125,13 @@ returns-in-Ok-clause-end g c =
     (rehearsed_ends c.rehearse-world.result.1 c.put_if_any-status.result old new c.put_if_any-status.ensures.ok short)
     (rehearsed_good c.rehearse-world.result.1 c.put_if_any-status.result old new c.put_if_any-status.ensures.ok short))
 
-pub returns-in-Err-clause-ends : goal.returns-in-Err-clause-ends
-returns-in-Err-clause-ends g c =
-    let rings = keys_of g.G.KeyRing.keys c.args.racks.items in
+pub returns-in-Err-clause-rehearsed : goal.returns-in-Err-clause-rehearsed
+returns-in-Err-clause-rehearsed g c =
     let now = g.K.Sink.written c.args.sink.now in
-    subst (λ (s : Status). EndsAs s (WritesRehearsal c.args.seed c.args.bills c.args.steps rings) now now)
-    (sym (c.at_once.ensures.status ∙ c.status_by.ensures))
-    (unopened_writes c.args.seed c.args.bills c.args.steps rings c.in-Err.fault now)
+    rehearsed_nothing g.D.Disk.seen g.D.Disk.may_leave g.D.Disk.faults g.G.KeyRing.keys g.G.KeyRing.faults
+    c.args.seed c.args.bills c.args.steps c.args.racks.items c.at_once.result (status_by c.in-Err.fault) now now
+    (c.at_once.ensures.status ∙ c.status_by.ensures) (unopened_nothing c.in-Err.fault now)
+    (unopened_put c.in-Err.fault)
 
 pub returns-in-Err-clause-cause : goal.returns-in-Err-clause-cause
 returns-in-Err-clause-cause g c =

@@ -10,9 +10,11 @@ use Rattle.ebl_run.specs.Racks.{AreBack, keys_of, lengths_of, written_among}
 use Rattle.ebl_run.specs.Safe.{RanSafely}
 use Rattle.ebl_run.specs.Status.{EndsAs, IsCausedBy, IsEndOf, MayEnd, Outputs, status_for}
 use Rattle.ebl_run.specs.declared.command.Command.{Command}
+use Rattle.ebl_run.specs.declared.command.Command.TheVariants.{Rehearse}
 use Rattle.ebl_run.specs.declared.status.Status.{Status}
 use Rattle.ebl_run.proofs.DriveLemmas.{ran_at_once, stops_at_once}
-use Rattle.ebl_run.proofs.ReadLemmas.{ends_too_long, ends_unread, ends_used, further_by, further_same, if_told, of_script, reads_nothing, unread_caused, unread_ends, unread_no_open, unread_ran, unread_wrote}
+use Rattle.ebl_run.proofs.ReadLemmas.{ends_too_long, ends_unread, ends_used, further_by, further_same, if_told, of_script, reads_nothing, unread_caused, unread_ends, unread_no_open, unread_no_put, unread_nothing, unread_ran, unread_wrote}
+use Rattle.ebl_run.proofs.RehearseLemmas.{rehearsed_nothing}
 use Rattle.ebl_run.proofs.SafeLemmas.{ran_safely}
 use Rattle.ebl_run.proofs.Worlds.{same_back}
 use Rattle.ebl_run.proofs.run.run_ebl.Goals as goal
@@ -128,3 +130,17 @@ returns-in-Err-clause-rehearsal_cause g c seed bills steps named =
     (written_among (racks_needed made_roster) (lengths_of g.D.Disk.seen c.args.racks.items)))
     (sym (c.at_once-in-Err.ensures.status ∙ c.status_for.ensures))
     (unread_caused c.in-Err.fault None (length c.args.racks.items) (racks_needed made_roster) _)
+
+pub returns-in-Ok-clause-rehearsed : goal.returns-in-Ok-clause-rehearsed
+returns-in-Ok-clause-rehearsed g c seed bills steps named =
+    let both : Some c.in-Some.command ≡ Some (Rehearse seed bills steps) = c.in-Some.ensures.command ∙ named in
+    let is : c.in-Some.command ≡ Rehearse seed bills steps = cc both in
+    c.run_command.ensures.rehearsed seed bills steps is
+
+pub returns-in-Err-clause-rehearsed : goal.returns-in-Err-clause-rehearsed
+returns-in-Err-clause-rehearsed g c seed bills steps named =
+    let now = g.K.Sink.written c.args.sink.now in
+    rehearsed_nothing g.D.Disk.seen g.D.Disk.may_leave g.D.Disk.faults g.G.KeyRing.keys g.G.KeyRing.faults
+    seed bills steps c.args.racks.items c.at_once-in-Err.result (status_for c.in-Err.fault) now now
+    (c.at_once-in-Err.ensures.status ∙ c.status_for.ensures) (unread_nothing c.in-Err.fault now)
+    (unread_no_put c.in-Err.fault)
