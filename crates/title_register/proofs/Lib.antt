@@ -7,3 +7,5 @@ mod LookUpLemmas
 mod PastLemmas
 mod AddLemmas
 mod ChangeLemmas
+pub mod FoundLemmas
+mod BytesLemmas

@@ -49,9 +49,9 @@ impl<'a> Model for Past<'a> {
 
 /// A chain that came, with its manifest.
 #[derive(Clone, Copy)]
-pub(crate) struct Received<'a> {
-    pub(crate) chain: &'a Chain,
-    pub(crate) manifest: &'a Manifest,
+pub struct Received<'a> {
+    pub chain: &'a Chain,
+    pub manifest: &'a Manifest,
 }
 
 impl<'a> Past<'a> {
@@ -74,7 +74,7 @@ impl<'a> Past<'a> {
         }
     }
 
-    /// The same records, to be gone over.
+    // The same records, to be gone over.
     fn history(&self) -> History<'a>
         ensures { result ≡ self.now }
     {
@@ -139,29 +139,7 @@ impl<'a> Past<'a> {
             (λ came. last_begun entry self.now
             ≡ Some (record { chain = came.chain.now; manifest = came.manifest.now })) }
     {
-        match self.received_by_number(entry) {
-            Some(came) => Some(came),
-            None => last_begun(self.history(), entry),
-        }
-    }
-
-    // The same, if the last Begun with the reference of the bill and the entry is of these.
-    fn received_by_number(&self, entry: Checksum) -> Option<Received<'a>>
-        ensures { IfSome result (λ came.
-            last_begun entry self.now ≡ Some (record { chain = came.chain.now; manifest = came.manifest.now })) }
-    {
-        let number = self
-            .numbers
-            .number(FrameKey::Begun(reference_of(self.bill, entry)));
-        let begun = begun_numbered(self.frames, number)?;
-        if begun.bill == self.bill && ends_in(begun.chain.as_slice(), entry) {
-            Some(Received {
-                chain: begun.chain,
-                manifest: begun.manifest,
-            })
-        } else {
-            None
-        }
+        last_received(self.frames, self.numbers, self.bill, entry)
     }
 
     /// The chain that a Settled of this entry tells: the known chain before the last Parted of the entry, followed by
@@ -192,6 +170,48 @@ pub(crate) fn is_among(names: &[Checksum], name: Checksum) -> bool
     ensures { result ≡ is_among names.now name }
 {
     names.iter().any(|other| *other == name)
+}
+
+/// What came with the last Begun of a bill whose chain ends in an entry, by the frames' numbers. Only where the last
+/// Begun with the reference of both is another one, or none is there, are the records of the bill gone over.
+pub(crate) fn last_received<'a>(
+    frames: &'a [Frame],
+    numbers: &'a FrameNumbers,
+    bill: Checksum,
+    entry: Checksum,
+) -> Option<Received<'a>>
+    requires { (key : FrameKey) → number_in numbers.now.numbers key ≡ number_of key frames.now }
+    ensures { MatchOption result (last_begun entry (history bill frames.now) ≡ None)
+        (λ came. last_begun entry (history bill frames.now)
+        ≡ Some (record { chain = came.chain.now; manifest = came.manifest.now })) }
+{
+    match received_by_number(frames, numbers, bill, entry) {
+        Some(came) => Some(came),
+        None => last_begun(History::of(frames, bill), entry),
+    }
+}
+
+// The same, if the last Begun with the reference of the bill and the entry is of these.
+fn received_by_number<'a>(
+    frames: &'a [Frame],
+    numbers: &'a FrameNumbers,
+    bill: Checksum,
+    entry: Checksum,
+) -> Option<Received<'a>>
+    requires { (key : FrameKey) → number_in numbers.now.numbers key ≡ number_of key frames.now }
+    ensures { IfSome result (λ came. last_begun entry (history bill frames.now)
+        ≡ Some (record { chain = came.chain.now; manifest = came.manifest.now })) }
+{
+    let number = numbers.number(FrameKey::Begun(reference_of(bill, entry)));
+    let begun = begun_numbered(frames, number)?;
+    if begun.bill == bill && ends_in(begun.chain.as_slice(), entry) {
+        Some(Received {
+            chain: begun.chain,
+            manifest: begun.manifest,
+        })
+    } else {
+        None
+    }
 }
 
 // What is wanted of a Begun.

@@ -1,13 +1,13 @@
 //! The register: a diary, what is kept of each of its bills, and the numbers of its frames.
 #![tactic(auto, using(crate::proofs::RegisterLemmas::places, crate::proofs::StateLemmas::titles))]
 
-ghost use Rattle.std.specs.Prelude.{◌≡◌, ◌<◌, ◌∷◌, [], ◌++◌, None, IfErr, IfOk, OnErr, OnOk, Some, IsSome, count_by, is_some, option_and_then, option_copied, if◌then◌else◌};
+ghost use Rattle.std.specs.Prelude.{◌≡◌, ◌<◌, ◌∷◌, [], ◌++◌, None, IfErr, IfOk, OnErr, OnOk, Some, IsSome, MatchOption, count_by, is_some, option_and_then, option_copied, if◌then◌else◌};
 ghost use Rattle.std.specs.BTreeMap.{get};
 ghost use Rattle.std.specs.Vec.{vec_len, vec_capacity};
 ghost use Rattle.ebl_base.specs.Checksum.{checksum_cmp, checksum_eq};
 ghost use Rattle.ebl_base.specs.declared.checksum.Checksum.{Checksum};
 ghost use Rattle.bill_diary.specs.History.{history, newest_first};
-ghost use Rattle.bill_diary.specs.Known.{known};
+ghost use Rattle.bill_diary.specs.Known.{known, last_begun};
 ghost use Rattle.bill_diary.specs.Pieces.{is_there, pieces_of};
 ghost use Rattle.bill_diary.specs.Place.{may_act_by, parting, place_of, tag_of, title_at};
 ghost use Rattle.bill_diary.specs.Receiving.{declines, is_taken, last_declined};
@@ -25,6 +25,7 @@ use crate::bill_state::{BillState, StateChange};
 use crate::documents::kept_in;
 use crate::frame_key::FrameKey;
 use crate::frame_numbers::FrameNumbers;
+use crate::past::{Received, last_received};
 use crate::place_ref::PlaceRef;
 use crate::room::{Reserved, Room, room_for};
 use bill_diary::{Diary, Frame, Record};
@@ -229,6 +230,18 @@ impl Register {
             ≡ last_body (history bill self.now.diary) }
     {
         self.numbers.number(FrameKey::Came(bill))
+    }
+
+    /// What came with the last Begun of a bill whose chain ends in an entry.
+    ///
+    /// It is found by the reference of both. Only where the last Begun with that reference is another one, or none is
+    /// there, are the records of the bill gone over.
+    pub fn received(&self, bill: Checksum, entry: Checksum) -> Option<Received<'_>>
+        ensures { MatchOption result (last_begun entry (history bill self.now.diary) ≡ None)
+            (λ came. last_begun entry (history bill self.now.diary)
+            ≡ Some (record { chain = came.chain.now; manifest = came.manifest.now })) }
+    {
+        last_received(self.frames(), &self.numbers, bill, entry)
     }
 
     /// The number of the last frame with a Begun, of any bill, whose envelope has this reference.
