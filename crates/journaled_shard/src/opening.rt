@@ -1,11 +1,9 @@
 //! What a disk stands for, as a shard finds it when it is opened and when it is read again from nothing.
-ghost use Rattle.std.specs.Prelude.{◌≡◌, ◌<◌, ◌≤◌, ◌++◌, [], ◌∷◌, true, ℕ, length, IfErr, IfOk, IsErrOf, MatchResult, None, OnErr, OnOk};
+ghost use Rattle.std.specs.Prelude.{◌≡◌, ◌<◌, ◌≤◌, [], true, ℕ, length, IfErr, IfOk, IsErrOf, MatchResult, None, OnErr, OnOk};
 ghost use Rattle.ebl_base.specs.Faults.{Rose};
 ghost use Rattle.disk_model.specs.Disk.{LeavesOnly, Looked};
 ghost use Rattle.transfer_judge.specs.Legal.{IsLegal};
-ghost use Rattle.bill_journal.specs.Places.{contents_of};
 ghost use Rattle.journaled_diary.specs.Contents.{IsJournalOf};
-ghost use Rattle.journaled_diary.specs.Reading.{IsDiaryOf, IsRefusedAt};
 ghost use Rattle.journal_room.specs.Room.{HasRoom};
 ghost use Rattle.journaled_shard.specs.Opening.{IsDamagedDiary, fault_of};
 ghost use Rattle.journaled_shard.specs.Shard.{HasRoomWith, IsLegalWith};
@@ -13,16 +11,16 @@ ghost use Rattle.journaled_shard.specs.View.{written_view};
 ghost use Rattle.journaled_shard.specs.Written.{HasDiary, HasNamesOf, IsKeptOrDropped, IsOnDisk, IsRead, IsStill};
 
 use crate::written::{Written, forget};
-use bill_diary::{Diary, Frame};
-use bill_journal::{FrameBytes, Journal, OpenFault, no_journal_is_damaged};
+use bill_journal::{Journal, OpenFault, no_journal_is_damaged};
 use disk_model::Disk;
-use ebl_base::{NoMemory, PlatformCode};
-use journaled_diary::{DiaryFault, contents_are_one_diary, diary_is_refused_nowhere, read_diary};
+use ebl_base::PlatformCode;
+use journaled_diary::{
+    DiaryFault, contents_are_one_diary, diary_is_refused_nowhere, read_register,
+};
 use party_roster::Roster;
 use record_bytes::frame_of_a_sound_diary_has_a_spelling;
 use signed_envelope::KeyRing;
 use std::alloc::Global;
-use title_register::Register;
 use transfer_judge::legal_diary_is_sound;
 
 // The legal diary of which a disk is the journal; a blank disk is made one without frames.
@@ -121,56 +119,6 @@ impl<D: Disk> Written<D> {
                 Ok(())
             }
             Err(fault) => Err(fault_of(fault)),
-        }
-    }
-}
-
-// The register of the legal diary that the frames of a journal are. `Refused` names the first frame that spells no
-// record, may not follow those before it, or has no room behind them.
-fn read_register<G: KeyRing>(
-    alloc: Global,
-    roster: &Roster,
-    ring: &G,
-    me: PlatformCode,
-    frames: &FrameBytes,
-) -> Result<Register, DiaryFault>
-    ensures ok { IfOk result (λ r. IsDiaryOf roster.now (G.keys ring.now) me (contents_of frames.now) r.diary) }
-    ensures room { IfOk result (λ r. r.room ≡ None) }
-    ensures refused { (place : ℕ) → IsErrOf result (DiaryFault.Refused place)
-        → IsRefusedAt roster.now (G.keys ring.now) me frames.now place }
-{
-    match read_diary(alloc, roster, ring, me, frames) {
-        Ok(diary) => Ok(register_of(alloc, diary)?),
-        Err(fault) => Err(fault),
-    }
-}
-
-// The register of a diary, made frame by frame.
-fn register_of(alloc: Global, diary: Diary) -> Result<Register, NoMemory>
-    ensures diary { IfOk result (λ r. r.diary ≡ diary) }
-    ensures room { IfOk result (λ r. r.room ≡ None) }
-{
-    let mut register = Register::new(alloc);
-    for frame in diary.into_vec() {
-        add(alloc, &mut register, frame)?;
-    }
-    Ok(register)
-}
-
-fn add(alloc: Global, register: &mut Register, frame: Frame) -> Result<(), NoMemory>
-    requires { register.old.room ≡ None }
-    ensures diary { OnOk result (register.new.diary ≡ register.old.diary ++ frame ∷ []) }
-    ensures room { register.new.room ≡ None }
-{
-    match register.reserve(alloc, &frame) {
-        Ok(()) => {
-            register.add(frame);
-            Ok(())
-        }
-        Err(fault) => {
-            // A call, as in `Written::write`.
-            drop(frame);
-            Err(fault)
         }
     }
 }

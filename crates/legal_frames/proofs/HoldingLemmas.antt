@@ -24,9 +24,10 @@ use Rattle.bill_diary.specs.declared.record.Record.{Record}
 use Rattle.bill_diary.specs.declared.bill_place.BillPlace.{BillPlace}
 use Rattle.bill_diary.specs.declared.bill_place.BillPlace.TheVariants.{Absent, Held, Parting, Gone}
 use Rattle.bill_diary.specs.Pieces.{pieces_of}
-use Rattle.bill_diary.specs.Place.{place_of, may_act_by}
+use Rattle.bill_diary.specs.Place.{place_of, may_act_by, title_at}
 use Rattle.bill_diary.specs.Sound.{MayAct, MayAttach, most_with}
 use Rattle.bill_diary.specs.Texts.{IsDocumentOf}
+use Rattle.bill_diary.specs.Titles.{FoldedBy, unplaced}
 use Rattle.bill_diary.proofs.DiaryLaws.{acts_where_held}
 use Rattle.record_bytes.specs.Forms.{IsSigned}
 use Rattle.record_bytes.proofs.DocumentLemmas.{document_reads}
@@ -190,7 +191,7 @@ may_act_so h t known since form is x = record {
 }
 
 place_decides : (h : List Record) (t : Transaction) → IsTransaction t → (p : BillPlace) → place_of h ≡ p
-    → IsTrue (stays_at t p) ↔ MayAct h t
+    → IsTrue (stays_at t (unplaced (title_at p)) p) ↔ MayAct h t
 place_decides h t form Absent is = (
   λ b. cc b,
   λ x. let clash : Absent ≡ Held x.known x.since = sym is ∙ x.held in cc
@@ -204,11 +205,14 @@ place_decides h t form (Held known since) is =
     let decides = fold_decides known since t (fold (transactions_of known ++ since)) refl in
     (λ b. may_act_so h t known since form is (decides.0 b), λ x. decides.1 (acts_on h t known since is x))
 
--- the test of a transaction at the bill's place decides whether it may follow
-pub acts : (h : List Record) (t : Transaction) (p : BillPlace) (b : Bool) → IsTransaction t → p ≡ place_of h
-    → b ≡ stays_at t p → IsTrue b ↔ MayAct h t
-acts h t p b form found test =
-    subst (λ (x : Bool). IsTrue x ↔ MayAct h t) (sym test) (place_decides h t form p (sym found))
+-- the test of a transaction at the bill's place and its title decides whether it may follow
+pub acts : (h : List Record) (t : Transaction) (p : BillPlace) (title : FoldedBy) (b : Bool) → IsTransaction t
+    → p ≡ place_of h → title ≡ unplaced (title_at (place_of h)) → b ≡ stays_at t title p → IsTrue b ↔ MayAct h t
+acts h t p title b form found named test =
+    let whole : b ≡ stays_at t (unplaced (title_at (place_of h))) (place_of h) =
+    test ∙ ap (λ (f : FoldedBy). stays_at t f p) named
+    ∙ ap (stays_at t (unplaced (title_at (place_of h)))) found in
+    subst (λ (x : Bool). IsTrue x ↔ MayAct h t) (sym whole) (place_decides h t form (place_of h) refl)
 
 -- ---- a document is attached
 

@@ -22,7 +22,8 @@ use Rattle.bill_diary.specs.declared.record.Record.{Record}
 use Rattle.bill_diary.specs.declared.bill_place.BillPlace.{BillPlace}
 use Rattle.bill_diary.specs.declared.bill_place.BillPlace.TheVariants.{Absent, Held, Parting, Gone}
 use Rattle.bill_diary.specs.Pieces.{pieces_of}
-use Rattle.bill_diary.specs.Place.{place_of}
+use Rattle.bill_diary.specs.Place.{place_of, title_at}
+use Rattle.bill_diary.specs.Titles.{FoldedBy, unplaced}
 use Rattle.bill_diary.specs.Sound.{is_parted}
 use Rattle.record_bytes.specs.Forms.{IsParted}
 use Rattle.transfer_judge.specs.Legal.{IsSignedBy, PartsLegally}
@@ -66,7 +67,8 @@ leaves_by roster known since t x =
 -- what was found of an entry is that it may be sent
 parts_from : (roster : RosterRecord) (keys : Keys) (me : PlatformCode) (h : List Record) (bill : Checksum)
     (link : ChainLink) (manifest : Manifest) (text : SignedText) (p : BillPlace) → place_of h ≡ p
-    → IsNextAt roster me bill (count_by is_parted h) link.entry p → IsParted bill link manifest text
+    → IsNextAt roster me bill (count_by is_parted h) link.entry (unplaced (title_at p)) p
+    → IsParted bill link manifest text
     → manifest.documents ≡ pieces_of h → IsSignedBy keys me link.text
     → IsManifestBy keys me bill link.name manifest text → PartsLegally roster keys me h bill link manifest text
 parts_from roster keys me h bill link manifest text Absent is next form documents signed by = absurd next
@@ -106,8 +108,8 @@ parts_from roster keys me h bill link manifest text (Held known since) is (next,
 
 pub parts_so : (roster : RosterRecord) (keys : Keys) (me : PlatformCode) (h : List Record) (bill : Checksum)
     (link : ChainLink) (manifest : Manifest) (text : SignedText)
-    → IsNextAt roster me bill (count_by is_parted h) link.entry (place_of h) → IsParted bill link manifest text
-    → manifest.documents ≡ pieces_of h → IsSignedBy keys me link.text
+    → IsNextAt roster me bill (count_by is_parted h) link.entry (unplaced (title_at (place_of h))) (place_of h)
+    → IsParted bill link manifest text → manifest.documents ≡ pieces_of h → IsSignedBy keys me link.text
     → IsManifestBy keys me bill link.name manifest text → PartsLegally roster keys me h bill link manifest text
 parts_so roster keys me h bill link manifest text next form documents signed by =
     parts_from roster keys me h bill link manifest text (place_of h) refl next form documents signed by
@@ -115,10 +117,11 @@ parts_so roster keys me h bill link manifest text next form documents signed by 
 -- and the other way round
 pub parts_next : (roster : RosterRecord) (keys : Keys) (me : PlatformCode) (h : List Record) (bill : Checksum)
     (link : ChainLink) (manifest : Manifest) (text : SignedText) → PartsLegally roster keys me h bill link manifest text
-    → IsNextAt roster me bill (count_by is_parted h) link.entry (place_of h)
+    → IsNextAt roster me bill (count_by is_parted h) link.entry (unplaced (title_at (place_of h))) (place_of h)
 parts_next roster keys me h bill link manifest text may =
     let s = may.sound in
-    let next : IsNextAt roster me bill (count_by is_parted h) link.entry (Held s.known s.since) = (
+    let held = Held s.known s.since in
+    let next : IsNextAt roster me bill (count_by is_parted h) link.entry (unplaced (title_at held)) held = (
       record {
         room = s.room;
         platform = s.platform;
@@ -142,7 +145,8 @@ parts_next roster keys me h bill link manifest text may =
             });
       },
     ) in
-    subst (IsNextAt roster me bill (count_by is_parted h) link.entry) (sym s.held) next
+    subst (λ (p : BillPlace). IsNextAt roster me bill (count_by is_parted h) link.entry (unplaced (title_at p)) p)
+    (sym s.held) next
 
 pub parts_by : (roster : RosterRecord) (keys : Keys) (me : PlatformCode) (h : List Record) (bill : Checksum)
     (link : ChainLink) (manifest : Manifest) (text : SignedText) → PartsLegally roster keys me h bill link manifest text
@@ -154,11 +158,13 @@ parts_by roster keys me h bill link manifest text may = record {
   names_last = may.sound.names_last;
 }
 
--- the test of an entry decides, at the bill's place and its attempts
+-- the test of an entry decides, at the bill's place, its title and its attempts
 pub next_at : (roster : RosterRecord) (me : PlatformCode) (h : List Record) (bill : Checksum) (parted : ℕ)
-    (entry : Entry) (p : BillPlace) (b : Bool) → parted ≡ count_by is_parted h → p ≡ place_of h
-    → (IsTrue b ↔ IsNextAt roster me bill parted entry p)
-    → (IsTrue b ↔ IsNextAt roster me bill (count_by is_parted h) entry (place_of h))
-next_at roster me h bill parted entry p b counted found decides =
-    subst (λ (n : ℕ). IsTrue b ↔ IsNextAt roster me bill n entry (place_of h)) counted
-    (subst (λ (x : BillPlace). IsTrue b ↔ IsNextAt roster me bill parted entry x) found decides)
+    (entry : Entry) (title : FoldedBy) (p : BillPlace) (b : Bool) → parted ≡ count_by is_parted h
+    → title ≡ unplaced (title_at (place_of h)) → p ≡ place_of h
+    → (IsTrue b ↔ IsNextAt roster me bill parted entry title p)
+    → (IsTrue b ↔ IsNextAt roster me bill (count_by is_parted h) entry (unplaced (title_at (place_of h))) (place_of h))
+next_at roster me h bill parted entry title p b counted named found decides =
+    subst (λ (n : ℕ). IsTrue b ↔ IsNextAt roster me bill n entry (unplaced (title_at (place_of h))) (place_of h)) counted
+    (subst (λ (f : FoldedBy). IsTrue b ↔ IsNextAt roster me bill parted entry f (place_of h)) named
+    (subst (λ (x : BillPlace). IsTrue b ↔ IsNextAt roster me bill parted entry title x) found decides))

@@ -184,6 +184,61 @@ listing_came entry name size manifest (Taken b e ∷ h) came has = listing_came 
 listing_came entry name size manifest (Declined b e x q v ∷ h) came has = listing_came entry name size manifest h came
     has
 
+-- where no Begun of the entry came, none lists a document
+pub none_lists : (entry name : Checksum) (size : ℕ) (h : List Record) → last_begun entry h ≡ None
+    → list_any (lists_as entry name size) h ≡ false
+none_lists entry name size [] none = refl
+none_lists entry name size (Begun b c m t ∷ h) none =
+    on_test (ends_in entry c) none (none_lists entry name size h)
+  where
+    on_test : (here : Bool)
+        → cond here (Some (record { chain = c; manifest = m })) (last_begun entry h) ≡ None
+        → (last_begun entry h ≡ None → list_any (lists_as entry name size) h ≡ false)
+        → ((here && list_any (is_listed_as name size) m.documents) || list_any (lists_as entry name size) h) ≡ false
+    on_test true found further = cc found
+    on_test false found further = further found
+none_lists entry name size (Signed b x t ∷ h) none = none_lists entry name size h none
+none_lists entry name size (Acted b t ∷ h) none = none_lists entry name size h none
+none_lists entry name size (Attached b q t ∷ h) none = none_lists entry name size h none
+none_lists entry name size (Parted b l m t ∷ h) none = none_lists entry name size h none
+none_lists entry name size (Settled b e ∷ h) none = none_lists entry name size h none
+none_lists entry name size (Regained b e ∷ h) none = none_lists entry name size h none
+none_lists entry name size (Stored b e x t ∷ h) none = none_lists entry name size h none
+none_lists entry name size (Taken b e ∷ h) none = none_lists entry name size h none
+none_lists entry name size (Declined b e x q v ∷ h) none = none_lists entry name size h none
+
+-- what the last Begun of the entry lists is listed
+pub last_lists : (entry name : Checksum) (size : ℕ) (h : List Record) (chain : List ChainLink) (manifest : Manifest)
+    → last_begun entry h ≡ Some (record { chain = chain; manifest = manifest })
+    → list_any (is_listed_as name size) manifest.documents ≡ true → list_any (lists_as entry name size) h ≡ true
+last_lists entry name size [] chain manifest is on = cc is
+last_lists entry name size (Begun b c m t ∷ h) chain manifest is on =
+    on_test (ends_in entry c) is (λ there. last_lists entry name size h chain manifest there on)
+  where
+    on_test : (here : Bool)
+        → cond here (Some (record { chain = c; manifest = m })) (last_begun entry h)
+        ≡ Some (record { chain = chain; manifest = manifest })
+        → (last_begun entry h ≡ Some (record { chain = chain; manifest = manifest })
+        → list_any (lists_as entry name size) h ≡ true)
+        → ((here && list_any (is_listed_as name size) m.documents) || list_any (lists_as entry name size) h) ≡ true
+    on_test true found further =
+        let one : record { chain = c; manifest = m } ≡ record { chain = chain; manifest = manifest } = cc found in
+        or_left (list_any (is_listed_as name size) m.documents) (list_any (lists_as entry name size) h)
+        (ap (λ (x : Received). list_any (is_listed_as name size) x.manifest.documents) one ∙ on)
+    on_test false found further = further found
+last_lists entry name size (Signed b x t ∷ h) chain manifest is on = last_lists entry name size h chain manifest is on
+last_lists entry name size (Acted b t ∷ h) chain manifest is on = last_lists entry name size h chain manifest is on
+last_lists entry name size (Attached b q t ∷ h) chain manifest is on = last_lists entry name size h chain manifest is on
+last_lists entry name size (Parted b l m t ∷ h) chain manifest is on = last_lists entry name size h chain manifest is on
+last_lists entry name size (Settled b e ∷ h) chain manifest is on = last_lists entry name size h chain manifest is on
+last_lists entry name size (Regained b e ∷ h) chain manifest is on = last_lists entry name size h chain manifest is on
+last_lists entry name size (Stored b e x t ∷ h) chain manifest is on = last_lists entry name size h chain manifest is on
+last_lists entry name size (Taken b e ∷ h) chain manifest is on = last_lists entry name size h chain manifest is on
+last_lists entry name size (Declined b e x q v ∷ h) chain manifest is on =
+    last_lists entry name size h chain manifest is on
+
+pub ruleset listings = (last_lists)
+
 -- what was found of a document is that it may be stored
 pub stores_so : (h : List Record) (entry name : Checksum) (bytes : List ℕ) → checksum_of bytes ≡ name
     → list_any (lists_as entry name (length bytes)) h ≡ true → are_there h bytes ≡ false → MayStore h entry name bytes

@@ -26,10 +26,9 @@ use Rattle.transport_document.specs.Reading.{document_of}
 use Rattle.title_fold.specs.declared.refusal.FoldRefusal.{FoldRefusal}
 use Rattle.title_fold.specs.declared.title.Title.{Title}
 use Rattle.title_fold.specs.Title.{possessor}
-use Rattle.title_fold.specs.Fold.{fold}
 use Rattle.title_fold.specs.Step.{step_title}
 use Rattle.title_fold.specs.Movement.{moves}
-use Rattle.bill_chain.specs.Chain.{ends_in, last_name, last_of, transactions_of, without_place}
+use Rattle.bill_chain.specs.Chain.{ends_in, last_name, last_of}
 use Rattle.transfer_chain.specs.GoodChain.{IsGoodChain}
 use Rattle.bill_diary.specs.declared.record.Record.{Record}
 use Rattle.bill_diary.specs.declared.record.Record.TheVariants.{Begun}
@@ -39,6 +38,7 @@ use Rattle.bill_diary.specs.History.{bill_of, of_bill}
 use Rattle.bill_diary.specs.Pieces.{lists}
 use Rattle.bill_diary.specs.Sound.{IsNotAgain, last_with_reference, most_with}
 use Rattle.bill_diary.specs.Texts.{IsBodyOf}
+use Rattle.bill_diary.specs.Titles.{FoldedBy}
 use Rattle.transfer_judge.specs.Legal.{FollowsLegally, IsSignedBy}
 
 -- a record may follow the records of a diary
@@ -73,21 +73,21 @@ stays before made t (Ok after) = not (moves before after) && nat_lt made (most_w
 stays before made t (Err rule) = false
 
 -- the same on the title before, where there is one
-abbrev pub stays_on : ℕ → Transaction → Result (Option Title) FoldRefusal → Bool
+abbrev pub stays_on : ℕ → Transaction → FoldedBy → Bool
 stays_on made t (Ok before) = stays before made t (step_title before t)
 stays_on made t (Err rule) = false
 
--- the same on a bill that is held
-abbrev pub stays_at : Transaction → BillPlace → Bool
-stays_at t (Held known since) = stays_on (length since) t (without_place (fold (transactions_of known ++ since)))
-stays_at t place = false
+-- the same at a place with this title: the bill is held
+abbrev pub stays_at : Transaction → FoldedBy → BillPlace → Bool
+stays_at t title (Held known since) = stays_on (length since) t title
+stays_at t title place = false
 
 -- the step is taken, and moves to a listed platform
 abbrev pub leaves : RosterRecord → Option Title → Result Title FoldRefusal → Bool
 leaves roster before (Ok after) = moves before after && has_platform roster (possessor after).platform
 leaves roster before (Err rule) = false
 
-abbrev pub leaves_on : RosterRecord → Transaction → Result (Option Title) FoldRefusal → Bool
+abbrev pub leaves_on : RosterRecord → Transaction → FoldedBy → Bool
 leaves_on roster t (Ok before) = leaves roster before (step_title before t)
 leaves_on roster t (Err rule) = false
 
@@ -131,17 +131,17 @@ pub record IsNextEntry (me : PlatformCode) (bill : Checksum) (parted : ℕ) (kno
   pub count : length entry.transactions ≤ MAX_ENTRY_TRANSACTIONS
 
 -- its transactions are those made since and one more, which moves to a listed platform
-pub record MovesOut (roster : RosterRecord) (known : List ChainLink) (since : List Transaction)
+pub record MovesOut (roster : RosterRecord) (title : FoldedBy) (since : List Transaction)
     (transactions : List Transaction) : Type 0 where
   pub last : Transaction
   pub parts : transactions ≡ since ++ last ∷ []
-  pub out : leaves_on roster last (without_place (fold (transactions_of known ++ since))) ≡ true
+  pub out : leaves_on roster last title ≡ true
 
--- both, where the bill is held
-abbrev pub IsNextAt : RosterRecord → PlatformCode → Checksum → ℕ → Entry → BillPlace → Type 0
-IsNextAt roster me bill parted entry (Held known since) =
-    IsNextEntry me bill parted known entry × MovesOut roster known since entry.transactions
-IsNextAt roster me bill parted entry place = ⊥
+-- both, at a place with this title: the bill is held
+abbrev pub IsNextAt : RosterRecord → PlatformCode → Checksum → ℕ → Entry → FoldedBy → BillPlace → Type 0
+IsNextAt roster me bill parted entry title (Held known since) =
+    IsNextEntry me bill parted known entry × MovesOut roster title since entry.transactions
+IsNextAt roster me bill parted entry title place = ⊥
 
 -- ---- envelopes
 

@@ -12,12 +12,13 @@ ghost use Rattle.transfer_judge.specs.Legal.{IsSignedBy};
 ghost use Rattle.legal_frames.specs.Rows.{IsEnvelope, IsGoodBody, IsManifestBy, IsNewEnvelope, is_again};
 
 use bill_chain::last_link;
-use bill_diary::{BegunRef, Diary, last_with_reference};
+use bill_diary::BegunRef;
 use ebl_base::{ByteList, Checksum, MAX_SIGNED_TEXT, NoMemory, PlatformCode, SignedText};
 use envelope_manifest::{Body, BodyFault, Manifest, ManifestFault, decode};
 use party_roster::Roster;
 use signed_envelope::{BadSigned, KeyRing, verify_text};
 use std::alloc::Global;
+use title_register::{Register, last_with_reference};
 use transfer_chain::{ChainRefusal, check, refused_texts_are_no_good_chain};
 use transfer_judge::{Judgement, judge};
 use transport_document::{Document, DocumentFault};
@@ -29,39 +30,39 @@ pub(crate) fn judge_new<G: KeyRing>(
     roster: &Roster,
     ring: &G,
     me: PlatformCode,
-    d: &Diary,
+    register: &Register,
     begun: BegunRef<'_>,
 ) -> Result<Option<Judgement>, NoMemory>
-    requires sound { IsSound me d.now }
+    requires sound { IsSound me register.now.diary }
     requires spelled { IsBegun begun.bill begun.chain.now begun.manifest.now begun.body.now }
     ensures { IfOk result (λ judged. MatchOption judged
-        (¬ IsNewEnvelope roster.now (G.keys ring.now) (newest_first d.now) begun.entry.bill begun.entry.chain.now
-        begun.entry.manifest.now begun.entry.body.now)
-        (λ judgement. IsNewEnvelope roster.now (G.keys ring.now) (newest_first d.now) begun.entry.bill
+        (¬ IsNewEnvelope roster.now (G.keys ring.now) (newest_first register.now.diary) begun.entry.bill
+        begun.entry.chain.now begun.entry.manifest.now begun.entry.body.now)
+        (λ judgement. IsNewEnvelope roster.now (G.keys ring.now) (newest_first register.now.diary) begun.entry.bill
         begun.entry.chain.now begun.entry.manifest.now begun.entry.body.now
-        × (judgement ≡ judgement_of roster.now me begun.entry.bill (newest_first d.now) begun.entry.chain.now
-        begun.entry.manifest.now))) }
+        × (judgement ≡ judgement_of roster.now me begun.entry.bill (newest_first register.now.diary)
+        begun.entry.chain.now begun.entry.manifest.now))) }
 {
     let right = is_envelope(alloc, roster, ring, begun)?;
     if !right {
         return Ok(None);
     }
-    if is_again(d, begun) {
+    if is_again(register, begun) {
         return Ok(None);
     }
-    let judgement = judge(alloc, d, roster, me, begun.chain, begun.manifest)?;
+    let judgement = judge(alloc, register, roster, me, begun.chain, begun.manifest)?;
     Ok(Some(judgement))
 }
 
 // Whether the last Begun with the reference of this one is of its body.
-fn is_again(d: &Diary, begun: BegunRef<'_>) -> bool
-    ensures { result ≡ is_again begun.entry.bill begun.entry.body.now (newest_first d.now)
+fn is_again(register: &Register, begun: BegunRef<'_>) -> bool
+    ensures { result ≡ is_again begun.entry.bill begun.entry.body.now (newest_first register.now.diary)
         (last_of begun.entry.chain.now) }
 {
     let Some(last) = last_link(begun.chain.as_slice()) else {
         return false;
     };
-    match last_with_reference(d, reference_of(begun.bill, last.name)) {
+    match last_with_reference(register, reference_of(begun.bill, last.name)) {
         Some(found) => are_same(found.body, begun.body),
         None => false,
     }

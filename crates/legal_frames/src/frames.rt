@@ -13,36 +13,38 @@ use crate::envelope::judge_new;
 use crate::holding::{may_act, may_attach, may_sign};
 use crate::parting::{may_end, may_part};
 use crate::receiving::{is_accepted, may_decline, may_store, may_take};
-use bill_diary::{BegunRef, Diary, Frame, PartedRef, Record};
+use bill_diary::{BegunRef, Frame, PartedRef, Record};
 use ebl_base::{NoMemory, PlatformCode};
 use party_roster::Roster;
 use signed_envelope::KeyRing;
 use std::alloc::Global;
+use title_register::Register;
 use transfer_judge::Judgement;
 
-/// Whether a frame may follow a legal diary of the platform `me`, under this roster and these keys.
+/// Whether a frame may follow the legal diary of a register, of the platform `me`, under this roster and these keys.
 ///
 /// The frame has a spelling, as each that `record_bytes::frame_read` answers: its names and values are those of its
 /// texts, and aren't tested again. Of the diary no more is needed than that it is sound.
 ///
-/// Each signature of a Begun and a Parted is verified once, each text read once. The place of a bill is found once,
-/// which goes over the diary several times and copies the known chain.
+/// Each signature of a Begun and a Parted is verified once, each text read once. The rest is a few searches of ordered
+/// maps, whatever the length of the diary: its records are gone over only where two entries of a bill have one
+/// reference, or two documents one checksum, and once for a frame that may not follow.
 pub fn may_follow<G: KeyRing>(
     alloc: Global,
     roster: &Roster,
     ring: &G,
     me: PlatformCode,
-    diary: &Diary,
+    register: &Register,
     frame: &Frame,
 ) -> Result<bool, NoMemory>
-    requires sound { IsSound me diary.now }
+    requires sound { IsSound me register.now.diary }
     requires spelled { HasSpelling (kept frame.now) }
     ensures { IfOk result (λ may. IsTrue may
-        ↔ FollowsDiaryLegally roster.now (G.keys ring.now) me diary.now frame.now) }
+        ↔ FollowsDiaryLegally roster.now (G.keys ring.now) me register.now.diary frame.now) }
 {
     match frame {
-        Frame::One(kept) => record_may_follow(alloc, roster, ring, me, diary, kept),
-        Frame::BegunTaken(kept) => taken_may_follow(alloc, roster, ring, me, diary, kept),
+        Frame::One(kept) => record_may_follow(alloc, roster, ring, me, register, kept),
+        Frame::BegunTaken(kept) => taken_may_follow(alloc, roster, ring, me, register, kept),
     }
 }
 
@@ -52,22 +54,22 @@ fn record_may_follow<G: KeyRing>(
     roster: &Roster,
     ring: &G,
     me: PlatformCode,
-    d: &Diary,
+    register: &Register,
     one: &Record,
 ) -> Result<bool, NoMemory>
-    requires sound { IsSound me d.now }
+    requires sound { IsSound me register.now.diary }
     requires spelled { HasSpelling one.now }
     ensures { IfOk result (λ may. IsTrue may
-        ↔ Follows roster.now (G.keys ring.now) me (newest_first d.now) one.now) }
+        ↔ Follows roster.now (G.keys ring.now) me (newest_first register.now.diary) one.now) }
 {
     match one {
         Record::Signed {
             bill,
             document,
             transaction,
-        } => may_sign(alloc, roster, me, d, *bill, document, transaction),
-        Record::Acted { bill, transaction } => may_act(alloc, d, *bill, transaction),
-        Record::Attached { bill, piece, bytes } => may_attach(alloc, d, *bill, piece, bytes),
+        } => may_sign(alloc, roster, me, register, *bill, document, transaction),
+        Record::Acted { bill, transaction } => Ok(may_act(register, *bill, transaction)),
+        Record::Attached { bill, piece, bytes } => Ok(may_attach(register, *bill, piece, bytes)),
         Record::Parted {
             bill,
             link,
@@ -80,11 +82,11 @@ fn record_may_follow<G: KeyRing>(
                 manifest,
                 manifest_text,
             };
-            may_part(alloc, roster, ring, me, d, parted)
+            may_part(alloc, roster, ring, me, register, parted)
         }
-        Record::Settled { bill, entry } | Record::Regained { bill, entry } => may_end(
-            alloc, d, *bill, *entry,
-        ),
+        Record::Settled { bill, entry } | Record::Regained { bill, entry } => Ok(may_end(
+            register, *bill, *entry,
+        )),
         Record::Begun {
             bill,
             chain,
@@ -97,22 +99,22 @@ fn record_may_follow<G: KeyRing>(
                 manifest,
                 body,
             };
-            may_begin(alloc, roster, ring, me, d, begun)
+            may_begin(alloc, roster, ring, me, register, begun)
         }
         Record::Stored {
             bill,
             entry,
             checksum,
             bytes,
-        } => Ok(may_store(d, *bill, *entry, *checksum, bytes)),
-        Record::Taken { bill, entry } => may_take(alloc, roster, me, d, *bill, *entry),
+        } => Ok(may_store(me, register, *bill, *entry, *checksum, bytes)),
+        Record::Taken { bill, entry } => may_take(alloc, roster, me, register, *bill, *entry),
         Record::Declined {
             bill,
             entry,
             code,
             reason,
             evidence,
-        } => may_decline(alloc, d, *bill, *entry, *code, *reason, evidence),
+        } => Ok(may_decline(register, *bill, *entry, *code, *reason, evidence)),
     }
 }
 
@@ -123,15 +125,15 @@ fn may_begin<G: KeyRing>(
     roster: &Roster,
     ring: &G,
     me: PlatformCode,
-    d: &Diary,
+    register: &Register,
     begun: BegunRef<'_>,
 ) -> Result<bool, NoMemory>
-    requires sound { IsSound me d.now }
+    requires sound { IsSound me register.now.diary }
     requires spelled { IsBegun begun.bill begun.chain.now begun.manifest.now begun.body.now }
-    ensures { IfOk result (λ may. IsTrue may ↔ Follows roster.now (G.keys ring.now) me (newest_first d.now)
+    ensures { IfOk result (λ may. IsTrue may ↔ Follows roster.now (G.keys ring.now) me (newest_first register.now.diary)
         (Begun begun.entry.bill begun.entry.chain.now begun.entry.manifest.now begun.entry.body.now)) }
 {
-    let judged = judge_new(alloc, roster, ring, me, d, begun)?;
+    let judged = judge_new(alloc, roster, ring, me, register, begun)?;
     match judged {
         Some(judgement) => Ok(is_receivable(&judgement)),
         None => Ok(false),
@@ -153,13 +155,13 @@ fn taken_may_follow<G: KeyRing>(
     roster: &Roster,
     ring: &G,
     me: PlatformCode,
-    d: &Diary,
+    register: &Register,
     one: &Record,
 ) -> Result<bool, NoMemory>
-    requires sound { IsSound me d.now }
+    requires sound { IsSound me register.now.diary }
     requires spelled { HasSpelling one.now }
     ensures { IfOk result (λ may. IsTrue may
-        ↔ FollowsDiaryLegally roster.now (G.keys ring.now) me d.now (BegunTaken one.now)) }
+        ↔ FollowsDiaryLegally roster.now (G.keys ring.now) me register.now.diary (BegunTaken one.now)) }
 {
     match one {
         Record::Begun {
@@ -174,7 +176,7 @@ fn taken_may_follow<G: KeyRing>(
                 manifest,
                 body,
             };
-            may_begin_taken(alloc, roster, ring, me, d, begun)
+            may_begin_taken(alloc, roster, ring, me, register, begun)
         }
         _ => Ok(false),
     }
@@ -185,15 +187,15 @@ fn may_begin_taken<G: KeyRing>(
     roster: &Roster,
     ring: &G,
     me: PlatformCode,
-    d: &Diary,
+    register: &Register,
     begun: BegunRef<'_>,
 ) -> Result<bool, NoMemory>
-    requires sound { IsSound me d.now }
+    requires sound { IsSound me register.now.diary }
     requires spelled { IsBegun begun.bill begun.chain.now begun.manifest.now begun.body.now }
-    ensures { IfOk result (λ may. IsTrue may ↔ FollowsDiaryLegally roster.now (G.keys ring.now) me d.now
+    ensures { IfOk result (λ may. IsTrue may ↔ FollowsDiaryLegally roster.now (G.keys ring.now) me register.now.diary
         (BegunTaken (Begun begun.entry.bill begun.entry.chain.now begun.entry.manifest.now begun.entry.body.now))) }
 {
-    let judged = judge_new(alloc, roster, ring, me, d, begun)?;
+    let judged = judge_new(alloc, roster, ring, me, register, begun)?;
     match judged {
         Some(judgement) => Ok(is_accepted(&judgement)),
         None => Ok(false),

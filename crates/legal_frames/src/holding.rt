@@ -7,22 +7,22 @@ ghost use Rattle.party_roster.specs.RosterRecord.{carrier};
 ghost use Rattle.bill_diary.specs.History.{history};
 ghost use Rattle.bill_diary.specs.Sound.{MayAct, MayAttach};
 ghost use Rattle.bill_diary.specs.Texts.{IsDocumentOf};
+ghost use Rattle.title_register.specs.PlaceRef.{place_view};
 ghost use Rattle.chain_entry.specs.Form.{IsTransaction};
 ghost use Rattle.record_bytes.specs.Forms.{IsSigned};
 ghost use Rattle.transfer_judge.specs.Legal.{SignsLegally};
 ghost use Rattle.legal_frames.specs.Rows.{HasRoom, IsSignBy, is_absent, stays_at, stays_on};
 
 use crate::places::is_absent;
-use bill_chain::fold_after_chain;
-use bill_diary::{BillPlace, Diary, may_act as possessor_may_act, pieces, place};
 use canonical_json::read_if_any;
 use ebl_base::{
     ByteList, Checksum, Kind, MAX_DOCUMENTS, NoMemory, Party, PlatformCode, Transaction,
 };
-use envelope_manifest::{Piece, PieceList};
+use envelope_manifest::Piece;
 use party_roster::Roster;
 use std::alloc::Global;
 use title_fold::{FoldRefusal, Title, apply, moves};
+use title_register::{PlaceRef, Register};
 use transfer_judge::{fits_beside, lists, most_with};
 use transport_document::{Document, DocumentFault, document_texts_read_back};
 use upload_state::fits;
@@ -34,20 +34,19 @@ pub(crate) fn may_sign(
     alloc: Global,
     roster: &Roster,
     me: PlatformCode,
-    d: &Diary,
+    register: &Register,
     bill: Checksum,
     document: &ByteList,
     t: &Transaction,
 ) -> Result<bool, NoMemory>
     requires { IsSigned bill document.now t.now }
     ensures { IfOk result (λ may. IsTrue may
-        ↔ SignsLegally roster.now me (history bill d.now) bill document.now t.now) }
+        ↔ SignsLegally roster.now me (history bill register.now.diary) bill document.now t.now) }
 {
     if !is_sign_by(me, t) {
         return Ok(false);
     }
-    let place = place(alloc, d, bill)?;
-    if !is_absent(&place) {
+    if !is_absent(register.place(bill)) {
         return Ok(false);
     }
     let document = document_of(alloc, document)?;
@@ -87,28 +86,19 @@ fn is_carrier(roster: &Roster, document: &Document, party: Party) -> bool
 // ---- a party acts
 
 /// Whether an Acted of this bill may follow.
-pub(crate) fn may_act(
-    alloc: Global,
-    d: &Diary,
-    bill: Checksum,
-    t: &Transaction,
-) -> Result<bool, NoMemory>
+pub(crate) fn may_act(register: &Register, bill: Checksum, t: &Transaction) -> bool
     requires { IsTransaction t.now }
-    ensures { IfOk result (λ may. IsTrue may ↔ MayAct (history bill d.now) t.now) }
+    ensures { IsTrue result ↔ MayAct (history bill register.now.diary) t.now }
 {
-    let place = place(alloc, d, bill)?;
-    Ok(stays_at(&place, t))
+    stays_at(register.place(bill), register.title(bill), t)
 }
 
-fn stays_at(place: &BillPlace, t: &Transaction) -> bool
-    ensures { result ≡ stays_at t.now place.now }
+// Whether a transaction is taken at a place with this title, and stays.
+fn stays_at(place: PlaceRef<'_>, title: Result<Option<Title>, FoldRefusal>, t: &Transaction) -> bool
+    ensures { result ≡ stays_at t.now title (place_view place.entry) }
 {
     match place {
-        BillPlace::Held { known, since } => stays_on(
-            fold_after_chain(known.as_slice(), since.as_slice()),
-            since.len(),
-            t,
-        ),
+        PlaceRef::Held { since, .. } => stays_on(title, since.len(), t),
         _ => false,
     }
 }
@@ -128,32 +118,28 @@ fn stays_on(title: Result<Option<Title>, FoldRefusal>, made: usize, t: &Transact
 
 /// Whether an Attached of this bill may follow.
 pub(crate) fn may_attach(
-    alloc: Global,
-    d: &Diary,
+    register: &Register,
     bill: Checksum,
     piece: &Piece,
     bytes: &ByteList,
-) -> Result<bool, NoMemory>
+) -> bool
     requires { IsPiece piece.now }
-    ensures { IfOk result (λ may. IsTrue may ↔ MayAttach (history bill d.now) piece.now bytes.now) }
+    ensures { IsTrue result ↔ MayAttach (history bill register.now.diary) piece.now bytes.now }
 {
-    let acts = possessor_may_act(alloc, d, bill)?;
-    if !acts {
-        return Ok(false);
+    if !register.may_act(bill) {
+        return false;
     }
     if !fits(piece, bytes.as_slice()) {
-        return Ok(false);
+        return false;
     }
-    let listed = pieces(alloc, d, bill)?;
-    Ok(has_room(&listed, piece))
+    has_room(register.pieces(bill), piece)
 }
 
 // Whether a document is new beside others, and within the limits with them.
-fn has_room(listed: &PieceList, piece: &Piece) -> bool
+fn has_room(listed: &[Piece], piece: &Piece) -> bool
     requires { piece.now.size ≤ MAX_DOCUMENT_SIZE }
     ensures { IsTrue result ↔ HasRoom listed.now piece.now }
 {
-    let listed = listed.as_slice();
     !lists(listed, piece.checksum)
         && listed.len() < MAX_DOCUMENTS
         && fits_beside(listed, piece.size)

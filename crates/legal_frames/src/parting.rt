@@ -2,26 +2,27 @@
 ghost use Rattle.std.specs.Prelude.{◌≡◌, ◌≢◌, ◌+◌, ◌++◌, ◌∷◌, [], ◌↔◌, count_by, IfNone, IfOk, IfSome, IsTrue};
 ghost use Rattle.ebl_base.specs.declared.transaction.Transaction.{Transaction};
 ghost use Rattle.bill_diary.specs.History.{history};
-ghost use Rattle.bill_diary.specs.Pieces.{pieces_of};
-ghost use Rattle.bill_diary.specs.Place.{place_of};
+ghost use Rattle.bill_diary.specs.Place.{place_of, title_at};
 ghost use Rattle.bill_diary.specs.Sound.{IsParting, is_parted};
+ghost use Rattle.bill_diary.specs.Titles.{unplaced};
+ghost use Rattle.title_register.specs.PlaceRef.{place_view};
 ghost use Rattle.record_bytes.specs.Forms.{IsParted};
 ghost use Rattle.transfer_judge.specs.Legal.{PartsLegally};
 ghost use Rattle.legal_frames.specs.Rows.{IsNextAt, IsNextEntry, MovesOut, is_parting_with, leaves_on};
 
 use crate::envelope::{is_manifest_by, is_signed_by};
 use crate::places::is_parting_with;
-use bill_chain::fold_after_chain;
-use bill_diary::{BillPlace, Diary, PartedRef, count_parted, pieces, place};
+use bill_diary::PartedRef;
 use ebl_base::{
     Chain, Checksum, Entry, MAX_CHAIN_ENTRIES, MAX_ENTRY_TRANSACTIONS, NoMemory, PlatformCode,
     Transaction, TransactionList,
 };
-use envelope_manifest::{Manifest, Piece, PieceList};
+use envelope_manifest::{Manifest, Piece};
 use party_roster::Roster;
 use signed_envelope::KeyRing;
 use std::alloc::Global;
 use title_fold::{FoldRefusal, Title, apply, moves, possessor};
+use title_register::{PlaceRef, Register};
 use transfer_judge::last_name;
 
 // ---- an entry is sent
@@ -32,20 +33,18 @@ pub(crate) fn may_part<G: KeyRing>(
     roster: &Roster,
     ring: &G,
     me: PlatformCode,
-    d: &Diary,
+    register: &Register,
     parted: PartedRef<'_>,
 ) -> Result<bool, NoMemory>
     requires { IsParted parted.bill parted.link.now parted.manifest.now parted.manifest_text.now }
     ensures { IfOk result (λ may. IsTrue may ↔ PartsLegally roster.now (G.keys ring.now) me
-        (history parted.entry.bill d.now) parted.entry.bill parted.entry.link.now parted.entry.manifest.now
+        (history parted.entry.bill register.now.diary) parted.entry.bill parted.entry.link.now parted.entry.manifest.now
         parted.entry.manifest_text.now) }
 {
-    let next = is_next_after(alloc, roster, me, d, parted.bill, &parted.link.entry)?;
-    if !next {
+    if !is_next_after(roster, me, register, parted.bill, &parted.link.entry) {
         return Ok(false);
     }
-    let listed = lists_pieces(alloc, d, parted.bill, parted.manifest)?;
-    if !listed {
+    if !are_listed(parted.manifest, register.pieces(parted.bill)) {
         return Ok(false);
     }
     let signed = is_signed_by(alloc, ring, me, &parted.link.text)?;
@@ -65,31 +64,24 @@ pub(crate) fn may_part<G: KeyRing>(
 
 // Whether an entry is the next that parts with a bill, where it is.
 fn is_next_after(
-    alloc: Global,
     roster: &Roster,
     me: PlatformCode,
-    d: &Diary,
+    register: &Register,
     bill: Checksum,
     entry: &Entry,
-) -> Result<bool, NoMemory>
-    ensures { IfOk result (λ is. IsTrue is ↔ IsNextAt roster.now me bill
-        (count_by is_parted (history bill d.now)) entry.now (place_of (history bill d.now))) }
+) -> bool
+    ensures { let h = history bill register.now.diary in IsTrue result
+        ↔ IsNextAt roster.now me bill (count_by is_parted h) entry.now (unplaced (title_at (place_of h))) (place_of h) }
 {
-    let place = place(alloc, d, bill)?;
-    Ok(is_next_at(roster, me, bill, count_parted(d, bill), entry, &place))
-}
-
-// Whether a manifest lists the documents of a bill.
-fn lists_pieces(
-    alloc: Global,
-    d: &Diary,
-    bill: Checksum,
-    manifest: &Manifest,
-) -> Result<bool, NoMemory>
-    ensures { IfOk result (λ lists. IsTrue lists ↔ (manifest.now.documents ≡ pieces_of (history bill d.now))) }
-{
-    let listed = pieces(alloc, d, bill)?;
-    Ok(are_listed(manifest, &listed))
+    is_next_at(
+        roster,
+        me,
+        bill,
+        register.partings(bill),
+        entry,
+        register.title(bill),
+        register.place(bill),
+    )
 }
 
 fn is_next_at(
@@ -98,13 +90,14 @@ fn is_next_at(
     bill: Checksum,
     parted: usize,
     entry: &Entry,
-    place: &BillPlace,
+    title: Result<Option<Title>, FoldRefusal>,
+    place: PlaceRef<'_>,
 ) -> bool
-    ensures { IsTrue result ↔ IsNextAt roster.now me bill parted entry.now place.now }
+    ensures { IsTrue result ↔ IsNextAt roster.now me bill parted entry.now title (place_view place.entry) }
 {
     match place {
-        BillPlace::Held { known, since } => is_next(me, bill, parted, known, entry)
-            && moves_out(roster, known, since, entry.transactions.as_slice()),
+        PlaceRef::Held { known, since } => is_next(me, bill, parted, known, entry)
+            && moves_out(roster, title, since, entry.transactions.as_slice()),
         _ => false,
     }
 }
@@ -121,23 +114,19 @@ fn is_next(me: PlatformCode, bill: Checksum, parted: usize, known: &Chain, entry
         && entry.transactions.len() <= MAX_ENTRY_TRANSACTIONS
 }
 
-// Whether transactions are those made since a known chain and one more, which moves to a listed platform.
+// Whether transactions are those made since and one more, which moves from this title to a listed platform.
 fn moves_out(
     roster: &Roster,
-    known: &Chain,
+    title: Result<Option<Title>, FoldRefusal>,
     since: &TransactionList,
     transactions: &[Transaction],
 ) -> bool
-    ensures { IsTrue result ↔ MovesOut roster.now known.now since.now transactions.now }
+    ensures { IsTrue result ↔ MovesOut roster.now title since.now transactions.now }
 {
     let Some(last) = one_more(since.as_slice(), transactions) else {
         return false;
     };
-    leaves_on(
-        roster,
-        fold_after_chain(known.as_slice(), since.as_slice()),
-        &last,
-    )
+    leaves_on(roster, title, &last)
 }
 
 // The transaction that stands behind others.
@@ -182,10 +171,10 @@ fn leaves_on(roster: &Roster, title: Result<Option<Title>, FoldRefusal>, t: &Tra
 }
 
 // Whether a manifest lists these documents.
-fn are_listed(manifest: &Manifest, listed: &PieceList) -> bool
+fn are_listed(manifest: &Manifest, listed: &[Piece]) -> bool
     ensures { IsTrue result ↔ (manifest.now.documents ≡ listed.now) }
 {
-    are_same(manifest.documents.as_slice(), listed.as_slice())
+    are_same(manifest.documents.as_slice(), listed)
 }
 
 // Whether two lists of documents are one.
@@ -217,14 +206,8 @@ fn is_same(piece: &Piece, other: &Piece) -> bool
 // ---- how it ends
 
 /// Whether a Settled or a Regained of this entry may follow.
-pub(crate) fn may_end(
-    alloc: Global,
-    d: &Diary,
-    bill: Checksum,
-    entry: Checksum,
-) -> Result<bool, NoMemory>
-    ensures { IfOk result (λ may. IsTrue may ↔ IsParting (history bill d.now) entry) }
+pub(crate) fn may_end(register: &Register, bill: Checksum, entry: Checksum) -> bool
+    ensures { IsTrue result ↔ IsParting (history bill register.now.diary) entry }
 {
-    let place = place(alloc, d, bill)?;
-    Ok(is_parting_with(entry, &place))
+    is_parting_with(entry, register.place(bill))
 }

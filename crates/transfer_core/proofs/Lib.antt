@@ -2,7 +2,6 @@ mod DeskLemmas
 mod GiveLemmas
 mod LookUpLemmas
 mod PartLemmas
-mod PartingLemmas
 mod PutLemmas
 mod StartLemmas
 mod StepLemmas

@@ -25,7 +25,6 @@ ghost use Rattle.transfer_core.specs.Decision.{step_by};
 ghost use Rattle.transfer_core.specs.Held.{IsHeld};
 
 use crate::decision::{Decision, done, done_with, only_reply};
-use crate::planning::plan;
 use crate::transfer::start_message;
 use bill_diary::Record;
 use canonical_json::Json;
@@ -44,7 +43,7 @@ use platform_requests::{MessageList, Reply};
 use signed_envelope::{ComposeFault, KeyRing, compose};
 use std::alloc::Global;
 use title_register::{PlaceRef, Register};
-use transfer_judge::{PlanRefusal, Planned};
+use transfer_judge::{PlanRefusal, Planned, plan};
 
 /// What a party's command comes to at a moment. Nothing is written yet.
 ///

@@ -23,7 +23,6 @@ ghost use Rattle.transfer_core.specs.Shard.{AreShort, IsCarriedOut, IsStepped, I
 
 use crate::deciding::decide;
 use crate::decision::Decision;
-use crate::planning::has_attempts;
 use crate::replying::reply_now;
 use bill_diary::{Diary, Frame};
 use ebl_base::{Checksum, Items, Moment, NoMemory, Party, PlatformCode};
@@ -36,7 +35,7 @@ use signed_envelope::KeyRing;
 use std::alloc::Global;
 use std::marker::Model;
 use title_register::Register;
-use transfer_judge::legal_diary_is_sound;
+use transfer_judge::{has_attempts, legal_diary_is_sound};
 
 /// One shard of a platform: what it wrote down of its bills, and how it takes requests about them.
 #[derive(Drop)]

@@ -19,8 +19,6 @@ use crate::answering::{
     subject_of, taken_with,
 };
 use crate::decision::{DecidedReply, Decision};
-use crate::judging::judge;
-use crate::lookups::last_with_reference;
 use crate::preface::{Shown, show};
 use bill_diary::{Frame, Record};
 use ebl_base::{ByteList, Items, NoMemory, PlatformCode, Reference};
@@ -30,8 +28,8 @@ use platform_machine::{Refusal, Subject};
 use platform_requests::Reply;
 use signed_envelope::KeyRing;
 use std::alloc::Global;
-use title_register::Register;
-use transfer_judge::Judgement;
+use title_register::{Register, last_with_reference};
+use transfer_judge::{Judgement, judge};
 
 /// What the start of a transfer with this body comes to. Nothing is written yet.
 ///

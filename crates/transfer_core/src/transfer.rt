@@ -12,7 +12,6 @@ ghost use Rattle.canonical_json.specs.Reading.{value_in};
 ghost use Rattle.platform_machine.specs.Transfer.{IsStartBody, IsUnderWay, NothingUnderWay, SendsStart, document_in, document_of_body, if_read, put_of, reference_at, uploads_of};
 ghost use Rattle.transfer_core.specs.Transfer.{transfer_view};
 
-use crate::lookups::{first_bytes, last_body, last_parted_record, signed_text};
 use bill_diary::{PartedRef, Record};
 use canonical_json::{Json, read_if_any};
 use ebl_base::{
@@ -23,7 +22,7 @@ use envelope_manifest::{Body, BodyFault, Piece};
 use platform_requests::{Message, MessageList};
 use std::alloc::Global;
 use title_fold::possessor;
-use title_register::{PlaceRef, Register};
+use title_register::{PlaceRef, Register, first_bytes, last_body, last_parted_record, signed_text};
 use upload_state::reference_of;
 
 /// A transfer of a bill that is under way from here.

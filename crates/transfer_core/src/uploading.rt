@@ -1,9 +1,7 @@
 //! What the documents and the finish of a transfer come to, at the platform to which they are sent.
-ghost use Rattle.std.specs.Prelude.{◌≡◌, ◌≤◌, Err, IfOk, IsTrue, None, Some, if◌then◌else◌, option_copied};
+ghost use Rattle.std.specs.Prelude.{◌≡◌, ◌≤◌, Err, IfOk, None, Some, if◌then◌else◌, option_copied};
 ghost use Rattle.ebl_base.specs.Faults.{Rose};
 ghost use Rattle.document_checksum.specs.Digest.{checksum_of};
-ghost use Rattle.bill_diary.specs.History.{history, record_at};
-ghost use Rattle.bill_diary.specs.Pieces.{are_there, brings_bytes};
 ghost use Rattle.bill_diary.specs.Sound.{IsSound};
 ghost use Rattle.pint_responses.specs.Response.{IsSealable};
 ghost use Rattle.pint_responses.specs.declared.fault.SealFault.TheVariants.{Sign};
@@ -16,9 +14,7 @@ ghost use Rattle.transfer_core.specs.Decision.{step_by};
 
 use crate::answering::{answer_with, document_response, frame_without, response_for, subject_of};
 use crate::decision::{DecidedReply, Decision, only_reply};
-use crate::judging::judge;
-use crate::lookups::{first_bytes, last_with_reference};
-use bill_diary::{BegunRef, Frame, History, Record, RecordRef};
+use bill_diary::{BegunRef, Frame, Record};
 use ebl_base::{ByteList, Checksum, Items, PlatformCode, Reason, Reference};
 use envelope_manifest::{Manifest, Piece};
 use party_roster::Roster;
@@ -26,7 +22,8 @@ use pint_responses::SealFault;
 use platform_requests::Reply;
 use signed_envelope::KeyRing;
 use std::alloc::Global;
-use title_register::Register;
+use title_register::{Register, are_there, last_with_reference};
+use transfer_judge::judge;
 use upload_state::fits;
 
 /// What a document, sent under a reference and a checksum, comes to. Nothing is written yet.
@@ -116,51 +113,6 @@ fn frame_at_put(
         checksum,
         bytes,
     }))
-}
-
-// Whether these bytes are there for a bill: attached, or stored. They are asked for by their checksum. Only where other
-// bytes have the same one are the records of the bill gone over.
-#[tactic(auto, using(crate::proofs::PutLemmas::puts))]
-fn are_there(
-    me: PlatformCode,
-    register: &Register,
-    bill: Checksum,
-    checksum: Checksum,
-    bytes: &[u8],
-) -> bool
-    requires sound { IsSound me register.now.diary }
-    requires named { checksum ≡ checksum_of bytes.now }
-    ensures { result ≡ are_there (history bill register.now.diary) bytes.now }
-{
-    match first_bytes(register, bill, checksum) {
-        Some(first) => first.as_slice() == bytes || are_among(register.frames(), bill, bytes),
-        None => false,
-    }
-}
-
-fn are_among(frames: &[Frame], bill: Checksum, bytes: &[u8]) -> bool
-    ensures { result ≡ are_there (history bill frames.now) bytes.now }
-{
-    let mut left = History::of(frames, bill);
-    while let Some(record) = left.next() {
-        if brings_bytes(record, bytes) {
-            return true;
-        }
-    }
-    false
-}
-
-fn brings_bytes(one: RecordRef, bytes: &[u8]) -> bool
-    ensures { result ≡ brings_bytes bytes.now (record_at one.entry) }
-{
-    match one {
-        RecordRef::Kept(kept) => match kept {
-            Record::Attached { bytes: other, .. } | Record::Stored { bytes: other, .. } =>
-                other.as_slice() == bytes,
-            _ => false,
-        },
-        RecordRef::Taken { .. } => false,
-    }
 }
 
 /// What the finish of a transfer comes to: the judgement on the last Begun with the reference. Nothing is written yet.

@@ -1,4 +1,5 @@
 pub mod DisputeLemmas
+pub mod PartingLemmas
 pub mod MissingLemmas
 pub mod LegalLemmas
 pub mod FrameLemmas

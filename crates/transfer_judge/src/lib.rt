@@ -10,7 +10,6 @@ mod plan_laws;
 mod planned;
 mod planning;
 
-pub use dispute::{evidence_of, evidence_unless_beyond, text_at};
 pub use judgement::Judgement;
 pub use judging::judge;
 pub use laws::{
@@ -19,9 +18,7 @@ pub use laws::{
     front_of_legal_diary_is_legal, legal_diaries_sign_no_document_on_two_platforms,
     legal_diary_is_sound, what_is_judged_can_be_sealed,
 };
-pub use plan_cases::{
-    attach_refusal, fits_beside, last_name, lists, missing_party, most_with, plan_bytes, plan_stay,
-};
+pub use plan_cases::{fits_beside, last_name, lists, most_with};
 pub use plan_laws::{
     nothing_is_planned_only_for_listed_bytes, planned_attempt_is_the_next,
     planned_entry_has_its_form, planned_entry_may_follow, planned_platform_is_the_destination,

@@ -26,7 +26,7 @@ use title_fold::{FoldRefusal, Title, possessor};
 /// was asked for is refused, the asker, whose platform isn't listed.
 ///
 /// A recipient is unknown where its platform isn't listed, or is `me` and the roster doesn't know the party.
-pub fn missing_party(
+pub(crate) fn missing_party(
     roster: &Roster,
     me: PlatformCode,
     before: Option<Title>,
@@ -67,7 +67,7 @@ pub fn last_name(known: &Chain) -> Option<Checksum>
 }
 
 /// What a transaction comes to that leaves possession here: an Acted, where there is room for what has to follow.
-pub fn plan_stay(
+pub(crate) fn plan_stay(
     bill: Checksum,
     since: &TransactionList,
     t: Transaction,
@@ -99,7 +99,7 @@ pub fn most_with(kind: Kind) -> usize
 // ---- an attachment
 
 /// The rule that refuses an attachment by this party: the title is ended, or the party isn't the possessor.
-pub fn attach_refusal(title: Option<Title>, party: Party) -> Option<FoldRefusal>
+pub(crate) fn attach_refusal(title: Option<Title>, party: Party) -> Option<FoldRefusal>
     ensures { result ≡ attach_refusal title party }
 {
     match title {
@@ -117,7 +117,7 @@ pub fn attach_refusal(title: Option<Title>, party: Party) -> Option<FoldRefusal>
 /// Attached, where the documents are at most 16 with it, of at most 4,194,304 bytes together.
 ///
 /// The bytes are hashed once, and copied where they are added.
-pub fn plan_bytes(
+pub(crate) fn plan_bytes(
     alloc: Global,
     bill: Checksum,
     pieces: &[Piece],

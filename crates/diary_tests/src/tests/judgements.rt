@@ -2,11 +2,11 @@
 //! chains that end nowhere.
 use super::entries::{Sample, sample_of, samples, written_text};
 use super::making::{THE_BILL, another_bill, assert_text, bill_name, code, columns, roster};
-use super::steps::{diary, manifest};
-use bill_diary::Diary;
+use super::steps::{diary, manifest, register_of};
 use ebl_base::{Checksum, Copied, Evidence};
 use std::alloc::{AllocError, Global};
 use std::process::Abort;
+use title_register::Register;
 use transfer_judge::{Judgement, judge};
 
 // The platform, the chain that is shown there, the bill that its manifest names, what was written down of the chain's
@@ -39,14 +39,14 @@ fn judged_by<R: Abort>(
     rt: &R,
     alloc: Global,
     at: &str,
-    diary: &Diary,
+    register: &Register,
     sample: &Sample,
     named: Checksum,
 ) -> Judgement {
     let me = code(rt, at);
     let manifest = manifest(alloc, named, sample.name().unwrap_or(named));
     let roster = roster(rt, alloc);
-    judge(alloc, diary, &roster, me, &sample.chain, &manifest).expect(rt, "no error")
+    judge(alloc, register, &roster, me, &sample.chain, &manifest).expect(rt, "no error")
 }
 
 fn bill_of<R: Abort>(rt: &R, alloc: Global, word: &str) -> Checksum {
@@ -60,8 +60,8 @@ fn judged<R: Abort>(rt: &R, alloc: Global, samples: &[Sample], row: &str) -> Jud
     let [at, entries, named, steps, _] = columns(row);
     let named = bill_of(rt, alloc, named);
     let sample = sample_of(rt, samples, THE_BILL, entries);
-    let diary = diary(rt, alloc, samples, THE_BILL, steps);
-    judged_by(rt, alloc, at, &diary, sample, named)
+    let register = register_of(rt, alloc, diary(rt, alloc, samples, THE_BILL, steps));
+    judged_by(rt, alloc, at, &register, sample, named)
 }
 
 fn put_evidence(

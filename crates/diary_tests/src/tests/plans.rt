@@ -1,11 +1,12 @@
 //! Commands after more transactions since the last entry than any plan lets come.
 use super::making::{THE_BILL, assert_text, bill_name, code, columns, moment, roster, transaction};
-use super::steps::{diary, write_down};
+use super::steps::{diary, register_of, write_down};
 use bill_diary::Diary;
 use ebl_base::Party;
 use holder_commands::Command;
 use std::alloc::Global;
 use std::process::Abort;
+use title_register::Register;
 use transfer_judge::{has_attempts, plan};
 
 // At ALPH, after SIGN and ISSUE: so many transfers to the bank and back, the acts after them, an act that is asked for,
@@ -39,33 +40,39 @@ fn held<R: Abort>(rt: &R, alloc: Global, transfers: &str, acts: &str) -> Diary {
 }
 
 // What the plan of a command of a party is.
-fn planned<R: Abort>(rt: &R, alloc: Global, diary: &Diary, by: Party, command: &Command) -> String {
-    if !has_attempts(diary, command) {
+fn planned<R: Abort>(
+    rt: &R,
+    alloc: Global,
+    register: &Register,
+    by: Party,
+    command: &Command,
+) -> String {
+    if !has_attempts(register, command) {
         panic!(rt; "too many attempts");
     }
     let (me, now) = (code(rt, "ALPH"), moment(rt));
     let roster = roster(rt, alloc);
-    match plan(alloc, diary, &roster, me, by, command, now) {
+    match plan(alloc, register, &roster, me, by, command, now) {
         Ok(_) => String::from_str(alloc, "planned").expect(rt, "no error"),
         Err(refusal) => format!(in alloc; "{refusal:?}").expect(rt, "no error"),
     }
 }
 
 // The same of an act that its actor asks for.
-fn asked<R: Abort>(rt: &R, alloc: Global, diary: &Diary, act: &str) -> String {
+fn asked<R: Abort>(rt: &R, alloc: Global, register: &Register, act: &str) -> String {
     let transaction = transaction(rt, act);
     let command = Command::Act {
         bill: bill_name(rt, alloc, THE_BILL),
         kind: transaction.kind,
         recipient: transaction.recipient,
     };
-    planned(rt, alloc, diary, transaction.actor, &command)
+    planned(rt, alloc, register, transaction.actor, &command)
 }
 
 fn assert_row<R: Abort>(rt: &R, alloc: Global, row: &str) {
     let [transfers, acts, act, want, _] = columns(row);
-    let diary = held(rt, alloc, transfers, acts);
-    let seen = asked(rt, alloc, &diary, act);
+    let register = register_of(rt, alloc, held(rt, alloc, transfers, acts));
+    let seen = asked(rt, alloc, &register, act);
     assert_text(rt, seen.as_str(), want, row);
 }
 

@@ -21,6 +21,7 @@ use ebl_base::{
 use envelope_manifest::{Body, Manifest, Piece, encode as encode_manifest};
 use std::alloc::Global;
 use std::process::Abort;
+use title_register::Register;
 
 // ---- documents
 
@@ -252,4 +253,14 @@ pub(crate) fn diary<R: Abort>(
     let mut diary = Items::new(alloc);
     write_down(rt, alloc, samples, bill, &mut diary, steps);
     diary
+}
+
+/// The register of a diary.
+pub(crate) fn register_of<R: Abort>(rt: &R, alloc: Global, diary: Diary) -> Register {
+    let mut register = Register::new(alloc);
+    for frame in diary.into_vec() {
+        register.reserve(alloc, &frame).expect(rt, "no error");
+        register.add(frame);
+    }
+    register
 }

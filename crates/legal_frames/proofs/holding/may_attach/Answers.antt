@@ -5,11 +5,11 @@ use Rattle.legal_frames.proofs.TestLemmas.{isnt, never}
 use Rattle.legal_frames.proofs.HoldingLemmas.{attach_acts, attaches}
 use Rattle.legal_frames.proofs.holding.may_attach.Goals as goal
 
-pub returns-then-not-acts : goal.returns-then-not-acts
-returns-then-not-acts c =
+pub returns-then-not-may_act : goal.returns-then-not-may_act
+returns-then-not-may_act c =
     never (λ x.
-    let acts = attach_acts (history c.args.bill c.args.d.now) c.args.piece.now c.args.bytes.now x in
-    let clash = sym c.if-not-acts.true ∙ c.in_ok-acts.ensures ∙ acts in
+    let acts = attach_acts (history c.args.bill c.args.register.now.diary) c.args.piece.now c.args.bytes.now x in
+    let clash = sym c.if-not-may_act.true ∙ c.may_act.ensures ∙ acts in
     cc clash)
 
 pub returns-then-not-fits : goal.returns-then-not-fits
@@ -20,7 +20,7 @@ returns-then-not-fits c =
 
 pub returns : goal.returns
 returns c =
-    attaches (history c.args.bill c.args.d.now) c.args.piece.now c.args.bytes.now c.in_ok-listed.listed
-    c.has_room.result c.requires (sym c.in_ok-acts.ensures ∙ c.if-not-acts.false)
-    (subst (Fits c.args.piece.now) c.as_slice.ensures (c.fits.ensures.0 c.if-not-fits.false)) c.in_ok-listed.ensures
+    attaches (history c.args.bill c.args.register.now.diary) c.args.piece.now c.args.bytes.now c.pieces.result.now
+    c.has_room.result c.requires (sym c.may_act.ensures ∙ c.if-not-may_act.false)
+    (subst (Fits c.args.piece.now) c.as_slice.ensures (c.fits.ensures.0 c.if-not-fits.false)) c.pieces.ensures
     c.has_room.ensures

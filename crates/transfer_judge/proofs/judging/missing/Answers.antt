@@ -8,7 +8,7 @@ use Rattle.transfer_judge.proofs.judging.missing.Goals.{then-not-has_bytes+in_ok
 
 pub loop-piece-preserved : goal.loop-piece-preserved
 loop-piece-preserved c =
-    let keeps : Checksum → Bool = λ checksum. not (is_there (history c.args.bill c.args.d.now) checksum) in
+    let keeps : Checksum → Bool = λ checksum. not (is_there (history c.args.bill c.args.register.now.diary) checksum) in
     let pieces = c.as_slice-piece-items.result.now in
     let piece = c.piece-item.result in
     let rest = kept keeps (drop (c.loop-piece.piece-index + 1) pieces) in

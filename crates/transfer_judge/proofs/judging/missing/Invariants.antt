@@ -6,6 +6,6 @@ use Rattle.transfer_judge.proofs.judging.missing.Given as goal
 
 abbrev pub invariant-loop-piece : goal.invariant-loop-piece
 invariant-loop-piece l =
-    l.missing ++ filter (λ checksum. not (is_there (history l.bill l.d) checksum))
+    l.missing ++ filter (λ checksum. not (is_there (history l.bill l.register.diary) checksum))
     (map (λ piece. piece.checksum) (drop l.piece-index l.piece-items))
-    ≡ missing_of l.m (history l.bill l.d)
+    ≡ missing_of l.m (history l.bill l.register.diary)

@@ -1,7 +1,7 @@
 use Rattle.std.proofs.Common.{Some, ap, sym, ◌∙◌}
 use Rattle.std.proofs.lemmas.Option.{slice_get_past}
-use Rattle.transfer_core.proofs.PartingLemmas.{link_or, own_text_at}
-use Rattle.transfer_core.proofs.dispute.own_link_at.Goals as goal
+use Rattle.transfer_judge.proofs.PartingLemmas.{link_or, own_text_at}
+use Rattle.transfer_judge.proofs.dispute.own_link_at.Goals as goal
 
 pub returns-in-None : goal.returns-in-None
 returns-in-None c =

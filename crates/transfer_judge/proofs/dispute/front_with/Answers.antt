@@ -1,7 +1,7 @@
 use Rattle.std.proofs.Common.{sym}
-use Rattle.transfer_core.proofs.PartingLemmas.{front_of_another, front_of_none, front_one_more, front_short}
-use Rattle.transfer_core.proofs.dispute.front_with.Goals as goal
-use Rattle.transfer_core.proofs.dispute.front_with.Goals.{else-front-known-via-then-front-known+then-front-shown+else-eq, else-front-known-via-then-front-known+else-front-shown, else-front-known-via-else-front-known}
+use Rattle.transfer_judge.proofs.PartingLemmas.{front_of_another, front_of_none, front_one_more, front_short}
+use Rattle.transfer_judge.proofs.dispute.front_with.Goals as goal
+use Rattle.transfer_judge.proofs.dispute.front_with.Goals.{else-front-known-via-then-front-known+then-front-shown+else-eq, else-front-known-via-then-front-known+else-front-shown, else-front-known-via-else-front-known}
 
 pub returns-then-eq : goal.returns-then-eq
 returns-then-eq c =

@@ -1,5 +1,5 @@
-use Rattle.transfer_core.proofs.PartingLemmas.{beyond_needs_both, beyond_where_longer}
-use Rattle.transfer_core.proofs.dispute.goes_beyond_both.Goals as goal
+use Rattle.transfer_judge.proofs.PartingLemmas.{beyond_needs_both, beyond_where_longer}
+use Rattle.transfer_judge.proofs.dispute.goes_beyond_both.Goals as goal
 
 pub returns-then-front-known : goal.returns-then-front-known
 returns-then-front-known c =
