@@ -6,8 +6,9 @@ use pint_http::serve_link;
 use platform_requests::{MemoryDesk, Outcome};
 use std::alloc::Global;
 use std::io;
-use std::io::ErrorKind;
-use std::net::TcpListener;
+use std::io::{ErrorKind, Read};
+use std::net::{Shutdown, TcpListener, TcpStream};
+use std::time::Duration;
 
 /// Serves so many links from a desk, by the words: an address, a number, and names of outcomes. False where these are
 /// wrong.
@@ -63,9 +64,28 @@ fn serve_links(
     println!(rt; "serving {}", listener.local_addr()?)?;
     for _ in 0..links {
         let (stream, _) = listener.accept()?;
-        let mut link = StreamLink::new(stream);
+        let mut link = StreamLink::new(&stream);
         let end = serve_link(rt.alloc(), &mut link, desk, &mut clock);
         println!(rt; "{end:?}")?;
+        read_out(&stream);
     }
     Ok(true)
+}
+
+// Says that nothing more is written, and reads on until the other side closes, for a second of silence or four MiB at
+// most (RFC 9112, 9.6). A socket that is closed with bytes unread is reset, and then the other side can lose a reply.
+fn read_out(mut stream: &TcpStream) {
+    let quiet = stream
+        .shutdown(Shutdown::Write)
+        .and_then(|()| stream.set_read_timeout(Some(Duration::from_secs(1))));
+    if quiet.is_err() {
+        return;
+    }
+    let mut bytes = [0; 4096];
+    for _ in 0..1024 {
+        match stream.read(&mut bytes) {
+            Ok(0) | Err(_) => return,
+            Ok(_) => {}
+        }
+    }
 }
