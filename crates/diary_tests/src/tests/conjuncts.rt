@@ -4,8 +4,7 @@
 use super::entries::samples;
 use super::families::assert_cases;
 use super::making::{THE_BILL, bill_name};
-use super::steps::diary;
-use bill_diary::{Diary, place, title_at};
+use super::steps::register;
 use std::alloc::Global;
 use std::process::Abort;
 use title_fold::{Title, moves};
@@ -97,17 +96,11 @@ fn titles_at_the_end(rt: HostRuntime) {
     assert_cases(&rt, rt.alloc(), TITLES)
 }
 
-fn title_in<R: Abort>(rt: &R, alloc: Global, diary: &Diary) -> Option<Title> {
-    let place = place(alloc, diary, bill_name(rt, alloc, THE_BILL)).expect(rt, "no error");
-    let title = title_at(&place).ok();
-    drop(place);
-    title.expect(rt, "folds")
-}
-
 fn title_after<R: Abort>(rt: &R, alloc: Global, steps: &str) -> Option<Title> {
     let samples = samples(rt, alloc);
-    let diary = diary(rt, alloc, &samples, THE_BILL, steps);
-    title_in(rt, alloc, &diary)
+    let register = register(rt, alloc, &samples, THE_BILL, steps);
+    let title = register.title(bill_name(rt, alloc, THE_BILL)).ok();
+    title.expect(rt, "folds")
 }
 
 // The transaction that is written down as one that stays moves the bill.

@@ -9,8 +9,8 @@
 //! ```
 //!
 //! The columns of a line are the platform and the shard of the diary, the bill, the steps, and what the diary tells of
-//! the bill after them. The survey's are the platforms of the family in their order, and what it finds. What a diary
-//! tells is:
+//! the bill after them, by its register. The survey's are the platforms of the family in their order, and what it
+//! finds. What a diary tells is:
 //!
 //! | Words | What they say |
 //! |---|---|
@@ -26,15 +26,14 @@
 use super::entries::{Sample, named, samples, written, written_chain};
 use super::making::{assert_text, bill_name, code, columns};
 use super::steps::write_down;
-use bill_diary::{
-    BillPlace, Diary, Frame, Record, is_taken, last_declined, may_act, place, signed_text, title_at,
-};
+use bill_diary::{Diary, Frame, Record};
 use closed_family::{Family, Member, Verdict, survey};
 use document_checksum::checksum;
 use ebl_base::{ByteList, Checksum, Copied, Items, PlaceTag, PlatformCode, SignedText};
 use std::alloc::{AllocError, Global};
 use std::process::Abort;
-use title_fold::{Title, possessor};
+use title_fold::{FoldRefusal, Title, possessor};
+use title_register::{PlaceRef, Register, last_declined, signed_text};
 
 // ---- what a diary tells
 
@@ -51,20 +50,20 @@ fn fits(step: &str, before: PlaceTag) -> bool {
     }
 }
 
-fn put_place(text: &mut String, samples: &[Sample], place: &BillPlace) -> Result<(), AllocError> {
+fn put_place(text: &mut String, samples: &[Sample], place: PlaceRef<'_>) -> Result<(), AllocError> {
     match place {
-        BillPlace::Absent => text.push_str("absent"),
-        BillPlace::Held { known, since } => {
+        PlaceRef::Absent => text.push_str("absent"),
+        PlaceRef::Held { known, since } => {
             let known = written_chain(samples, known);
             let made = since.len();
             write!(text, "held {known} {made}")
         }
-        BillPlace::Parting { known, entry } => {
+        PlaceRef::Parting { known, entry } => {
             let known = written_chain(samples, known);
             let parting = written(samples, Some(entry.name));
             write!(text, "parting {known} {parting}")
         }
-        BillPlace::Gone { known } => {
+        PlaceRef::Gone { known } => {
             let known = written_chain(samples, known);
             write!(text, "gone {known}")
         }
@@ -80,8 +79,11 @@ fn stage(title: Title) -> &'static str {
     }
 }
 
-fn put_title(text: &mut String, place: &BillPlace) -> Result<(), AllocError> {
-    match title_at(place) {
+fn put_title(
+    text: &mut String,
+    folded: Result<Option<Title>, FoldRefusal>,
+) -> Result<(), AllocError> {
+    match folded {
         Ok(Some(title)) => {
             let stage = stage(title);
             let possessor = possessor(title).to_text();
@@ -118,9 +120,9 @@ fn taken_by(frame: &Frame) -> Option<Checksum> {
 }
 
 // How often an entry was taken.
-fn takings(diary: &Diary, entry: Checksum) -> usize {
-    diary
-        .as_slice()
+fn takings(register: &Register, entry: Checksum) -> usize {
+    register
+        .frames()
         .iter()
         .filter(|frame| taken_by(frame) == Some(entry))
         .count()
@@ -128,12 +130,12 @@ fn takings(diary: &Diary, entry: Checksum) -> usize {
 
 fn put_taken(
     text: &mut String,
-    diary: &Diary,
+    register: &Register,
     entries: &str,
     entry: Checksum,
 ) -> Result<(), AllocError> {
-    if is_taken(diary, entry) {
-        let times = takings(diary, entry);
+    if register.taken(entry) {
+        let times = takings(register, entry);
         return write!(text, ", took {entries} {times}");
     }
     Ok(())
@@ -141,11 +143,11 @@ fn put_taken(
 
 fn put_declined(
     text: &mut String,
-    diary: &Diary,
+    register: &Register,
     entries: &str,
     entry: Checksum,
 ) -> Result<(), AllocError> {
-    if let Some(declined) = last_declined(diary, entry) {
+    if let Some(declined) = last_declined(register, entry) {
         let code = declined.code.as_str();
         let reason = declined.reason.as_str();
         return write!(text, ", declined {entries} {code} {reason}");
@@ -154,74 +156,51 @@ fn put_declined(
 }
 
 // What became of each entry of the samples that came.
-fn put_answers(text: &mut String, samples: &[Sample], diary: &Diary) -> Result<(), AllocError> {
+fn put_answers(
+    text: &mut String,
+    samples: &[Sample],
+    register: &Register,
+) -> Result<(), AllocError> {
     for sample in samples {
         if let Some(entry) = sample.name() {
-            put_taken(text, diary, sample.entries, entry)?;
-            put_declined(text, diary, sample.entries, entry)?;
+            put_taken(text, register, sample.entries, entry)?;
+            put_declined(text, register, sample.entries, entry)?;
         }
     }
     Ok(())
 }
 
+// Where a bill stands, and its title there.
 fn put_standing(
     text: &mut String,
     samples: &[Sample],
-    place: &BillPlace,
-) -> Result<(), AllocError> {
-    put_place(text, samples, place)?;
-    put_title(text, place)
-}
-
-// Where a bill stands, and its title there.
-fn put_stands<R: Abort>(
-    rt: &R,
-    text: &mut String,
-    alloc: Global,
-    samples: &[Sample],
-    diary: &Diary,
+    register: &Register,
     name: Checksum,
-) {
-    let place = place(alloc, diary, name).expect(rt, "no error");
-    let done = put_standing(text, samples, &place);
-    drop(place);
-    done.expect(rt, "no error")
+) -> Result<(), AllocError> {
+    put_place(text, samples, register.place(name))?;
+    put_title(text, register.title(name))
 }
 
 // Whether the possessor may act, and whether the document was signed.
-fn put_marks<R: Abort>(rt: &R, text: &mut String, alloc: Global, diary: &Diary, name: Checksum) {
-    put_if(
-        text,
-        may_act(alloc, diary, name).expect(rt, "no error"),
-        ", acts",
-    )
-    .expect(rt, "no error");
-    let is_signed = has_name(signed_text(diary, name), name);
-    put_if(text, is_signed, ", signed").expect(rt, "no error")
+fn put_marks(text: &mut String, register: &Register, name: Checksum) -> Result<(), AllocError> {
+    put_if(text, register.may_act(name), ", acts")?;
+    let is_signed = has_name(signed_text(register, name), name);
+    put_if(text, is_signed, ", signed")
 }
 
-// What a diary tells of a bill.
-fn put_told<R: Abort>(
-    rt: &R,
+// What a register tells of a bill.
+fn put_told(
     text: &mut String,
-    alloc: Global,
     samples: &[Sample],
-    diary: &Diary,
+    register: &Register,
     name: Checksum,
-) {
-    put_stands(rt, text, alloc, samples, diary, name);
-    put_marks(rt, text, alloc, diary, name);
-    put_answers(text, samples, diary).expect(rt, "no error")
+) -> Result<(), AllocError> {
+    put_standing(text, samples, register, name)?;
+    put_marks(text, register, name)?;
+    put_answers(text, samples, register)
 }
 
 // ---- diaries
-
-fn tag<R: Abort>(rt: &R, alloc: Global, diary: &Diary, bill: Checksum) -> PlaceTag {
-    let place = place(alloc, diary, bill).expect(rt, "no error");
-    let tag = place.tag();
-    drop(place);
-    tag
-}
 
 // A diary goes on. Whether each step fits where the bill stood before it.
 fn go_on<R: Abort>(
@@ -229,38 +208,44 @@ fn go_on<R: Abort>(
     alloc: Global,
     samples: &[Sample],
     bill: &str,
-    diary: &mut Diary,
+    register: &mut Register,
     steps: &str,
 ) -> bool {
     let name = bill_name(rt, alloc, bill);
     let mut all_fit = true;
     for step in steps.split(", ") {
-        all_fit = fits(step, tag(rt, alloc, diary, name)) && all_fit;
-        write_down(rt, alloc, samples, bill, diary, step);
+        all_fit = fits(step, register.tag(name)) && all_fit;
+        write_down(rt, alloc, samples, bill, register, step);
     }
     all_fit
 }
 
-// What a diary tells after steps that fit or not.
+// What a register tells after steps that fit or not.
 fn told<R: Abort>(
     rt: &R,
     alloc: Global,
     samples: &[Sample],
     bill: &str,
-    diary: &Diary,
+    register: &Register,
     all_fit: bool,
 ) -> String {
     let name = bill_name(rt, alloc, bill);
     let mut text = String::new(alloc);
     put_if(&mut text, !all_fit, "unfit, ").expect(rt, "no error");
-    put_told(rt, &mut text, alloc, samples, diary, name);
+    put_told(&mut text, samples, register, name).expect(rt, "no error");
     text
 }
 
-fn assert_line<R: Abort>(rt: &R, alloc: Global, samples: &[Sample], diary: &mut Diary, line: &str) {
+fn assert_line<R: Abort>(
+    rt: &R,
+    alloc: Global,
+    samples: &[Sample],
+    register: &mut Register,
+    line: &str,
+) {
     let [_, bill, steps, want, _] = columns(line);
-    let all_fit = go_on(rt, alloc, samples, bill, diary, steps);
-    let seen = told(rt, alloc, samples, bill, diary, all_fit);
+    let all_fit = go_on(rt, alloc, samples, bill, register, steps);
+    let seen = told(rt, alloc, samples, bill, register, all_fit);
     assert_text(rt, seen.as_str(), want, line);
 }
 
@@ -277,14 +262,14 @@ fn assert_lines<R: Abort>(
     rt: &R,
     alloc: Global,
     samples: &[Sample],
-    diary: &mut Diary,
+    register: &mut Register,
     lines: &str,
     platform: &str,
     shard: usize,
 ) {
     for line in lines.lines() {
         if is_of(line, platform, shard) {
-            assert_line(rt, alloc, samples, diary, line);
+            assert_line(rt, alloc, samples, register, line);
         }
     }
 }
@@ -298,9 +283,10 @@ pub(crate) fn asserted<R: Abort>(
     platform: &str,
     shard: usize,
 ) -> Diary {
-    let mut diary = Items::new(alloc);
-    assert_lines(rt, alloc, samples, &mut diary, lines, platform, shard);
-    diary
+    let mut register = Register::new(alloc);
+    assert_lines(rt, alloc, samples, &mut register, lines, platform, shard);
+    register.release();
+    register.into_diary()
 }
 
 fn assert_each_diary<R: Abort>(rt: &R, alloc: Global, samples: &[Sample], cases: &str) {

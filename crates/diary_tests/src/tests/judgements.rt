@@ -2,7 +2,7 @@
 //! chains that end nowhere.
 use super::entries::{Sample, sample_of, samples, written_text};
 use super::making::{THE_BILL, another_bill, assert_text, bill_name, code, columns, roster};
-use super::steps::{diary, manifest, register_of};
+use super::steps::{manifest, register};
 use ebl_base::{Checksum, Copied, Evidence};
 use std::alloc::{AllocError, Global};
 use std::process::Abort;
@@ -60,7 +60,7 @@ fn judged<R: Abort>(rt: &R, alloc: Global, samples: &[Sample], row: &str) -> Jud
     let [at, entries, named, steps, _] = columns(row);
     let named = bill_of(rt, alloc, named);
     let sample = sample_of(rt, samples, THE_BILL, entries);
-    let register = register_of(rt, alloc, diary(rt, alloc, samples, THE_BILL, steps));
+    let register = register(rt, alloc, samples, THE_BILL, steps);
     judged_by(rt, alloc, at, &register, sample, named)
 }
 

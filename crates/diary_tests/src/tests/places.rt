@@ -1,20 +1,19 @@
-//! Places of the bill by short diaries, and each search of a diary.
+//! Places of the bill by short diaries, and each search of a register.
 use super::entries::{Sample, sample_of, samples, written, written_chain};
 use super::families::assert_diaries;
 use super::making::{THE_BILL, another_bill, assert_text, bill_name, columns};
-use super::steps::{begun_with, diary, manifest, piece_of, write_down};
-use bill_diary::{
-    Diary, DiaryIndex, Frame, History, Record, count_parted, first_bytes, has_bytes, known_chain,
-    last_body, last_parted_record, last_with_reference, pieces, place, settled_chain, signed_text,
-    taken_chain,
-};
+use super::steps::{add, begun_with, manifest, piece_of, register, write_down};
+use bill_diary::{DiaryIndex, Frame, History, Record, place_of, settled_chain, taken_chain};
 use document_checksum::checksum;
-use ebl_base::{ByteList, Chain, Checksum, Copied, Items};
+use ebl_base::{ByteList, Chain, Checksum, Copied};
 use envelope_manifest::{Manifest, Piece};
 use std::alloc::{AllocError, Global};
 use std::fmt::Debug;
 use std::process::Abort;
 use std::str::from_utf8;
+use title_register::{
+    Register, first_bytes, last_body, last_parted_record, last_with_reference, signed_text,
+};
 use upload_state::reference_of;
 
 // The lines are those of `families`. First, into and out of each place, where the bill began: from no record on, away
@@ -76,8 +75,8 @@ fn known_of<R: Abort>(
     samples: &[Sample],
     history: &History,
 ) -> &'static str {
-    let known = known_chain(alloc, history.restart()).expect(rt, "no error");
-    written_or_none(samples, known.as_ref())
+    let place = place_of(alloc, history.restart()).expect(rt, "no error");
+    written_or_none(samples, place.known())
 }
 
 fn settled_of<R: Abort>(
@@ -129,26 +128,25 @@ fn assert_telling<R: Abort>(
     rt: &R,
     alloc: Global,
     samples: &[Sample],
-    diary: &mut Diary,
+    register: &mut Register,
     row: &str,
 ) {
     let [steps, asked, want, ..] = columns(row);
-    write_down(rt, alloc, samples, THE_BILL, diary, steps);
-    let history = History::of(diary.as_slice(), bill_name(rt, alloc, THE_BILL));
+    write_down(rt, alloc, samples, THE_BILL, register, steps);
+    let history = History::of(register.frames(), bill_name(rt, alloc, THE_BILL));
     assert_tells(rt, alloc, samples, &history, asked, want)
 }
 
-fn assert_tellings<R: Abort>(rt: &R, alloc: Global, samples: &[Sample], diary: &mut Diary) {
+fn assert_tellings<R: Abort>(rt: &R, alloc: Global, samples: &[Sample], register: &mut Register) {
     for row in TELLINGS.lines() {
-        assert_telling(rt, alloc, samples, diary, row);
+        assert_telling(rt, alloc, samples, register, row);
     }
 }
 
 #[test]
 fn chains_that_a_history_tells(rt: HostRuntime) {
     let samples = samples(&rt, rt.alloc());
-    let mut diary = Items::new(rt.alloc());
-    assert_tellings(&rt, rt.alloc(), &samples, &mut diary)
+    assert_tellings(&rt, rt.alloc(), &samples, &mut Register::new(rt.alloc()))
 }
 
 // What the whole history tells, what the first two frames, and what that of an unknown bill.
@@ -171,9 +169,9 @@ fn assert_index<R: Abort>(
     assert_tells(rt, alloc, samples, &unknown, "u.u", told)
 }
 
-fn assert_indexed<R: Abort>(rt: &R, alloc: Global, samples: &[Sample], diary: &Diary) {
+fn assert_indexed<R: Abort>(rt: &R, alloc: Global, samples: &[Sample], frames: &[Frame]) {
     let bill = bill_name(rt, alloc, THE_BILL);
-    let index = DiaryIndex::of(alloc, diary.as_slice()).expect(rt, "no error");
+    let index = DiaryIndex::of(alloc, frames).expect(rt, "no error");
     assert_index(rt, alloc, samples, &index, bill)
 }
 
@@ -183,8 +181,8 @@ const INDEXED: &str = "begun-taken u.u, taken-of-another u.u, parted u.u.u";
 #[test]
 fn chains_that_an_indexed_history_tells(rt: HostRuntime) {
     let samples = samples(&rt, rt.alloc());
-    let diary = diary(&rt, rt.alloc(), &samples, THE_BILL, INDEXED);
-    assert_indexed(&rt, rt.alloc(), &samples, &diary)
+    let register = register(&rt, rt.alloc(), &samples, THE_BILL, INDEXED);
+    assert_indexed(&rt, rt.alloc(), &samples, register.frames())
 }
 
 // ---- documents
@@ -216,36 +214,33 @@ fn stored_late<R: Abort>(rt: &R, alloc: Global, bill: Checksum, entry: Checksum)
     })
 }
 
-fn put_came<R: Abort>(rt: &R, alloc: Global, samples: &[Sample], diary: &mut Diary) {
+fn put_came<R: Abort>(rt: &R, alloc: Global, samples: &[Sample], register: &mut Register) {
     let bill = bill_name(rt, alloc, THE_BILL);
-    diary
-        .push(came(rt, alloc, bill, sample_of(rt, samples, THE_BILL, "u")))
-        .expect(rt, "no error");
-    write_down(rt, alloc, samples, THE_BILL, diary, "attached weights")
+    let sample = sample_of(rt, samples, THE_BILL, "u");
+    add(rt, alloc, register, came(rt, alloc, bill, sample));
+    write_down(rt, alloc, samples, THE_BILL, register, "attached weights")
 }
 
-fn put_stored<R: Abort>(rt: &R, alloc: Global, samples: &[Sample], diary: &mut Diary) {
+fn put_stored<R: Abort>(rt: &R, alloc: Global, samples: &[Sample], register: &mut Register) {
     let bill = bill_name(rt, alloc, THE_BILL);
     let entry = sample_of(rt, samples, THE_BILL, "u").last(rt).name;
-    diary
-        .push(stored_late(rt, alloc, bill, entry))
-        .expect(rt, "no error");
+    add(rt, alloc, register, stored_late(rt, alloc, bill, entry));
     write_down(
         rt,
         alloc,
         samples,
         THE_BILL,
-        diary,
+        register,
         "parted u.u, parted u.o",
     )
 }
 
 // A bill with a document came, was sent on twice, and has one document more.
-fn with_documents<R: Abort>(rt: &R, alloc: Global, samples: &[Sample]) -> Diary {
-    let mut diary = diary(rt, alloc, samples, THE_BILL, "sign");
-    put_came(rt, alloc, samples, &mut diary);
-    put_stored(rt, alloc, samples, &mut diary);
-    diary
+fn with_documents<R: Abort>(rt: &R, alloc: Global, samples: &[Sample]) -> Register {
+    let mut register = register(rt, alloc, samples, THE_BILL, "sign");
+    put_came(rt, alloc, samples, &mut register);
+    put_stored(rt, alloc, samples, &mut register);
+    register
 }
 
 fn text_of(bytes: Option<&ByteList>) -> &str {
@@ -278,11 +273,11 @@ fn put_listed(text: &mut String, pieces: &[Piece]) -> Result<(), AllocError> {
 fn put_parted(
     text: &mut String,
     samples: &[Sample],
-    diary: &Diary,
+    register: &Register,
     bill: Checksum,
 ) -> Result<(), AllocError> {
-    let times = count_parted(diary, bill);
-    let last = match last_parted_record(diary, bill) {
+    let times = register.partings(bill);
+    let last = match last_parted_record(register, bill) {
         Some(parted) => written(samples, Some(parted.link.name)),
         None => "none",
     };
@@ -291,62 +286,62 @@ fn put_parted(
 
 // Whether the packing list's bytes are there, the first bytes of the weights, the last body, and whether the document
 // was signed.
-fn put_bytes(text: &mut String, diary: &Diary, bill: Checksum) -> Result<(), AllocError> {
-    let is_there = has_bytes(diary, bill, checksum(b"packing list"));
-    let weights = text_of(first_bytes(diary, bill, checksum(b"weights")));
-    let body = text_of(last_body(diary, bill));
-    let is_signed = signed_text(diary, bill).is_some();
+fn put_bytes(text: &mut String, register: &Register, bill: Checksum) -> Result<(), AllocError> {
+    let is_there = register.kept(bill, checksum(b"packing list")).is_some();
+    let weights = text_of(first_bytes(register, bill, checksum(b"weights")));
+    let body = text_of(last_body(register, bill));
+    let is_signed = signed_text(register, bill).is_some();
     write!(
         text,
         "bytes {is_there} {weights}, body {body}, signed {is_signed}"
     )
 }
 
-fn searched<R: Abort>(
-    rt: &R,
-    alloc: Global,
+fn put_searched(
+    text: &mut String,
     samples: &[Sample],
-    diary: &Diary,
+    register: &Register,
     bill: Checksum,
-) -> String {
-    let mut text = String::new(alloc);
-    put_listed(
-        &mut text,
-        pieces(alloc, diary, bill).expect(rt, "no error").as_slice(),
-    )
-    .expect(rt, "no error");
-    put_parted(&mut text, samples, diary, bill).expect(rt, "no error");
-    put_bytes(&mut text, diary, bill).expect(rt, "no error");
-    text
+) -> Result<(), AllocError> {
+    put_listed(text, register.pieces(bill))?;
+    put_parted(text, samples, register, bill)?;
+    put_bytes(text, register, bill)
 }
 
 fn assert_searched<R: Abort>(
     rt: &R,
     alloc: Global,
     samples: &[Sample],
-    diary: &Diary,
+    register: &Register,
     bill: Checksum,
     want: &str,
 ) {
-    let seen = searched(rt, alloc, samples, diary, bill);
-    assert_text(rt, seen.as_str(), want, want);
+    let mut text = String::new(alloc);
+    put_searched(&mut text, samples, register, bill).expect(rt, "no error");
+    assert_text(rt, text.as_str(), want, want);
 }
 
 // What the searches find of the bill, and of another one, of which nothing is written down.
-fn assert_searches<R: Abort>(rt: &R, alloc: Global, samples: &[Sample], diary: &Diary, want: &str) {
+fn assert_searches<R: Abort>(
+    rt: &R,
+    alloc: Global,
+    samples: &[Sample],
+    register: &Register,
+    want: &str,
+) {
     let bill = bill_name(rt, alloc, THE_BILL);
-    assert_searched(rt, alloc, samples, diary, bill, want);
+    assert_searched(rt, alloc, samples, register, bill, want);
     let nothing = "parted 0 last none, bytes false none, body none, signed false";
-    assert_searched(rt, alloc, samples, diary, another_bill(), nothing)
+    assert_searched(rt, alloc, samples, register, another_bill(), nothing)
 }
 
 #[test]
 fn searches(rt: HostRuntime) {
     let samples = samples(&rt, rt.alloc());
-    let diary = with_documents(&rt, rt.alloc(), &samples);
+    let register = with_documents(&rt, rt.alloc(), &samples);
     let want =
         "packing list, weights, parted 2 last u.o, bytes false weights, body the body, signed true";
-    assert_searches(&rt, rt.alloc(), &samples, &diary, want)
+    assert_searches(&rt, rt.alloc(), &samples, &register, want)
 }
 
 const STORED: &str = "taken-of-another u, stored packing list, disputed-of-another u.u";
@@ -355,14 +350,14 @@ const STORED: &str = "taken-of-another u, stored packing list, disputed-of-anoth
 #[test]
 fn searches_for_bytes(rt: HostRuntime) {
     let samples = samples(&rt, rt.alloc());
-    let diary = diary(&rt, rt.alloc(), &samples, THE_BILL, STORED);
+    let register = register(&rt, rt.alloc(), &samples, THE_BILL, STORED);
     let want = "parted 0 last none, bytes true none, body none, signed false";
-    assert_searches(&rt, rt.alloc(), &samples, &diary, want)
+    assert_searches(&rt, rt.alloc(), &samples, &register, want)
 }
 
 // The body of the last Begun with the reference of an upload with an entry.
-fn referred(diary: &Diary, bill: Checksum, entry: Checksum) -> &str {
-    match last_with_reference(diary, reference_of(bill, entry)) {
+fn referred(register: &Register, bill: Checksum, entry: Checksum) -> &str {
+    match last_with_reference(register, reference_of(bill, entry)) {
         Some(begun) => text_of(Some(begun.body)),
         None => "none",
     }
@@ -372,22 +367,22 @@ fn assert_referred<R: Abort>(
     rt: &R,
     alloc: Global,
     samples: &[Sample],
-    diary: &Diary,
+    register: &Register,
     entries: &str,
     want: &str,
 ) {
     let entry = sample_of(rt, samples, THE_BILL, entries).last(rt).name;
     let bill = bill_name(rt, alloc, THE_BILL);
-    assert_text(rt, referred(diary, bill, entry), want, entries);
+    assert_text(rt, referred(register, bill, entry), want, entries);
 }
 
 // By the reference of a Begun, which a Parted hasn't.
 #[test]
 fn searches_by_reference(rt: HostRuntime) {
     let samples = samples(&rt, rt.alloc());
-    let diary = with_documents(&rt, rt.alloc(), &samples);
-    assert_referred(&rt, rt.alloc(), &samples, &diary, "u", "the body");
-    assert_referred(&rt, rt.alloc(), &samples, &diary, "u.u", "none")
+    let register = with_documents(&rt, rt.alloc(), &samples);
+    assert_referred(&rt, rt.alloc(), &samples, &register, "u", "the body");
+    assert_referred(&rt, rt.alloc(), &samples, &register, "u.u", "none")
 }
 
 // ---- copies
@@ -408,10 +403,11 @@ fn assert_copied<R: Abort, T: Copied + Debug>(rt: &R, alloc: Global, value: &T) 
 #[test]
 fn copies(rt: HostRuntime) {
     let samples = samples(&rt, rt.alloc());
-    let diary = with_documents(&rt, rt.alloc(), &samples);
+    let mut register = with_documents(&rt, rt.alloc(), &samples);
+    register.release();
+    let diary = register.into_diary();
     assert_copied(&rt, rt.alloc(), &diary);
-    let place = place(rt.alloc(), &diary, bill_name(&rt, rt.alloc(), THE_BILL)).expect(
-        &rt, "no error",
-    );
+    let history = History::of(diary.as_slice(), bill_name(&rt, rt.alloc(), THE_BILL));
+    let place = place_of(rt.alloc(), history).expect(&rt, "no error");
     assert_copied(&rt, rt.alloc(), &place)
 }

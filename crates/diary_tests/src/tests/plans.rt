@@ -1,7 +1,6 @@
 //! Commands after more transactions since the last entry than any plan lets come.
 use super::making::{THE_BILL, assert_text, bill_name, code, columns, moment, roster, transaction};
-use super::steps::{diary, register_of, write_down};
-use bill_diary::Diary;
+use super::steps::{register, write_down};
 use ebl_base::Party;
 use holder_commands::Command;
 use std::alloc::Global;
@@ -20,23 +19,23 @@ const ROWS: &str = "\
 14|for-delivery|accept|planned
 13|to-bank, bank-to-carrier, from-carrier, for-delivery|accept|Limit(Transactions)";
 
-fn put_transfers<R: Abort>(rt: &R, alloc: Global, diary: &mut Diary, transfers: u8) {
+fn put_transfers<R: Abort>(rt: &R, alloc: Global, register: &mut Register, transfers: u8) {
     for _ in 0..transfers {
-        write_down(rt, alloc, &[], THE_BILL, diary, "to-bank, from-bank");
+        write_down(rt, alloc, &[], THE_BILL, register, "to-bank, from-bank");
     }
 }
 
-// The diary of SIGN, ISSUE, so many transfers to the bank and back, and these acts.
-fn held<R: Abort>(rt: &R, alloc: Global, transfers: &str, acts: &str) -> Diary {
-    let mut diary = diary(rt, alloc, &[], THE_BILL, "sign, issue");
+// The register of SIGN, ISSUE, so many transfers to the bank and back, and these acts.
+fn held<R: Abort>(rt: &R, alloc: Global, transfers: &str, acts: &str) -> Register {
+    let mut register = register(rt, alloc, &[], THE_BILL, "sign, issue");
     put_transfers(
         rt,
         alloc,
-        &mut diary,
+        &mut register,
         transfers.parse::<u8>().expect(rt, "no error"),
     );
-    write_down(rt, alloc, &[], THE_BILL, &mut diary, acts);
-    diary
+    write_down(rt, alloc, &[], THE_BILL, &mut register, acts);
+    register
 }
 
 // What the plan of a command of a party is.
@@ -71,7 +70,7 @@ fn asked<R: Abort>(rt: &R, alloc: Global, register: &Register, act: &str) -> Str
 
 fn assert_row<R: Abort>(rt: &R, alloc: Global, row: &str) {
     let [transfers, acts, act, want, _] = columns(row);
-    let register = register_of(rt, alloc, held(rt, alloc, transfers, acts));
+    let register = held(rt, alloc, transfers, acts);
     let seen = asked(rt, alloc, &register, act);
     assert_text(rt, seen.as_str(), want, row);
 }

@@ -2,8 +2,8 @@
 use super::entries::{sample_of, samples};
 use super::making::{THE_BILL, bill_name, code};
 use super::places::assert_same;
-use super::steps::diary;
-use bill_diary::{BegunRef, Diary, last_with_reference};
+use super::steps::register;
+use bill_diary::BegunRef;
 use canonical_json::{Json, write};
 use document_checksum::checksum;
 use ebl_base::{ChainLink, Checksum, Entry, PlatformCode, SignedText};
@@ -12,6 +12,7 @@ use signed_envelope::verify_text;
 use std::alloc::Global;
 use std::process::Abort;
 use test_signer::KeyedRing;
+use title_register::{Register, last_with_reference};
 use upload_state::reference_of;
 
 // What a text says, which a platform signed.
@@ -80,8 +81,14 @@ fn assert_begun<R: Abort>(rt: &R, alloc: Global, parts: &Body, begun: BegunRef) 
     assert_two(rt, begun.chain.as_slice(), begun.manifest);
 }
 
-fn assert_found<R: Abort>(rt: &R, alloc: Global, diary: &Diary, bill: Checksum, last: Checksum) {
-    let begun = last_with_reference(diary, reference_of(bill, last)).expect(rt, "a Begun");
+fn assert_found<R: Abort>(
+    rt: &R,
+    alloc: Global,
+    register: &Register,
+    bill: Checksum,
+    last: Checksum,
+) {
+    let begun = last_with_reference(register, reference_of(bill, last)).expect(rt, "a Begun");
     assert!(rt; begun.bill == bill && begun.manifest.bill == bill);
     let parts = Body::read(alloc, begun.body.as_slice()).expect(rt, "no error");
     assert_begun(rt, alloc, &parts, begun)
@@ -90,12 +97,12 @@ fn assert_found<R: Abort>(rt: &R, alloc: Global, diary: &Diary, bill: Checksum, 
 #[test]
 fn texts_of_a_begun(rt: HostRuntime) {
     let samples = samples(&rt, rt.alloc());
-    let diary = diary(&rt, rt.alloc(), &samples, THE_BILL, "begun u.u");
+    let register = register(&rt, rt.alloc(), &samples, THE_BILL, "begun u.u");
     let last = sample_of(&rt, &samples, THE_BILL, "u.u").last(&rt).name;
     assert_found(
         &rt,
         rt.alloc(),
-        &diary,
+        &register,
         bill_name(&rt, rt.alloc(), THE_BILL),
         last,
     )

@@ -1,5 +1,5 @@
-//! What platforms write down of a bill, and the diaries of it. A step is written as an act, or as a verb with a chain,
-//! whose last entry it is about, or with a document:
+//! What platforms write down of a bill, and the registers of it. A step is written as an act, or as a verb with a
+//! chain, whose last entry it is about, or with a document:
 //!
 //! | Step | What is written down |
 //! |---|---|
@@ -13,7 +13,7 @@
 //! | `declined u` | a Declined since the roster doesn't know the party; without evidence |
 use super::entries::{Sample, sample_of, texts};
 use super::making::{another_bill, bill_name, document_json, document_text, signed, transaction};
-use bill_diary::{Diary, Frame, Record};
+use bill_diary::{Frame, Record};
 use document_checksum::checksum;
 use ebl_base::{
     ByteList, ChainLink, CharList, Checksum, Code, Copied, Evidence, Items, Reason, SignedText,
@@ -222,45 +222,39 @@ pub(crate) fn frame<R: Abort>(
     }
 }
 
-// ---- diaries
+// ---- registers
 
-/// A diary goes on; steps stand between commas.
+/// A frame follows.
+pub(crate) fn add<R: Abort>(rt: &R, alloc: Global, register: &mut Register, frame: Frame) {
+    register.reserve(alloc, &frame).expect(rt, "no error");
+    register.add(frame)
+}
+
+/// A diary goes on, with its register; steps stand between commas.
 pub(crate) fn write_down<R: Abort>(
     rt: &R,
     alloc: Global,
     samples: &[Sample],
     bill: &str,
-    diary: &mut Diary,
+    register: &mut Register,
     steps: &str,
 ) {
     for step in steps.split(", ") {
         if !step.is_empty() {
-            diary
-                .push(frame(rt, alloc, samples, bill, step))
-                .expect(rt, "no error");
+            add(rt, alloc, register, frame(rt, alloc, samples, bill, step));
         }
     }
 }
 
-/// The diary of these steps.
-pub(crate) fn diary<R: Abort>(
+/// The register of the diary of these steps.
+pub(crate) fn register<R: Abort>(
     rt: &R,
     alloc: Global,
     samples: &[Sample],
     bill: &str,
     steps: &str,
-) -> Diary {
-    let mut diary = Items::new(alloc);
-    write_down(rt, alloc, samples, bill, &mut diary, steps);
-    diary
-}
-
-/// The register of a diary.
-pub(crate) fn register_of<R: Abort>(rt: &R, alloc: Global, diary: Diary) -> Register {
+) -> Register {
     let mut register = Register::new(alloc);
-    for frame in diary.into_vec() {
-        register.reserve(alloc, &frame).expect(rt, "no error");
-        register.add(frame);
-    }
+    write_down(rt, alloc, samples, bill, &mut register, steps);
     register
 }
