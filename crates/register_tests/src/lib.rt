@@ -1,4 +1,4 @@
-//! Tests of `title_register`: the register beside its diary. There is nothing here but tests.
+//! Tests of `title_register`: what a register says after each step. There is nothing here but tests.
 #![tactic(auto)]
 
 #[cfg(test)]

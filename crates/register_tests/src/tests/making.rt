@@ -20,7 +20,6 @@ pub(crate) enum Step {
     Issued,
     SurrenderAsked,
     SurrenderAccepted,
-    Attached(u8),
     Parted(u8),
     Settled(u8),
     Regained(u8),
@@ -34,11 +33,9 @@ pub(crate) enum Step {
 /// The parties of the tests, both on one platform, and when they act.
 #[derive(Clone, Copy)]
 pub(crate) struct Cast {
-    pub(crate) carrier: Party,
+    carrier: Party,
     exporter: Party,
     time: Moment,
-    // The byte that a frame brings, by which it is told from others.
-    pub(crate) mark: u8,
 }
 
 pub(crate) fn players() -> Result<Cast, Fail> {
@@ -46,7 +43,6 @@ pub(crate) fn players() -> Result<Cast, Fail> {
         carrier: Party::from_text(b"ALPH/CARRIER").ok_or("a party")?,
         exporter: Party::from_text(b"ALPH/EXPORT").ok_or("a party")?,
         time: Moment::try_new(0).ok_or("a moment")?,
-        mark: 0,
     })
 }
 
@@ -79,6 +75,15 @@ fn declined(bill: Checksum, n: u8) -> Record {
             own: None,
             theirs: None,
         },
+    }
+}
+
+fn stored(alloc: Global, bill: Checksum, n: u8) -> Record {
+    Record::Stored {
+        bill,
+        entry: name(n),
+        checksum: name(n),
+        bytes: ByteList::new(alloc),
     }
 }
 
@@ -121,39 +126,23 @@ impl Cast {
         Chain::from_vec(alloc, links)
     }
 
-    // The byte by which a frame is told from others, as a text.
-    fn text(self, alloc: Global) -> Result<ByteList, NoMemory> {
-        ByteList::from_slice(alloc, &[self.mark])
-    }
-
     fn begun(self, alloc: Global, bill: Checksum, first: u8, last: u8) -> Result<Record, NoMemory> {
-        let body = self.text(alloc)?;
         let manifest = manifest(alloc, bill, last)?;
         let chain = self.chain(alloc, bill, first, last)?;
         Ok(Record::Begun {
             bill,
             chain,
             manifest,
-            body,
+            body: ByteList::new(alloc),
         })
     }
 
-    fn signed(self, alloc: Global, bill: Checksum) -> Result<Record, NoMemory> {
-        let document = self.text(alloc)?;
-        Ok(Record::Signed {
+    fn signed(self, alloc: Global, bill: Checksum) -> Record {
+        Record::Signed {
             bill,
-            document,
+            document: ByteList::new(alloc),
             transaction: self.act(Kind::Sign, self.carrier, None),
-        })
-    }
-
-    fn attached(self, alloc: Global, bill: Checksum, n: u8) -> Result<Record, NoMemory> {
-        let bytes = self.text(alloc)?;
-        Ok(Record::Attached {
-            bill,
-            piece: piece(alloc, n),
-            bytes,
-        })
+        }
     }
 
     fn parted(self, alloc: Global, bill: Checksum, n: u8) -> Result<Record, NoMemory> {
@@ -166,19 +155,9 @@ impl Cast {
         })
     }
 
-    fn stored(self, alloc: Global, bill: Checksum, n: u8) -> Result<Record, NoMemory> {
-        let bytes = self.text(alloc)?;
-        Ok(Record::Stored {
-            bill,
-            entry: name(n),
-            checksum: name(n),
-            bytes,
-        })
-    }
-
     fn record(self, alloc: Global, bill: Checksum, step: Step) -> Result<Record, NoMemory> {
         match step {
-            Step::Signed => self.signed(alloc, bill),
+            Step::Signed => Ok(self.signed(alloc, bill)),
             Step::Issued => Ok(self.acted(bill, Kind::Issue, self.carrier, Some(self.exporter))),
             Step::SurrenderAsked => Ok(self.acted(
                 bill,
@@ -192,7 +171,6 @@ impl Cast {
                 self.carrier,
                 None,
             )),
-            Step::Attached(n) => self.attached(alloc, bill, n),
             Step::Parted(n) => self.parted(alloc, bill, n),
             Step::Settled(n) => Ok(Record::Settled {
                 bill,
@@ -205,7 +183,7 @@ impl Cast {
             Step::Begun(first, last) | Step::BegunTaken(first, last) => {
                 self.begun(alloc, bill, first, last)
             }
-            Step::Stored(n) => self.stored(alloc, bill, n),
+            Step::Stored(n) => Ok(stored(alloc, bill, n)),
             Step::Taken(n) => Ok(Record::Taken {
                 bill,
                 entry: name(n),

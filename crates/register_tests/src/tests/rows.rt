@@ -1,7 +1,6 @@
 //! The places of a bill, step by step, and the numbers of frames.
-use crate::tests::beside::{Pair, assert_same, entries, number_of};
 use crate::tests::making::{Step, name, players};
-use ebl_base::{Checksum, PlaceTag};
+use ebl_base::{Chain, ChainLink, Checksum, PlaceTag};
 use std::alloc::Global;
 use std::fmt::Debug;
 use std::process::Abort;
@@ -16,30 +15,49 @@ const BILL: Checksum = Checksum([9; 32]);
 type Row = (Step, PlaceTag, usize, u8, usize, bool);
 
 fn assert_rows<R: Abort>(rt: &R, alloc: Global, rows: &[Row]) -> Result<(), Fail> {
-    go_through(rt, alloc, &mut Pair::new(alloc), rows)
+    go_through(rt, alloc, &mut Register::new(alloc), rows)
 }
 
-fn go_through<R: Abort>(rt: &R, alloc: Global, pair: &mut Pair, rows: &[Row]) -> Result<(), Fail> {
-    assert_eq!(rt; pair.register.tag(BILL), PlaceTag::Absent);
-    assert_same(rt, alloc, pair, BILL)?;
+fn go_through<R: Abort>(
+    rt: &R,
+    alloc: Global,
+    register: &mut Register,
+    rows: &[Row],
+) -> Result<(), Fail> {
+    assert_eq!(rt; register.tag(BILL), PlaceTag::Absent);
     for row in rows {
-        write(alloc, pair, row.0)?;
-        assert_row(rt, pair, row);
-        assert_same(rt, alloc, pair, BILL)?;
+        write(rt, alloc, register, row.0)?;
+        assert_row(rt, register, row);
     }
     Ok(())
 }
 
-fn write(alloc: Global, pair: &mut Pair, step: Step) -> Result<(), Fail> {
-    pair.write(alloc, players()?.frame(alloc, BILL, step)?)?;
+fn write<R: Abort>(rt: &R, alloc: Global, register: &mut Register, step: Step) -> Result<(), Fail> {
+    let frame = players()?.frame(alloc, BILL, step)?;
+    register.reserve(alloc, &frame).expect(rt, "no error");
+    register.add(frame);
     Ok(())
 }
 
-fn assert_row<R: Abort>(rt: &R, pair: &Pair, row: &Row) {
+fn assert_row<R: Abort>(rt: &R, register: &Register, row: &Row) {
     let (_, tag, known, parting, since, acts) = *row;
-    let frames = pair.diary.len();
-    let is_right = look_ups(&pair.register) == (tag, known, parting, since, acts);
+    let frames = register.frames().len();
+    let is_right = look_ups(register) == (tag, known, parting, since, acts);
     assert!(rt; is_right, "after {frames} frames");
+}
+
+fn entries(chain: Option<&Chain>) -> usize {
+    match chain {
+        Some(chain) => chain.len(),
+        None => 0,
+    }
+}
+
+fn number_of(link: Option<&ChainLink>) -> u8 {
+    match link {
+        Some(link) => link.name.0[0],
+        None => 0,
+    }
 }
 
 // What a register says of the bill, as a row has it.
@@ -127,17 +145,17 @@ const ENTRIES: [EntryRow; 3] = [
 // A frame is found by its number: of a reference and an entry the last, of a document the first.
 #[test]
 fn numbers_of_frames(rt: HostRuntime) -> Result<(), Fail> {
-    assert_numbers(&rt, rt.alloc(), &mut Pair::new(rt.alloc()))
+    assert_numbers(&rt, rt.alloc(), &mut Register::new(rt.alloc()))
 }
 
-fn assert_numbers<R: Abort>(rt: &R, alloc: Global, pair: &mut Pair) -> Result<(), Fail> {
+fn assert_numbers<R: Abort>(rt: &R, alloc: Global, register: &mut Register) -> Result<(), Fail> {
     for step in &FRAMES {
-        write(alloc, pair, *step)?;
+        write(rt, alloc, register, *step)?;
     }
     for row in &ENTRIES {
-        assert_entry(rt, &pair.register, row);
+        assert_entry(rt, register, row);
     }
-    assert_eq!(rt; pair.register.kept(name(8), name(2)), None);
+    assert_eq!(rt; register.kept(name(8), name(2)), None);
     Ok(())
 }
 
