@@ -2,32 +2,23 @@
 #![tactic(auto, using(crate::proofs::TitleLemmas::titles))]
 
 ghost use Rattle.std.specs.Prelude.{◌≡◌, IfOk, Some};
-ghost use Rattle.bill_diary.specs.History.{history};
 ghost use Rattle.bill_diary.specs.Known.{known};
 ghost use Rattle.bill_diary.specs.Place.{may_act_by};
 ghost use Rattle.bill_diary.specs.Titles.{FoldedBy, is_ended_by};
 
 use crate::bill_place::is_left;
-use crate::frame::Diary;
 use crate::known::known_links;
 use crate::links::Links;
 use crate::parting::parting;
 use crate::since::since;
 use crate::walk::History;
-use ebl_base::{Checksum, NoMemory};
+use ebl_base::NoMemory;
 use std::alloc::Global;
 use title_fold::{FoldRefusal, Title};
 
-/// Whether the possessor of a bill may act: the bill is held, and its title isn't ended.
+/// Whether the possessor of a bill may act by what is left of its history: the bill is held, and its title isn't ended.
 ///
-/// It goes over the diary several times, and folds the known chain where it is: no link is copied.
-pub fn may_act(alloc: Global, d: &Diary, bill: Checksum) -> Result<bool, NoMemory>
-    ensures { IfOk result (λ may. may ≡ may_act_by (history bill d.now)) }
-{
-    may_act_by(alloc, History::of(d.as_slice(), bill))
-}
-
-/// The same by what is left of the bill's history.
+/// It goes over the history several times, and folds the known chain where it is: no link is copied.
 pub fn may_act_by(alloc: Global, h: History) -> Result<bool, NoMemory>
     ensures { IfOk result (λ may. may ≡ may_act_by h.entry) }
 {

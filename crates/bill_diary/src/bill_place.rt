@@ -2,17 +2,15 @@
 ghost use Rattle.std.specs.Prelude.{◌≡◌, IfOk, Some, false, option_copied};
 ghost use Rattle.std.specs.Option.{option_map_or};
 ghost use Rattle.bill_diary.specs.declared.bill_place.BillPlace.TheVariants.{Parting};
-ghost use Rattle.bill_diary.specs.History.{history};
 ghost use Rattle.bill_diary.specs.Known.{known};
 ghost use Rattle.bill_diary.specs.Place.{is_settled, known_at, place_of, tag_of};
 
-use crate::frame::Diary;
 use crate::known::known_chain;
 use crate::parting::{is_settled, parting};
 use crate::since::since;
 use crate::walk::History;
 use bill_chain::last_link;
-use ebl_base::{Chain, ChainLink, Checksum, Copied, NoMemory, PlaceTag, TransactionList};
+use ebl_base::{Chain, ChainLink, Copied, NoMemory, PlaceTag, TransactionList};
 use std::alloc::Global;
 
 /// Where a bill stands on a platform, with what the platform knows of it.
@@ -65,18 +63,9 @@ impl BillPlace {
     }
 }
 
-/// The place of a bill by a diary.
-///
-/// It goes over the diary several times, and copies the known chain. For each Taken of the bill it looks for a Begun.
-pub fn place(alloc: Global, d: &Diary, bill: Checksum) -> Result<BillPlace, NoMemory>
-    ensures { IfOk result (λ place. place ≡ place_of (history bill d.now)) }
-{
-    place_of(alloc, History::of(d.as_slice(), bill))
-}
-
 /// The place of a bill by what is left of its history.
 ///
-/// It costs what [`place`] costs, for the records that are left.
+/// It goes over the history several times, and copies the known chain. For each Taken it looks for a Begun.
 pub fn place_of(alloc: Global, h: History) -> Result<BillPlace, NoMemory>
     ensures { IfOk result (λ place. place ≡ place_of h.entry) }
 {

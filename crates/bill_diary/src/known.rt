@@ -16,7 +16,7 @@ use std::alloc::Global;
 ///
 /// It goes over the history twice, keeps references to its chains and the entries that were parted, and copies the
 /// chain that it answers.
-pub fn known_chain(alloc: Global, h: History) -> Result<Option<Chain>, NoMemory>
+pub(crate) fn known_chain(alloc: Global, h: History) -> Result<Option<Chain>, NoMemory>
     ensures { IfOk result (λ chain. chain ≡ known h.entry) }
 {
     match known_links(alloc, h)? {
@@ -51,7 +51,7 @@ fn records<'a>(alloc: Global, mut h: History<'a>) -> Result<Vec<RecordRef<'a>>, 
 /// The chain that a Settled of this entry tells, with the records before it: the known chain before the last Parted of
 /// the entry, followed by the entry. `None` where the entry wasn't parted, or no chain was known then.
 ///
-/// It costs what [`known_chain`] costs for the records before that Parted.
+/// It goes over the records before that Parted twice, and copies the chain that it answers.
 pub fn settled_chain(
     alloc: Global,
     mut before: History,

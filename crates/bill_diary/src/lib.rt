@@ -4,29 +4,25 @@
 mod acting;
 mod begun;
 mod bill_place;
-mod documents;
 mod frame;
 mod index;
 mod known;
 mod known_chains;
 mod laws;
 mod links;
-mod lookups;
 mod parting;
 mod record;
 mod record_ref;
-mod searching;
 mod since;
 mod titles;
 mod walk;
 
-pub use acting::{may_act, may_act_by};
+pub use acting::may_act_by;
 pub use begun::taken_chain;
-pub use bill_place::{BillPlace, place, place_of};
-pub use documents::{count_parted, pieces};
+pub use bill_place::{BillPlace, place_of};
 pub use frame::{Diary, Frame};
 pub use index::DiaryIndex;
-pub use known::{known_chain, settled_chain};
+pub use known::settled_chain;
 pub use laws::{
     begun_is_fixed_by_its_body, body_has_no_further_member, declined_evidence_is_compact,
     documents_are_stored_by_their_bytes, each_frame_of_a_sound_diary_may_follow,
@@ -36,12 +32,7 @@ pub use laws::{
     missing_documents_are_those_not_stored, place_is_what_stands,
     possessor_acts_where_held_and_not_ended,
 };
-pub use lookups::{Declination, has_bytes, is_taken, last_declined};
 pub use record::Record;
-pub use record_ref::RecordRef;
-pub use searching::{
-    BegunRef, PartedRef, first_bytes, last_body, last_parted_record, last_with_reference,
-    signed_text,
-};
-pub use titles::{title_after_chain, title_at};
-pub use walk::{History, Newest};
+pub use record_ref::{BegunRef, Declination, PartedRef, RecordRef};
+pub use titles::title_after_chain;
+pub use walk::History;

@@ -1,9 +1,10 @@
-//! References to the records of a diary.
+//! References to the records of a diary, and to the parts of some.
 ghost use Rattle.std.specs.Prelude.{◌≡◌};
 ghost use Rattle.bill_diary.specs.History.{bill_of, record_at, taken_entry};
 
 use crate::record::Record;
-use ebl_base::Checksum;
+use ebl_base::{ByteList, Chain, ChainLink, Checksum, Code, Evidence, Reason, SignedText};
+use envelope_manifest::Manifest;
 
 /// A record of a diary.
 #[derive(Clone, Copy, Debug)]
@@ -37,4 +38,30 @@ impl RecordRef<'_> {
             RecordRef::Taken { entry, .. } => Some(entry),
         }
     }
+}
+
+/// The parts of a Begun.
+#[derive(Clone, Copy, Debug)]
+pub struct BegunRef<'a> {
+    pub bill: Checksum,
+    pub chain: &'a Chain,
+    pub manifest: &'a Manifest,
+    pub body: &'a ByteList,
+}
+
+/// The parts of a Parted.
+#[derive(Clone, Copy, Debug)]
+pub struct PartedRef<'a> {
+    pub bill: Checksum,
+    pub link: &'a ChainLink,
+    pub manifest: &'a Manifest,
+    pub manifest_text: &'a SignedText,
+}
+
+/// Why an entry was declined for good.
+#[derive(Clone, Copy, Debug)]
+pub struct Declination<'a> {
+    pub code: Code,
+    pub reason: Reason,
+    pub evidence: &'a Evidence,
 }

@@ -1,7 +1,7 @@
-//! The records of a diary, from the newest to the oldest.
+//! The records of a bill, from the newest to the oldest.
 ghost use Rattle.std.specs.Prelude.{◌≡◌, [], ◌∷◌, ◌++◌, ◌≤◌, IfSome, MatchOption, length, option_copied, option_map, reverse, slice_get, take, unwrap_or};
 ghost use Rattle.std.specs.Option.{option_to_list};
-ghost use Rattle.bill_diary.specs.History.{newest_first, history, record_at, records_of, taken_after};
+ghost use Rattle.bill_diary.specs.History.{history, record_at, records_of, taken_after};
 ghost use Rattle.bill_diary.specs.Linked.{AreLinked};
 
 use crate::frame::Frame;
@@ -10,53 +10,6 @@ use crate::record_ref::RecordRef;
 use bill_chain::last_link;
 use ebl_base::Checksum;
 use std::marker::Model;
-
-/// What is left of a diary's records, newest first: behind a record that was handed out are those before it.
-#[derive(Drop)]
-pub struct Newest<'a> {
-    frames: &'a [Frame],
-    // The Begun of a frame whose Taken was handed out.
-    begun: Option<&'a Record>,
-}
-
-impl<'a> Model for Newest<'a> {
-    ghost use Rattle.std.specs.Prelude.{List};
-    ghost use Rattle.std.specs.List.{cons_option};
-    ghost use Rattle.std.specs.Option.{option_copied};
-    ghost use Rattle.bill_diary.specs.declared.record.Record.{Record};
-    ghost use Rattle.bill_diary.specs.History.{newest_first};
-
-    ghost Value = { List Record };
-
-    ghost view = { λ s. cons_option (option_copied s.begun) (newest_first s.frames.now) };
-}
-
-impl<'a> Newest<'a> {
-    /// All records of these frames.
-    pub fn of(frames: &'a [Frame]) -> Self
-        ensures { result ≡ newest_first frames.now }
-    {
-        Newest {
-            frames,
-            begun: None,
-        }
-    }
-
-    /// The newest record that is left.
-    pub fn next(&mut self) -> Option<RecordRef<'a>>
-        ensures { MatchOption result (self.old ≡ []) (λ r. self.old ≡ record_at r ∷ self.new) }
-    {
-        if let Some(kept) = self.begun {
-            self.begun = None;
-            return Some(RecordRef::Kept(kept));
-        }
-        let (frame, before) = self.frames.split_last()?;
-        self.frames = before;
-        let (newest, begun) = newest_of(frame);
-        self.begun = begun;
-        Some(newest)
-    }
-}
 
 /// What is left of a bill's history, newest first: behind a record that was handed out are those before it.
 #[derive(Drop)]

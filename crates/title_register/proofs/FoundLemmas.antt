@@ -4,8 +4,8 @@ use Rattle.std.specs.Prelude.{MatchOption, find}
 use Rattle.ebl_base.specs.declared.reference.Reference.{Reference}
 use Rattle.bill_diary.specs.declared.record.Record.{Record}
 use Rattle.bill_diary.specs.declared.record.Record.TheVariants.{Signed, Acted, Attached, Parted, Settled, Regained, Begun, Stored, Taken, Declined}
-use Rattle.bill_diary.specs.declared.searching.BegunRef.{BegunRef}
-use Rattle.bill_diary.specs.declared.searching.PartedRef.{PartedRef}
+use Rattle.bill_diary.specs.declared.record_ref.BegunRef.{BegunRef}
+use Rattle.bill_diary.specs.declared.record_ref.PartedRef.{PartedRef}
 use Rattle.bill_diary.specs.Searches.{last_parted_record}
 use Rattle.bill_diary.specs.Sound.{has_reference, is_parted, last_with_reference}
 use Rattle.title_register.specs.Frames.{is_begun}

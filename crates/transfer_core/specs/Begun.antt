@@ -1,6 +1,6 @@
 -- What came with a Begun, where it is kept in a diary.
 use Rattle.std.specs.Prelude.{}
-use Rattle.bill_diary.specs.declared.searching.BegunRef.{BegunRef}
+use Rattle.bill_diary.specs.declared.record_ref.BegunRef.{BegunRef}
 use Rattle.platform_machine.specs.Receiving.{BegunRecord}
 
 abbrev pub begun_view : BegunRef → BegunRecord
