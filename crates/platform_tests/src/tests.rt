@@ -1,5 +1,5 @@
-//! Shards, offices, worlds and runs of the program.
-mod journaled_shards;
-mod offices;
-mod platforms;
-mod single_shards;
+//! Runs of the program and worlds, on disks and with rings that fail, and what is honest.
+mod failures;
+mod honesty;
+mod runs;
+mod worlds;

@@ -1,5 +1,5 @@
 use Rattle.std.proofs.Common.{length, ap, arith}
-use Rattle.platform_tests.proofs.tests.offices.asking.opened.Goals as goal
+use Rattle.shard_tests.proofs.tests.offices.asking.opened.Goals as goal
 
 pub open-requires-clause-nothing_pending : goal.open-requires-clause-nothing_pending
 open-requires-clause-nothing_pending c = λ k d lt told some.

@@ -2,7 +2,7 @@
 use Rattle.std.proofs.Common.{◌≡◌, length, true}
 use Rattle.disk_model.specs.Record.{DiskRecord}
 use Rattle.platform_world.specs.Opening.{AreBlank}
-use Rattle.platform_tests.proofs.tests.platforms.worlds.racks.Given as goal
+use Rattle.platform_tests.proofs.tests.worlds.racks.Given as goal
 
 abbrev pub invariant-loop-place : goal.invariant-loop-place
 invariant-loop-place l = record {

@@ -3,7 +3,7 @@ use Rattle.std.proofs.lemmas.List.{length_push}
 use Rattle.std.proofs.lemmas.List.Elements.{All-nil, All-push}
 use Rattle.disk_model.specs.Record.{DiskRecord}
 use Rattle.platform_world.specs.Opening.{IsBlank}
-use Rattle.platform_tests.proofs.tests.platforms.worlds.racks.Goals as goal
+use Rattle.platform_tests.proofs.tests.worlds.racks.Goals as goal
 
 pub loop-place-init : goal.loop-place-init
 loop-place-init c = record {

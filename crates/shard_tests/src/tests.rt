@@ -1,0 +1,4 @@
+//! Shards in memory and on disks, and offices.
+mod journaled_shards;
+mod offices;
+mod single_shards;
