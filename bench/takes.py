@@ -5,7 +5,7 @@ Builds shard_trial (a shard of the product on a file) and sync_floor.c (two writ
 in turn, many times and shortly, on files in one folder: bills are signed, issued and sent to another platform, so a
 request decides, signs if need be, appends its frame durably and answers. Prints requests a second by the difference of
 runs of few and of twice as many requests (medians), and the ratio of the longer runs as they are, starts included
-(median, least and greatest of the rounds). Then it fills a journal with documents of 2 MB, and another with small
+(median, least and greatest of the rounds). Then it fills a journal with documents of 2 MB, and two with small
 frames, and times opening each beside reading and hashing the same file.
 """
 import hashlib
@@ -70,6 +70,7 @@ def main():
         print("\n| journal | bytes | opening, s | reading and hashing, s | ratio |\n|---|---|---|---|---|")
         opening(program, folder, "documents", ["fill"])
         opening(program, folder, "bills", ["serve", str(SMALL)])
+        opening(program, folder, "many", ["serve", str(4 * SMALL)])
     finally:
         shutil.rmtree(folder)
 
