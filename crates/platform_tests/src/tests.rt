@@ -1,5 +1,4 @@
-//! Runs of the program and worlds, on disks and with rings that fail, and what is honest.
+//! Worlds on disks and with rings that fail, and what is honest.
 mod failures;
 mod honesty;
-mod runs;
 mod worlds;
