@@ -10,7 +10,7 @@ use Rattle.signed_envelope.specs.KeyRing.{Keys}
 use Rattle.party_roster.specs.RosterRecord.{RosterRecord}
 use Rattle.platform_world.specs.declared.fate.Fate.{Fate}
 use Rattle.platform_world.specs.World.{WorldRecord, opening}
-use Rattle.platform_world.specs.Script.{roster_in}
+use Rattle.world_events.specs.Script.{roster_in}
 use Rattle.platform_world.specs.Run as runs
 use Rattle.platform_world.specs.Run.{EndsAtOnce, OnRoster, Run, Runs, RunsLines, RunsScript}
 use Rattle.ebl_run.specs.declared.status.Status.{Status}

@@ -3,7 +3,7 @@ use Rattle.std.proofs.Common.{◌≡◌, ◌<◌, ◌≤◌, ◌-◌, ◌^◌, �
 use Rattle.std.specs.Prelude.{Option, slice_get}
 use Rattle.std.proofs.lemmas.Option.{slice_get_within}
 use Rattle.ebl_base.specs.Faults.{RoseBy}
-use Rattle.platform_world.specs.Happening.{comes_to}
+use Rattle.world_events.specs.Happening.{comes_to}
 use Rattle.platform_world.specs.Platforms.{EachRose, times_at}
 use Rattle.platform_world.specs.Run.{Happened, disk_answers, sign_answers}
 use Rattle.platform_world.specs.Step.{disk_failed_at, ring_failed_at}

@@ -15,7 +15,7 @@ use Rattle.platform_world.specs.declared.fate.FateEnd.TheVariants.{Short}
 use Rattle.platform_world.specs.Machine.{Counts, MachineRecord}
 use Rattle.platform_world.specs.Platforms.{EachRose}
 use Rattle.platform_world.specs.World.{WorldRecord}
-use Rattle.platform_world.specs.Script.{event_in}
+use Rattle.world_events.specs.Script.{event_in}
 use Rattle.platform_world.specs.State.{WorldState, world_of}
 use Rattle.platform_world.specs.Step.{IsStep}
 use Rattle.platform_world.specs.Run as runs

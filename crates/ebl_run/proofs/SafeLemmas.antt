@@ -6,7 +6,7 @@ use Rattle.ebl_base.specs.Segments.{segments_of}
 use Rattle.signed_envelope.specs.KeyRing.{Keys}
 use Rattle.party_roster.specs.RosterRecord.{RosterRecord}
 use Rattle.journaled_shard.specs.declared.rack.Rack.{Rack}
-use Rattle.platform_world.specs.Script.{roster_in}
+use Rattle.world_events.specs.Script.{roster_in}
 use Rattle.platform_world.specs.Run.{IsRunOf, Run, RunsScript}
 use Rattle.world_safety.specs.Safety.{HasEnoughRings, StaysSafe}
 use Rattle.ebl_run.specs.declared.ended.Ended.{Ended}

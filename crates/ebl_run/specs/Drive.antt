@@ -8,7 +8,7 @@ use Rattle.signed_envelope.specs.KeyRing.{Keys}
 use Rattle.party_roster.specs.RosterRecord.{RosterRecord}
 use Rattle.world_script.specs.Event.{EventRecord}
 use Rattle.platform_world.specs.declared.fate.Fate.{Fate}
-use Rattle.platform_world.specs.Script.{event_in, roster_in}
+use Rattle.world_events.specs.Script.{event_in, roster_in}
 use Rattle.platform_world.specs.Run as runs
 use Rattle.platform_world.specs.Run.{Run, RunEnd, RunsScript}
 use Rattle.ebl_run.specs.Output.{Output, OutputEnd, complete, bad_line, stopped}

@@ -3,11 +3,11 @@ use Rattle.std.specs.Prelude.{◌≡◌, ◌⊎◌, ℕ, List, ◌++◌, Option,
 use Rattle.party_roster.specs.RosterRecord.{RosterRecord}
 use Rattle.world_script.specs.Event.{EventRecord}
 use Rattle.platform_world.specs.declared.fate.Fate.{Fate}
-use Rattle.platform_world.specs.Happening.{comes_to}
+use Rattle.world_events.specs.Happening.{comes_to}
 use Rattle.platform_world.specs.Machine.{Counts, MachineRecord}
 use Rattle.platform_world.specs.Platforms.{EachRose}
 use Rattle.platform_world.specs.Run.{Run, Runs, disk_answers, sign_answers}
-use Rattle.platform_world.specs.Script.{event_in}
+use Rattle.world_events.specs.Script.{event_in}
 use Rattle.platform_world.specs.State.{IsAnswered, IsCut, WorldState, world_of}
 use Rattle.ebl_run.specs.Drive.{output_of}
 use Rattle.ebl_run.specs.Status.{EndsAs}

@@ -22,9 +22,10 @@ use ebl_edge::Sink;
 use journaled_shard::Rack;
 use party_roster::Roster;
 use platform_requests::SHARDS;
-use platform_world::{Machine, World, event_in, roster_in};
+use platform_world::{Machine, World};
 use signed_envelope::KeyRing;
 use std::alloc::Global;
+use world_events::{event_in, roster_in};
 
 /// The most lines of a script.
 pub const MOST_LINES: u32 = 100_000;

@@ -21,18 +21,19 @@ use Rattle.answer_lines.specs.declared.parcel.Parcel.{Parcel}
 use Rattle.platform_world.specs.declared.fate.Fate.{Fate}
 use Rattle.platform_world.specs.declared.fate.FateEnd.{FateEnd}
 use Rattle.platform_world.specs.declared.fate.FateEnd.TheVariants.{Short, Stuck, Whole}
-use Rattle.platform_world.specs.declared.parcels.ReplyPath.{ReplyPath}
-use Rattle.platform_world.specs.Happening.{Asking, Happening}
-use Rattle.platform_world.specs.Happening as happening
+use Rattle.world_events.specs.declared.parcels.ReplyPath.{ReplyPath}
+use Rattle.world_events.specs.Happening.{Asking, Happening}
+use Rattle.world_events.specs.Happening as happening
 use Rattle.platform_world.specs.Machine.{Counts, MachineRecord, disk_times, ring_times}
 use Rattle.platform_world.specs.Platforms.{EachRose, PlatformsRecord, TakesAt, failures_at, index_of, states_of, times_at, times_if}
 use Rattle.platform_world.specs.Shard.{EndsAs, TakesAs}
 use Rattle.platform_world.specs.State.{HasFate, HasHappened, IsCut, IsFollowed, WorldState, bill_by, is_sign, world_of}
 use Rattle.platform_world.specs.Start.{AreReadAgain}
-use Rattle.platform_world.specs.Step.{Happens, IsAt, IsPathOf, StartsAgain, bills_signed, disk_failed_at, parcels_of, ring_failed_at, sends, start_answer}
+use Rattle.world_events.specs.Parcels.{IsPathOf, parcels_of, sends}
+use Rattle.platform_world.specs.Step.{Happens, IsAt, StartsAgain, bills_signed, disk_failed_at, ring_failed_at, start_answer}
 use Rattle.platform_world.specs.World.{PlatformState, ShardState, WorldRecord}
 use Rattle.platform_world.proofs.Counts.{asked_disk, asked_ring, none_rose, rose_as, rose_later}
-use Rattle.platform_world.proofs.Paths.{path_leads}
+use Rattle.world_events.proofs.Paths.{path_leads}
 
 -- the world with these platforms, and what a reply with its messages sends and signs
 abbrev world_with : WorldRecord → Asking → List PlatformState → Reply → List Message → WorldRecord

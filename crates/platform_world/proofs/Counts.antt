@@ -8,7 +8,7 @@ use Rattle.ebl_base.specs.declared.platform_code.PlatformCode.{PlatformCode}
 use Rattle.platform_requests.specs.Shard.{shard_of}
 use Rattle.platform_world.specs.declared.fate.FateEnd.{FateEnd}
 use Rattle.platform_world.specs.declared.fate.FateEnd.TheVariants.{Whole, SignFault, Failed, Stuck, Short}
-use Rattle.platform_world.specs.Happening.{Asking, asks}
+use Rattle.world_events.specs.Happening.{Asking, asks}
 use Rattle.platform_world.specs.Machine.{disk_times, ring_times}
 use Rattle.platform_world.specs.Platforms.{EachRose, index_of, times_at, times_if}
 use Rattle.platform_world.specs.Step.{disk_failed_at, ring_failed_at}

@@ -40,9 +40,9 @@ use Rattle.world_script.specs.Form.{IsBillName, IsDeed, IsEvent}
 use Rattle.answer_lines.specs.declared.parcel.Content.{Content}
 use Rattle.answer_lines.specs.declared.parcel.Content.TheVariants as contents
 use Rattle.answer_lines.specs.declared.parcel.Parcel.{Parcel}
-use Rattle.platform_world.specs.declared.happening.Sender.{Sender}
-use Rattle.platform_world.specs.declared.parcels.ReplyPath.{ReplyPath}
-use Rattle.platform_world.specs.Happening.{Asking, Happening, asked, asks, at_command, at_delivery, at_foreign, at_show, bill_named, delivered_to, numbered, on_bill, request_in}
+use Rattle.world_events.specs.declared.happening.Sender.{Sender}
+use Rattle.world_events.specs.declared.parcels.ReplyPath.{ReplyPath}
+use Rattle.world_events.specs.Happening.{Asking, Happening, asked, asks, at_command, at_delivery, at_foreign, at_show, bill_named, delivered_to, numbered, on_bill, request_in}
 use Rattle.platform_world.specs.Machine.{AreForListed, MachineRecord, receiver_of, shard_state}
 use Rattle.platform_world.specs.Platforms.{PlatformsRecord, TakesAt, grouped, states_of}
 use Rattle.platform_world.specs.Shard.{EndsAs, IsResolved, TakesAs, loosened}
@@ -50,9 +50,10 @@ use Rattle.platform_world.specs.Start.{AreLoosened, AreReadAgain, IsLoosenedAt}
 use Rattle.platform_world.specs.declared.fate.Fate.{Fate}
 use Rattle.platform_world.specs.declared.fate.FateEnd.{FateEnd}
 use Rattle.platform_world.specs.declared.fate.FateEnd.TheVariants.{Whole, SignFault, Failed, Stuck, Short}
-use Rattle.platform_world.specs.Script.{IsNested, names_listed}
+use Rattle.world_events.specs.Script.{IsNested, names_listed}
 use Rattle.platform_world.specs.State.{AreFresh, frame_count, IsBetweenListed, IsPathBetweenListed, IsReached, MayAsk, MayTake, WorldState, world_of}
-use Rattle.platform_world.specs.Step.{IsAt, message_parcel, reply_bill, reply_content, reply_parcel, sends}
+use Rattle.world_events.specs.Parcels.{message_parcel, reply_bill, reply_content, reply_parcel, sends}
+use Rattle.platform_world.specs.Step.{IsAt}
 use Rattle.platform_world.specs.World.{PlatformState, ShardState, WorldRecord, loose_frame, shard_at, with_shard}
 use Rattle.platform_world.proofs.Attempts.{attempts_within}
 

@@ -3,12 +3,9 @@ pub mod Shard
 pub mod Start
 pub mod Machine
 pub mod Journaled
-pub mod Happening
 pub mod Step
 pub mod Platforms
-pub mod Script
 pub mod Run
-pub mod Signed
 pub mod State
 pub mod Opening
 pub mod Standing

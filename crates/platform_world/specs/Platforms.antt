@@ -15,7 +15,7 @@ use Rattle.platform_world.specs.Machine.{MachineRecord, shard_state}
 use Rattle.platform_world.specs.declared.fate.Fate.{Fate}
 use Rattle.platform_world.specs.declared.fate.FateEnd.{FateEnd}
 use Rattle.platform_world.specs.Shard.{TakesAs}
-use Rattle.platform_world.specs.Happening.{starts_again}
+use Rattle.world_events.specs.Happening.{starts_again}
 use Rattle.platform_world.specs.Step.{FailedShard, disk_failed_at}
 use Rattle.platform_world.specs.World.{PlatformState, ShardState, shard_at, with_shard}
 

@@ -1,42 +1,25 @@
 -- A run of a script: what happened, what it writes, and how it ends. It may stop before every line, where memory or the
 -- sink fails.
-use Rattle.std.specs.Prelude.{◌≡◌, ◌≢◌, ◌⊎◌, ℕ, ◌+◌, ◌-◌, List, [], ◌∷◌, ◌++◌, Option, Some, None, MatchBool, length, nat_le, if◌then◌else◌}
-use Rattle.std.specs.List.{range_with_len}
-use Rattle.ebl_base.specs.Checksum.{checksum_eq}
+use Rattle.std.specs.Prelude.{◌≡◌, ◌≢◌, ◌⊎◌, ℕ, ◌+◌, List, [], ◌∷◌, ◌++◌, Option, Some, None, MatchBool, length, nat_le}
 use Rattle.ebl_base.specs.Segments.{segments_of}
 use Rattle.ebl_base.specs.declared.checksum.Checksum.{Checksum}
 use Rattle.signed_envelope.specs.KeyRing.{Keys}
 use Rattle.party_roster.specs.RosterRecord.{RosterRecord}
-use Rattle.platform_requests.specs.declared.reply.Reply.TheVariants.{Done}
 use Rattle.closed_family.specs.Family.{histories_of}
 use Rattle.world_script.specs.Event.{EventRecord}
 use Rattle.answer_lines.specs.declared.answer.Answer.{Answer}
-use Rattle.answer_lines.specs.declared.answer.Answer.TheVariants.{Replied}
 use Rattle.answer_lines.specs.Lines.{answer_line}
 use Rattle.bill_lines.specs.Lines.{bill_line}
+use Rattle.world_events.specs.Numbers.{number_shown, numbers_sent}
 use Rattle.platform_world.specs.declared.fate.Fate.{Fate}
 use Rattle.platform_world.specs.declared.fate.FateEnd.TheVariants.{Short}
 use Rattle.platform_world.specs.World.{PlatformState, WorldRecord, opening, family_of, platforms_of, settled_for}
-use Rattle.platform_world.specs.Happening.{comes_to}
+use Rattle.world_events.specs.Happening.{comes_to}
 use Rattle.platform_world.specs.Platforms.{times_at}
 use Rattle.platform_world.specs.Step.{IsCutShort, IsStep, disk_failed_at, ring_failed_at}
-use Rattle.platform_world.specs.Script.{roster_in, event_in}
+use Rattle.world_events.specs.Script.{roster_in, event_in}
 
 -- ---- lines
-
--- the numbers of what was sent by an event, where this many were sent before and so many afterwards
-abbrev pub numbers_sent : ℕ → ℕ → List ℕ
-numbers_sent before after = range_with_len (before + 1) (after - before)
-
--- the number of a bill among those that the script signed, counted from this one
-abbrev pub number_from : ℕ → Checksum → List Checksum → Option ℕ
-number_from n bill [] = None
-number_from n bill (name ∷ names) = if checksum_eq name bill then Some n else number_from (n + 1) bill names
-
--- the number of the bill that an answer shows, if the script signed it
-abbrev pub number_shown : List Checksum → Answer → Option ℕ
-number_shown signed (Replied (Done view)) = number_from 1 view.bill signed
-number_shown signed answer = None
 
 -- the line that answers the event of this number
 abbrev pub line_after : ℕ → WorldRecord → Answer → WorldRecord → List ℕ

@@ -21,11 +21,12 @@ use Rattle.platform_world.specs.declared.fate.Fate.{Fate}
 use Rattle.platform_world.specs.declared.fate.FateEnd.TheVariants.{Short}
 use Rattle.platform_world.specs.Machine.{Counts, MachineRecord}
 use Rattle.platform_world.specs.Platforms.{EachRose, PlatformsRecord, states_of, times_at}
-use Rattle.platform_world.specs.declared.parcels.ReplyPath.{ReplyPath}
-use Rattle.platform_world.specs.Happening.{Asking, Happening, asks, comes_to}
+use Rattle.world_events.specs.declared.parcels.ReplyPath.{ReplyPath}
+use Rattle.world_events.specs.Happening.{Asking, Happening, asks, comes_to}
 use Rattle.platform_world.specs.Run.{line_after}
 use Rattle.platform_world.specs.Shard.{IsResolved}
-use Rattle.platform_world.specs.Step.{Happens, IsAt, IsCutShort, disk_failed_at, ring_failed_at, sends}
+use Rattle.world_events.specs.Parcels.{sends}
+use Rattle.platform_world.specs.Step.{Happens, IsAt, IsCutShort, disk_failed_at, ring_failed_at}
 use Rattle.platform_world.specs.World.{ShardState, WorldRecord, loose_frame, shard_at}
 
 -- the shards, what was sent, the bills that were signed, and the fates of the events that were taken

@@ -1,19 +1,8 @@
 //! What holds of every world. The functions do nothing: their contracts are the laws.
 ghost use Rattle.std.specs.Prelude.{◌≡◌, ◌<◌, ◌*◌, ℕ, List, length, slice_get, slice_set};
 ghost use Rattle.ebl_base.specs.declared.platform_code.PlatformCode.{PlatformCode};
-ghost use Rattle.platform_requests.specs.declared.message.Message.{Message};
-ghost use Rattle.platform_requests.specs.declared.reply.Reply.{Reply};
-ghost use Rattle.platform_world.specs.declared.parcels.ReplyPath.{ReplyPath};
-ghost use Rattle.platform_world.specs.Happening.{Asking};
 ghost use Rattle.platform_world.specs.Platforms.{grouped, index_of, position_of};
-ghost use Rattle.platform_world.specs.Step.{IsPathOf, parcels_of, sends};
 ghost use Rattle.platform_world.specs.World.{ShardState, shard_at, shards_in, with_shard};
-
-/// What is sent along the way of a request's reply is what the request sends.
-pub fn parcels_go_the_way_of_their_request()
-    ensures { (a : Asking) (path : ReplyPath) (reply : Reply) (own : List Message) → IsPathOf a path
-        → sends path.from path.sender path.kind path.brought reply own ≡ parcels_of a reply own }
-{}
 
 /// Among the shards of all platforms in one list, sixteen for each, a platform's shard is at sixteen times the
 /// platform's position and its own number: there it is found, and there it is replaced.

@@ -10,23 +10,19 @@ ghost use Rattle.party_roster.specs.RosterRecord.{has_platform};
 ghost use Rattle.platform_requests.specs.Request.{request_view};
 ghost use Rattle.answer_lines.specs.Lines.{IsWritable};
 ghost use Rattle.answer_lines.specs.declared.answer.Answer.TheVariants.{Replied};
-ghost use Rattle.platform_world.specs.Happening.{asking_view, asks, comes_to, starts_again};
+ghost use Rattle.world_events.specs.Happening.{asking_view, asks, comes_to, starts_again};
 ghost use Rattle.platform_world.specs.Run.{bill_line_in, bill_lines, bill_lines_from};
 ghost use Rattle.platform_world.specs.Machine.{AreForListed};
 ghost use Rattle.platform_world.specs.Platforms.{AllHold};
-ghost use Rattle.platform_world.specs.Script.{IsNested, names_listed};
+ghost use Rattle.world_events.specs.Script.{IsNested, names_listed};
 ghost use Rattle.platform_world.specs.Standing.{standing_in};
 ghost use Rattle.platform_world.specs.State.{AreFresh, HasHappened, IsAnswered, IsCut, IsFollowed, IsPathBetweenListed, IsStepped, MayAsk, bill_by, is_sign, world_of};
 ghost use Rattle.platform_world.specs.Step.{IsAt, start_answer};
 ghost use Rattle.platform_world.specs.World.{opening};
 
 use crate::fate::{Fate, FateEnd, FateList};
-use crate::happening::{Asking, Happening, comes_to};
 use crate::machine::Machine;
-use crate::parcels::{ReplyPath, parcels_of};
 use crate::platforms::Platforms;
-use crate::saying::{line_of, send, sign};
-use crate::signed_bills::SignedBills;
 use answer_lines::{Answer, Parcel};
 use bill_diary::DiaryIndex;
 use bill_lines::{Standing, bill_line, bill_standing};
@@ -36,6 +32,9 @@ use party_roster::Roster;
 use platform_requests::{Outcome, Reply, Request, SHARDS, shard_of};
 use std::alloc::Global;
 use std::marker::Model;
+use world_events::{
+    Asking, Happening, ReplyPath, SignedBills, comes_to, line_of, parcels_of, send, sign,
+};
 use world_script::Event;
 
 /// The world of a script.

@@ -7,7 +7,7 @@ use Rattle.answer_lines.specs.Lines.{members_line}
 use Rattle.answer_lines.specs.Words.{answer_text}
 use Rattle.world_script.specs.Event.{EventRecord}
 use Rattle.platform_world.specs.declared.fate.Fate.{Fate}
-use Rattle.platform_world.specs.Happening.{comes_to}
+use Rattle.world_events.specs.Happening.{comes_to}
 use Rattle.platform_world.specs.Run.{Happened, disk_answers, sign_answers}
 use Rattle.platform_world.specs.Machine.{Counts, MachineRecord}
 use Rattle.platform_world.specs.Platforms.{EachRose, times_at}

@@ -9,7 +9,7 @@ use Rattle.ebl_base.specs.declared.party.Party.{Party}
 use Rattle.canonical_json.specs.Value.{Value, flag, text, object, no_members, member}
 use Rattle.world_script.specs.declared.deed.BillName.TheVariants.{Number}
 use Rattle.world_script.specs.Event.{DeedRecord, signs, acts, EventRecord, commands, delivers, restarts, resends}
-use Rattle.platform_world.specs.Happening.{numbered}
+use Rattle.world_events.specs.Happening.{numbered}
 use Rattle.platform_world.specs.Standing.{standing_in}
 use Rattle.platform_world.specs.World.{WorldRecord}
 use Rattle.rehearsal.specs.Draws.{draw}

@@ -6,7 +6,7 @@ use Rattle.world_script.specs.Form.{IsEvent}
 use Rattle.answer_lines.specs.Words.{answer_text}
 use Rattle.answer_lines.specs.declared.answer.Answer.{Answer}
 use Rattle.platform_world.specs.Machine.{Counts, MachineRecord}
-use Rattle.platform_world.specs.Script.{IsNested, names_listed}
+use Rattle.world_events.specs.Script.{IsNested, names_listed}
 use Rattle.platform_world.specs.State.{IsStepped, WorldState, world_of}
 use Rattle.rehearsal.specs.Events.{Made, Move, event_of}
 

@@ -19,7 +19,7 @@ use Rattle.answer_lines.specs.declared.parcel.Parcel.{Parcel}
 use Rattle.answer_lines.specs.declared.parcel.Content.{Content}
 use Rattle.answer_lines.specs.declared.parcel.Content.TheVariants as contents
 use Rattle.platform_world.specs.World.{WorldRecord}
-use Rattle.platform_world.specs.Happening.{Asking, Happening, asked, asks, at_command, at_delivery, at_foreign, at_show, bill_named, comes_to, delivered_to, numbered, on_bill, request_in}
+use Rattle.world_events.specs.Happening.{Asking, Happening, asked, asks, at_command, at_delivery, at_foreign, at_show, bill_named, comes_to, delivered_to, numbered, on_bill, request_in}
 use Rattle.run_safety.specs.Network.{Sent, sent_start, sent_reply}
 use Rattle.run_safety.specs.Steady.{Rings}
 use Rattle.run_safety.specs.Honest.{Comes, IsHonestBody, IsHonestReply, IsSignedByListed}

@@ -29,15 +29,16 @@ use Rattle.answer_lines.specs.declared.parcel.Parcel.{Parcel}
 use Rattle.platform_world.specs.declared.fate.Fate.{Fate}
 use Rattle.platform_world.specs.declared.fate.FateEnd.{FateEnd}
 use Rattle.platform_world.specs.declared.fate.FateEnd.TheVariants.{Whole, SignFault, Failed, Stuck, Short}
-use Rattle.platform_world.specs.declared.parcels.ReplyKind.{ReplyKind}
-use Rattle.platform_world.specs.declared.parcels.ReplyKind.TheVariants as kinds
+use Rattle.world_events.specs.declared.parcels.ReplyKind.{ReplyKind}
+use Rattle.world_events.specs.declared.parcels.ReplyKind.TheVariants as kinds
 use Rattle.platform_world.specs.World.{PlatformState, ShardState, WorldRecord, family_of, loose_frame, member_of, opening, platforms_of, shard_at, with_shard}
-use Rattle.platform_world.specs.Happening.{Asking, Happening, answers, asks, comes_to, starts_again}
+use Rattle.world_events.specs.Happening.{Asking, Happening, answers, asks, comes_to, starts_again}
 use Rattle.platform_world.specs.Shard.{EndsAs, IsAskedOnceRead, IsNotWritten, IsResolved, IsTakenWhole, IsUnread, TakesAs, loosened}
 use Rattle.platform_world.specs.Start.{AreLoosened, AreReadAgain, IsLoosenedAt}
-use Rattle.platform_world.specs.Step.{Happens, IsStep, bills_signed, kind_of, parcels_of, reply_bill, reply_content, reply_parcel, request_bill, world_after}
+use Rattle.world_events.specs.Parcels.{kind_of, parcels_of, reply_bill, reply_content, reply_parcel, request_bill}
+use Rattle.platform_world.specs.Step.{Happens, IsStep, bills_signed, world_after}
 use Rattle.platform_world.specs.Run.{Ends, Happened, IsAnsweredIn, OnEvent, Run, Runs, bad_line}
-use Rattle.platform_world.specs.Script.{event_in}
+use Rattle.world_events.specs.Script.{event_in}
 use Rattle.run_safety.specs.Honest.{Comes}
 use Rattle.run_safety.specs.Network as networks
 use Rattle.run_safety.specs.Network.{Network, diary_of, written}

@@ -36,7 +36,7 @@ use Rattle.bill_lines.specs.Bills.{end_of, title_of}
 use Rattle.platform_world.specs.World as worlds
 use Rattle.platform_world.specs.World.{PlatformState, ShardState, WorldRecord, family_of, opening, platforms_of, settled_for, shard_at}
 use Rattle.platform_world.specs.Run.{Happened, IsRunOf, OnRoster, Run, RunsLines}
-use Rattle.platform_world.specs.Script.{if_ok, roster_in}
+use Rattle.world_events.specs.Script.{if_ok, roster_in}
 use Rattle.run_safety.specs.Network as networks
 use Rattle.run_safety.specs.Network.{Network, diary_of}
 use Rattle.run_safety.specs.Run.{Asked, LeadsTo, Reaches}

@@ -16,11 +16,11 @@ use Rattle.closed_family.proofs.Records.{among_before, among_either, among_more}
 use Rattle.answer_lines.specs.declared.parcel.Parcel.{Parcel}
 use Rattle.answer_lines.specs.declared.parcel.Content.{Content}
 use Rattle.answer_lines.specs.declared.parcel.Content.TheVariants as contents
-use Rattle.platform_world.specs.declared.parcels.ReplyKind.{ReplyKind}
-use Rattle.platform_world.specs.declared.parcels.ReplyKind.TheVariants as kinds
-use Rattle.platform_world.specs.declared.happening.Sender.{Sender}
-use Rattle.platform_world.specs.Happening.{Asking}
-use Rattle.platform_world.specs.Step.{kind_of, message_parcel, parcels_of, reply_bill, reply_content, reply_parcel, request_bill}
+use Rattle.world_events.specs.declared.parcels.ReplyKind.{ReplyKind}
+use Rattle.world_events.specs.declared.parcels.ReplyKind.TheVariants as kinds
+use Rattle.world_events.specs.declared.happening.Sender.{Sender}
+use Rattle.world_events.specs.Happening.{Asking}
+use Rattle.world_events.specs.Parcels.{kind_of, message_parcel, parcels_of, reply_bill, reply_content, reply_parcel, request_bill}
 use Rattle.ebl_base.specs.declared.checksum.Checksum.{Checksum}
 use Rattle.canonical_json.specs.Canon.{canon}
 use Rattle.upload_state.specs.Started.{started_value}

@@ -32,9 +32,10 @@ use Rattle.platform_world.specs.declared.fate.Fate.{Fate}
 use Rattle.platform_world.specs.declared.fate.FateEnd.{FateEnd}
 use Rattle.platform_world.specs.declared.fate.FateEnd.TheVariants.{Whole, SignFault, Failed, Stuck, Short}
 use Rattle.platform_world.specs.World.{PlatformState, ShardState, WorldRecord, family_of, member_of, shard_at, with_shard}
-use Rattle.platform_world.specs.Happening.{Asking, Happening, answers, asked, asks, at_command, at_delivery, at_foreign, at_show, bill_named, comes_to, delivered_to, numbered, on_bill, starts_again}
+use Rattle.world_events.specs.Happening.{Asking, Happening, answers, asked, asks, at_command, at_delivery, at_foreign, at_show, bill_named, comes_to, delivered_to, numbered, on_bill, starts_again}
 use Rattle.platform_world.specs.Shard.{EndsAs, IsAskedOnceRead, IsTakenWhole, IsUnread, TakesAs}
-use Rattle.platform_world.specs.Step.{Happens, IsStep, parcels_of, start_answer}
+use Rattle.world_events.specs.Parcels.{parcels_of}
+use Rattle.platform_world.specs.Step.{Happens, IsStep, start_answer}
 use Rattle.run_safety.specs.Honest.{Comes}
 use Rattle.run_safety.specs.Network as networks
 use Rattle.run_safety.specs.Network.{Network}

@@ -27,7 +27,7 @@ use Rattle.closed_family.specs.Later.{IsEndedAt}
 use Rattle.platform_world.specs.World.{ShardState, WorldRecord, family_of, platforms_of, settled_for, shard_at}
 use Rattle.signed_envelope.specs.KeyRing.{Keys}
 use Rattle.platform_world.specs.Run.{Happened, Run}
-use Rattle.platform_world.specs.Script.{roster_in}
+use Rattle.world_events.specs.Script.{roster_in}
 use Rattle.run_safety.specs.Honest.{IsHonestBody, IsHonestReply}
 use Rattle.world_safety.specs.Worlds.{rings_of, sent_by}
 

@@ -7,11 +7,12 @@ use disk_model::{Disk, Failures, MemoryDisk};
 use ebl_base::{ByteList, CallList, NoMemory};
 use journaled_shard::{JournaledShard, Rack};
 use party_roster::Roster;
-use platform_world::{Machine, World, event_in, roster_in};
+use platform_world::{Machine, World};
 use std::alloc::Global;
 use std::process::Abort;
 use std::test::Fail;
 use test_signer::FailingRing;
+use world_events::{event_in, roster_in};
 
 // The roster line of two platforms.
 const ROSTER: &[u8] = br#"{"roster":{

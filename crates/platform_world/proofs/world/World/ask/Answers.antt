@@ -2,7 +2,7 @@ use Rattle.std.proofs.Common.{◌≡◌, ◌+◌, ◌++◌, ◌∷◌, [], ℕ, 
 use Rattle.std.specs.Prelude.{IfOk, OnErr}
 use Rattle.platform_requests.specs.Request.{request_view}
 use Rattle.platform_world.specs.declared.fate.Fate.{Fate}
-use Rattle.platform_world.specs.Happening.{asking_view, asks}
+use Rattle.world_events.specs.Happening.{asking_view, asks}
 use Rattle.platform_world.specs.Machine.{disk_times, ring_times}
 use Rattle.platform_world.specs.Platforms.{EachRose, TakesAt, index_of, states_of, times_if}
 use Rattle.platform_world.specs.State.{HasHappened, IsCut, WorldState}

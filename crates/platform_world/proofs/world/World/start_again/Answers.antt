@@ -1,7 +1,7 @@
 use Rattle.std.proofs.Common.{◌≡◌, ◌++◌, ◌∷◌, [], List, length, refl, ap, subst, ◌∙◌, arith}
 use Rattle.std.specs.Prelude.{IfOk}
 use Rattle.platform_world.specs.declared.fate.Fate.{Fate}
-use Rattle.platform_world.specs.Happening.{starts_again}
+use Rattle.world_events.specs.Happening.{starts_again}
 use Rattle.platform_world.specs.Platforms.{states_of}
 use Rattle.platform_world.specs.State.{HasHappened, IsCut, WorldState}
 use Rattle.platform_world.proofs.Asked.{cut_same, on_err_so, on_started, started_cut, started_so}

@@ -1,5 +1,5 @@
 use Rattle.world_script.specs.Event.{event_view}
-use Rattle.platform_world.specs.Happening.{comes_to}
+use Rattle.world_events.specs.Happening.{comes_to}
 use Rattle.platform_world.proofs.Asked.{cut_behind, on_err_so}
 use Rattle.platform_world.proofs.world.World.step.Goals as goal
 

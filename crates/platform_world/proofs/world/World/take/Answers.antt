@@ -4,8 +4,8 @@ use Rattle.ebl_base.specs.declared.checksum.Checksum.{Checksum}
 use Rattle.world_script.specs.Event.{event_view}
 use Rattle.answer_lines.specs.declared.parcel.Parcel.{Parcel}
 use Rattle.platform_world.specs.declared.fate.Fate.{Fate}
-use Rattle.platform_world.specs.Happening.{Happening, asking_view, asks, comes_to, happening_view}
-use Rattle.platform_world.specs.Script.{names_listed}
+use Rattle.world_events.specs.Happening.{Happening, asking_view, asks, comes_to, happening_view}
+use Rattle.world_events.specs.Script.{names_listed}
 use Rattle.platform_world.specs.State.{HasHappened, WorldState, world_of}
 use Rattle.platform_world.proofs.Asked.{answered_so, cut_same, on_err_so}
 use Rattle.platform_world.proofs.Reached.{may_take}

@@ -1,5 +1,0 @@
-use Rattle.platform_world.proofs.Paths.{path_leads}
-use Rattle.platform_world.proofs.laws.parcels_go_the_way_of_their_request.Goals as goal
-
-pub returns : goal.returns
-returns c = path_leads

@@ -1,0 +1,4 @@
+pub mod Paths
+mod MessageNumbers
+mod SignedNumbers
+mod Nesting

@@ -1,0 +1,5 @@
+pub mod Happening
+pub mod Parcels
+pub mod Script
+pub mod Numbers
+pub mod Signed
