@@ -1,13 +1,13 @@
 //! Sixteen racks with files for an office.
 ghost use Rattle.std.specs.Prelude.{◌≡◌, IfSome, vec_len};
 
-use disk_model::{Disk, FileDisk};
+use disk_model::FileDisk;
 use journaled_shard::Rack;
 use test_signer::KeyedRing;
 
 pub(crate) type Racks<D> = Vec<Rack<D, KeyedRing>>;
 
-// Racks with files in the folder, whose names are this one and a number. Nothing is pending there.
+// Racks with files in the folder, whose names are this one and a number.
 fn racks_in(rt: &HostRuntime, folder: &str, name: &str) -> Option<Racks<FileDisk>>
     ensures { IfSome result (λ racks. vec_len racks ≡ 16) }
 {
@@ -25,8 +25,7 @@ fn rack_in(
     number: u32,
 ) -> Option<Rack<FileDisk, KeyedRing>> {
     let path = format!(in rt.alloc(); "{folder}/{name}{number}").ok()?;
-    let mut disk = FileDisk::open(rt, folder, path.as_str()).ok()?;
-    disk.sync().ok()?;
+    let disk = FileDisk::open(rt, folder, path.as_str()).ok()?;
     let ring = KeyedRing::derived();
     Some(Rack { disk, ring })
 }

@@ -1,7 +1,6 @@
 //! Two platforms' offices.
-ghost use Rattle.std.specs.Prelude.{◌≡◌, All, IfSome, vec_len};
+ghost use Rattle.std.specs.Prelude.{◌≡◌, IfSome, vec_len};
 ghost use Rattle.platform_office.specs.Office.{IsPassOf};
-ghost use Rattle.platform_office.specs.Opening.{NothingIsPending};
 
 use crate::disks::Racks;
 use disk_model::Disk;
@@ -32,7 +31,6 @@ fn open_one<D: Disk + Drop>(
     racks: Racks<D>,
 ) -> Option<(Office<D, KeyedRing>, Pass<D, KeyedRing>)>
     requires count { vec_len racks ≡ 16 }
-    requires nothing_pending { All (NothingIsPending D.tells D.seen D.may_leave) racks.items }
     ensures { IfSome result (λ r. IsPassOf r.0 r.1) }
 {
     let me = PlatformCode::try_new(code)?;
@@ -40,15 +38,13 @@ fn open_one<D: Disk + Drop>(
     Office::open(alloc, me, roster, racks).ok()
 }
 
-/// Opens both. On a disk that isn't blank nothing may be pending.
+/// Opens both.
 pub(crate) fn open<D: Disk + Drop>(
     alloc: Global,
     alph: Racks<D>,
     beta: Racks<D>,
 ) -> Option<(Offices<D>, Passes<D>)>
     requires counts { (vec_len alph ≡ 16) × (vec_len beta ≡ 16) }
-    requires nothing_pending { All (NothingIsPending D.tells D.seen D.may_leave) alph.items
-        × All (NothingIsPending D.tells D.seen D.may_leave) beta.items }
     ensures alph { IfSome result (λ r. IsPassOf r.0.alph r.1.alph) }
     ensures beta { IfSome result (λ r. IsPassOf r.0.beta r.1.beta) }
 {

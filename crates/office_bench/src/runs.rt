@@ -1,6 +1,5 @@
 //! Runs of threads over the offices, on racks of each kind.
-ghost use Rattle.std.specs.Prelude.{◌≡◌, All, IfSome, vec_len};
-ghost use Rattle.platform_office.specs.Opening.{NothingIsPending};
+ghost use Rattle.std.specs.Prelude.{◌≡◌, IfSome, vec_len};
 
 use crate::closing::{Found, close};
 use crate::disks::Racks;
@@ -30,8 +29,6 @@ pub(crate) fn measure<D: Disk + Drop + Send, R: Threads + Wait + Sync>(
     beta: Racks<D>,
 ) -> Option<(Replies, Found)>
     requires counts { (vec_len alph ≡ 16) × (vec_len beta ≡ 16) }
-    requires nothing_pending { All (NothingIsPending D.tells D.seen D.may_leave) alph.items
-        × All (NothingIsPending D.tells D.seen D.may_leave) beta.items }
 {
     let (offices, passes) = open(alloc, alph, beta)?;
     match run(rt, alloc, &offices, passes, size.levels, size.bills) {

@@ -30,7 +30,7 @@ use Rattle.journaled_diary.specs.Contents.{IsJournalOf, contents_in}
 use Rattle.platform_office.specs.Opening.{AreBack, Beside, IsBack, IsDamagedShard, IsKnown, IsOpened, IsRefusal, IsStray, fault_at, rack_of}
 use Rattle.platform_office.specs.declared.post.Post.{Post}
 use Rattle.platform_office.specs.Post.{IsInOrder, IsOfShard, OfficeShardRecord, post_of}
-use Rattle.platform_office.proofs.BesideLemmas.{all_at, beside_at, beside_long, beside_map, beside_push, beside_zip, get_behind, zip_append, zip_same}
+use Rattle.platform_office.proofs.BesideLemmas.{beside_at, beside_long, beside_map, beside_push, beside_zip, get_behind, zip_append, zip_same}
 
 module _ {D G : Type 0} (tells : D → Bool) (seen : D → List ℕ) (disk_faults : D → ℕ) (me : PlatformCode)
     (roster : RosterRecord) where
@@ -69,13 +69,6 @@ module _ {D G : Type 0} (tells : D → Bool) (seen : D → List ℕ) (disk_fault
   next_parts given rest left opened x so popped =
       so.parts ∙ ap (λ (l : List (Rack D G)). so.front ++ reverse l) popped
       ∙ ap (λ (l : List (Rack D G)). so.front ++ l) (reverse-append left (x ∷ []))
-
-  pub next_has : (P : Rack D G → Type 0) (given rest left : List (Rack D G)) (opened : List (OfficeShardRecord D G))
-      (x : Rack D G) → AreOpened given opened rest → rest ≡ left ++ x ∷ [] → All P given → P x
-  next_has P given rest left opened x so popped all =
-      all_at P given (length so.front) x all
-      (ap (λ (l : List (Rack D G)). slice_get l (length so.front)) (next_parts given rest left opened x so popped)
-      ∙ get_behind so.front (reverse left) x (length so.front) refl)
 
   pub one_opened : (given rest left : List (Rack D G)) (opened more : List (OfficeShardRecord D G)) (x : Rack D G)
       (s : OfficeShardRecord D G) (k : ℕ) → AreOpened given opened rest → rest ≡ left ++ x ∷ []

@@ -5,7 +5,6 @@ use Rattle.ebl_base.specs.Faults.{Rose}
 use Rattle.ebl_base.specs.declared.platform_code.PlatformCode.{PlatformCode}
 use Rattle.signed_envelope.specs.KeyRing.{Keys}
 use Rattle.party_roster.specs.RosterRecord.{RosterRecord}
-use Rattle.disk_model.specs.Disk.{Only}
 use Rattle.bill_diary.specs.declared.frame.Frame.{Frame}
 use Rattle.bill_journal.specs.Frames.{front_of}
 use Rattle.bill_journal.specs.declared.fault.OpenFault.{OpenFault}
@@ -57,11 +56,6 @@ fault_at i opening.NoMemory = faults.NoMemory
 pub record StandsFor {D : Type 0} (tells : D → Bool) (seen : D → List ℕ) (disk : D) (diary : List Frame) : Type 0 where
   pub blank : tells disk ≡ true → seen disk ≡ [] → diary ≡ []
   pub journal : tells disk ≡ true → 0 < length (seen disk) → IsJournalOf (seen disk) diary
-
--- on a disk that isn't blank nothing is pending: a crash leaves what a read gives
-abbrev pub NothingIsPending : {D G : Type 0} → (D → Bool) → (D → List ℕ) → (D → List ℕ → Type 0) → Rack D G → Type 0
-NothingIsPending tells seen may_leave rack =
-    tells rack.disk ≡ true → 0 < length (seen rack.disk) → Only (seen rack.disk) (may_leave rack.disk)
 
 -- a rack as it comes back: its own ring, and its disk, whose count of faults may have risen. A disk that tells and
 -- wasn't blank has the bytes that it had

@@ -1,5 +1,5 @@
 //! An office, and its calls.
-ghost use Rattle.std.specs.Prelude.{◌≡◌, ◌≢◌, ◌<◌, ◌≤◌, ◌+◌, ℕ, All, IfOk, IfErr, IsErrOf, OnErr, max, vec_len, length};
+ghost use Rattle.std.specs.Prelude.{◌≡◌, ◌≢◌, ◌<◌, ◌≤◌, ◌+◌, ℕ, IfOk, IfErr, IsErrOf, OnErr, max, vec_len, length};
 ghost use mathlib.Core.List.{IsPrefix};
 ghost use Rattle.party_roster.specs.RosterForm.{IsRoster};
 ghost use Rattle.platform_requests.specs.Request.{request_view};
@@ -12,7 +12,7 @@ ghost use Rattle.platform_office.specs.Answered.{told_by};
 ghost use Rattle.platform_office.specs.Office.{IsPassOf, IsServedAt, Knows, KnowsOfMore, front_at};
 ghost use Rattle.platform_office.specs.Served.{MayBeServed};
 ghost use Rattle.platform_office.specs.Closed.{IsLeft};
-ghost use Rattle.platform_office.specs.Opening.{AreBack, Beside, IsKnown, IsRefusal, NothingIsPending};
+ghost use Rattle.platform_office.specs.Opening.{AreBack, Beside, IsKnown, IsRefusal};
 ghost use Rattle.platform_office.specs.declared.fault.OfficeFault.TheVariants as opening;
 ghost use Rattle.platform_office.specs.declared.fault.TryFault.TheVariants as faults;
 
@@ -61,7 +61,7 @@ impl<D: Disk, G: KeyRing> Model for Office<D, G> {
 
 impl<D: Disk + Drop, G: KeyRing + Drop> Office<D, G> {
     /// Opens the sixteen shards of the platform `me`, one from each rack, in their order, and makes the first pass,
-    /// which has seen nothing. A blank disk is made a journal. On a disk that isn't blank nothing may be pending.
+    /// which has seen nothing. A blank disk is made a journal; another one is synced and read.
     ///
     /// The first rack that is refused ends it: `OpenFault` comes only where that disk's count of faults rose, `Damaged`
     /// only where the disk, if it tells, is no journal of a legal diary of its shard's bills. The racks come back in
@@ -74,7 +74,6 @@ impl<D: Disk + Drop, G: KeyRing + Drop> Office<D, G> {
     ) -> Result<(Office<D, G>, Pass<D, G>), (Vec<Rack<D, G>>, OfficeFault)>
         requires roster { IsRoster roster }
         requires sixteen { vec_len racks ≡ 16 }
-        requires nothing_pending { All (NothingIsPending D.tells D.seen D.may_leave) racks.items }
         ensures me { IfOk result (λ r. r.0.me ≡ me) }
         ensures roster { IfOk result (λ r. r.0.roster ≡ roster) }
         ensures of { IfOk result (λ r. IsPassOf r.0 r.1) }

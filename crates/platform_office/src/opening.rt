@@ -1,7 +1,7 @@
 //! Shards opened from racks, one after the other; where one is refused, all racks come back in their order.
 ghost use Rattle.std.specs.Prelude.{◌≡◌, ◌≢◌, ◌≤◌, ◌<◌, ◌+◌, ◌++◌, ◌∷◌, [], All, IfErr, IfOk, List, ℕ, false, is_some, vec_len, vec_capacity, reverse, map};
 ghost use Rattle.party_roster.specs.RosterForm.{IsRoster};
-ghost use Rattle.platform_office.specs.Opening.{AreBack, Beside, IsOpened, IsRefusal, NothingIsPending, fault_at, rack_of};
+ghost use Rattle.platform_office.specs.Opening.{AreBack, Beside, IsOpened, IsRefusal, fault_at, rack_of};
 ghost use Rattle.platform_office.specs.declared.fault.OfficeFault.TheVariants as faults;
 
 use crate::fault::OfficeFault;
@@ -23,7 +23,6 @@ pub(crate) fn open_all<D: Disk + Drop, G: KeyRing + Drop>(
 ) -> Result<Vec<OfficeShard<D, G>>, (Vec<Rack<D, G>>, OfficeFault)>
     requires roster { IsRoster roster.now }
     requires few { vec_len racks ≤ 16 }
-    requires nothing_pending { All (NothingIsPending D.tells D.seen D.may_leave) racks.items }
     ensures opened { IfOk result (λ shards.
         Beside (IsOpened D.tells D.seen D.faults me roster.now) 0 racks.items shards.items) }
     ensures firm { IfOk result (λ shards. All (λ s. is_some s.shard.written.loose ≡ false) shards.items) }

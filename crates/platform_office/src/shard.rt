@@ -2,13 +2,12 @@
 ghost use Rattle.std.specs.Prelude.{◌≡◌, ◌⊎◌, ◌+◌, ◌<◌, ◌≤◌, ◌++◌, ◌∷◌, IfErr, IfOk, IfSome, List, None, Some, ℕ, All, is_some, length, take, true};
 ghost use mathlib.Core.List.{IsPrefix};
 ghost use Rattle.ebl_base.specs.Faults.{Rose};
-ghost use Rattle.disk_model.specs.Disk.{Only};
 ghost use Rattle.party_roster.specs.RosterForm.{IsRoster};
 ghost use Rattle.platform_requests.specs.Request.{request_view};
 ghost use Rattle.platform_requests.specs.Shard.{shard_of};
 ghost use Rattle.bill_journal.specs.Frames.{front_of};
 ghost use Rattle.journaled_diary.specs.Contents.{contents_in};
-ghost use Rattle.platform_office.specs.Opening.{IsBack, IsDamagedShard, IsOpened, IsStray, NothingIsPending, rack_of};
+ghost use Rattle.platform_office.specs.Opening.{IsBack, IsDamagedShard, IsOpened, IsStray, rack_of};
 ghost use Rattle.platform_office.specs.Post.{IsAtPost, IsInOrder, IsOfShard, post_of};
 ghost use Rattle.platform_office.specs.Served.{IsServedBy, MayBeServed, is_disk, is_sign};
 
@@ -82,7 +81,6 @@ impl<D: Disk, G: KeyRing> OfficeShard<D, G> {
         rack: Rack<D, G>,
     ) -> Result<Self, (Rack<D, G>, OpenFault)>
         requires roster { IsRoster roster }
-        requires nothing_pending { NothingIsPending D.tells D.seen D.may_leave rack }
         ensures opened { IfOk result (IsOpened D.tells D.seen D.faults me roster number rack) }
         ensures back { IfErr result (λ r. IsBack D.tells D.seen D.faults rack r.0) }
         ensures failed { IfErr result (λ r. r.1 ≡ OpenFault.Disk → Rose (D.faults rack.disk) (D.faults r.0.disk)) }

@@ -1,8 +1,8 @@
 use Rattle.std.proofs.Common.{◌≡◌, ◌∙◌, [], subst, arith}
 use Rattle.std.proofs.lemmas.List.{nil_from_length}
 use Rattle.party_roster.specs.RosterRecord.{RosterRecord}
-use Rattle.platform_office.specs.Opening.{IsDamagedShard, IsOpened, NothingIsPending}
-use Rattle.platform_office.proofs.OpeningLemmas.{all_opened, next_has, none_loose, none_opened, one_opened, rack_refused, racks_back}
+use Rattle.platform_office.specs.Opening.{IsDamagedShard, IsOpened}
+use Rattle.platform_office.proofs.OpeningLemmas.{all_opened, none_loose, none_opened, one_opened, rack_refused, racks_back}
 use Rattle.platform_office.proofs.opening.open_all.Goals as goal
 
 pub loop-rack-init : goal.loop-rack-init
@@ -13,13 +13,6 @@ loop-rack-init g c = record {
   room = omega (arith, c.in-Ok.ensures.capacity, c.len-count.ensures);
   rest = omega (arith, c.reverse.ensures.capacity, c.args.racks.ok.1);
 }
-
-pub open-requires-clause-nothing_pending : goal.open-requires-clause-nothing_pending
-open-requires-clause-nothing_pending g c =
-    next_has g.D.Disk.tells g.D.Disk.seen g.D.Disk.faults c.args.me c.args.roster.now
-    (NothingIsPending g.D.Disk.tells g.D.Disk.seen g.D.Disk.may_leave) c.args.racks.items c.loop-rack.rest.items
-    c.pop.new.self.items c.loop-rack.opened.items c.in-Some.rack c.loop-rack.invariant.opened c.in-Some.ensures.items
-    c.requires.nothing_pending
 
 pub loop-rack-preserved : goal.loop-rack-preserved
 loop-rack-preserved g c =

@@ -1,5 +1,5 @@
 //! Offices on disks in memory, and commands on one bill, which is of shard 4.
-ghost use Rattle.std.specs.Prelude.{◌≡◌, All, IfOk, IfSome, vec_len, []};
+ghost use Rattle.std.specs.Prelude.{◌≡◌, IfOk, IfSome, vec_len};
 ghost use Rattle.ebl_base.specs.Moment.{IsMoment};
 ghost use Rattle.ebl_base.specs.Party.{IsParty};
 ghost use Rattle.holder_commands.specs.Command.{command_view};
@@ -47,17 +47,13 @@ fn failures(alloc: Global, fails: &[u64]) -> Result<Failures, NoMemory> {
 }
 
 // A blank disk of which the listed calls fail so.
-fn disk(alloc: Global, fails: &[u64]) -> Result<MemoryDisk, NoMemory>
-    ensures { IfOk result (λ disk. disk.seen ≡ []) }
-{
+fn disk(alloc: Global, fails: &[u64]) -> Result<MemoryDisk, NoMemory> {
     let failures = failures(alloc, fails)?;
     MemoryDisk::new(alloc, Items::new(alloc), failures)
 }
 
 // That disk, and the derived ring.
-fn rack(alloc: Global, fails: &[u64]) -> Option<TestRack>
-    ensures { IfSome result (λ rack. rack.disk.seen ≡ []) }
-{
+fn rack(alloc: Global, fails: &[u64]) -> Option<TestRack> {
     match disk(alloc, fails) {
         Ok(disk) => Some(Rack {
             disk,
@@ -69,8 +65,7 @@ fn rack(alloc: Global, fails: &[u64]) -> Option<TestRack>
 
 // Sixteen blank disks; at the bill's shard the listed calls fail.
 fn racks(alloc: Global, fails: &[u64]) -> Option<Vec<TestRack>>
-    ensures count { IfSome result (λ racks. vec_len racks ≡ 16) }
-    ensures blank { IfSome result (λ racks. All (λ rack. rack.disk.seen ≡ []) racks.items) }
+    ensures { IfSome result (λ racks. vec_len racks ≡ 16) }
 {
     let mut racks = Vec::new(alloc);
     for number in 0..16 {
@@ -82,8 +77,7 @@ fn racks(alloc: Global, fails: &[u64]) -> Option<Vec<TestRack>>
 
 // The office of ALPH on these.
 fn opened(alloc: Global, me: PlatformCode, racks: Vec<TestRack>) -> Option<(TestOffice, TestPass)>
-    requires count { vec_len racks ≡ 16 }
-    requires blank { All (λ rack. rack.disk.seen ≡ []) racks.items }
+    requires { vec_len racks ≡ 16 }
     ensures { IfSome result (λ r. IsPassOf r.0 r.1) }
 {
     match roster(alloc) {
