@@ -1,5 +1,7 @@
 //! What a shard is asked about bills, and what comes of it.
 ghost use Rattle.std.specs.Prelude.{IfSome};
+ghost use Rattle.ebl_base.specs.Moment.{IsMoment};
+ghost use Rattle.ebl_base.specs.Party.{IsParty};
 ghost use Rattle.holder_commands.specs.Command.{command_view};
 ghost use Rattle.holder_commands.specs.Form.{IsCommand};
 ghost use Rattle.transfer_judge.specs.PlannedTexts.{Nests};
@@ -49,12 +51,22 @@ pub(crate) fn ask<D: Disk>(
     requires form { IfSome command (λ command. IsCommand (command_view command)) }
     requires nests { IfSome command (λ command. Nests (command_view command)) }
 {
-    let party = Party::from_text(by.as_bytes())?;
-    let now = Moment::try_new(1000)?;
     let command = command?;
+    let Some((party, now)) = asker(by) else {
+        drop(command);
+        return None;
+    };
     if !shard.has_attempts(&command) {
         drop(command);
         return None;
     }
     Some(shard.take(alloc, now, Request::Command { party, command }))
+}
+
+// Who asks, and when.
+fn asker(by: &str) -> Option<(Party, Moment)>
+    ensures party { IfSome result (λ r. IsParty r.0) }
+    ensures now { IfSome result (λ r. IsMoment r.1) }
+{
+    Some((Party::from_text(by.as_bytes())?, Moment::try_new(1000)?))
 }

@@ -59,10 +59,22 @@ fn send(alloc: Global, alph: &mut Shard) -> Option<ByteList> {
 // A platform's shard on a blank disk of which the listed calls fail, and the writes among them leave their bytes.
 fn open(alloc: Global, code: &[u8], calls: &[u64]) -> Option<Shard> {
     let me = PlatformCode::try_new(code)?;
-    let failures = Failures {
+    let roster = roster(alloc)?;
+    let Some(disk) = disk(alloc, calls) else {
+        drop(roster);
+        return None;
+    };
+    JournaledShard::open(alloc, me, roster, disk, KeyedRing::derived()).ok()
+}
+
+fn disk(alloc: Global, calls: &[u64]) -> Option<MemoryDisk> {
+    let failures = failures(alloc, calls)?;
+    MemoryDisk::new(alloc, ByteList::new(alloc), failures).ok()
+}
+
+fn failures(alloc: Global, calls: &[u64]) -> Option<Failures> {
+    Some(Failures {
         calls: CallList::from_slice(alloc, calls).ok()?,
         written: CallList::from_slice(alloc, calls).ok()?,
-    };
-    let disk = MemoryDisk::new(alloc, ByteList::new(alloc), failures).ok()?;
-    JournaledShard::open(alloc, me, roster(alloc)?, disk, KeyedRing::derived()).ok()
+    })
 }

@@ -1,7 +1,7 @@
 //! A shard on a file, and what it is asked by how many frames it has.
 use crate::asking::{act, ask};
 use crate::outcomes::word_of;
-use disk_model::{Disk, FileDisk};
+use disk_model::FileDisk;
 use ebl_base::{ByteList, MAX_DOCUMENT_SIZE, PlatformCode};
 use journaled_shard::JournaledShard;
 use sample_bills::{attaching, bill, roster};
@@ -18,7 +18,7 @@ pub(crate) fn on_file(
     file: &str,
     count: Option<u32>,
 ) -> Option<()> {
-    let disk = disk(rt, folder, file)?;
+    let disk = FileDisk::open(rt, folder, file).ok()?;
     let mut shard = start(rt.alloc(), disk)?;
     let worked = work(rt, &mut shard, count);
     drop(shard);
@@ -33,14 +33,7 @@ fn work(rt: &HostRuntime, shard: &mut Shard, count: Option<u32>) -> Option<()> {
     }
 }
 
-// A file as a disk on which nothing is pending.
-fn disk(rt: &HostRuntime, folder: &str, file: &str) -> Option<FileDisk> {
-    let mut disk = FileDisk::open(rt, folder, file).ok()?;
-    disk.sync().ok()?;
-    Some(disk)
-}
-
-// The shard of ALPH whose diary is on a disk. On the disk nothing may be pending.
+// The shard of ALPH whose diary is on a disk.
 fn start(alloc: Global, disk: FileDisk) -> Option<Shard> {
     let me = PlatformCode::try_new(b"ALPH")?;
     let roster = roster(alloc)?;
