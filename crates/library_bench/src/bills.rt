@@ -20,7 +20,9 @@ pub(crate) fn register_bills(
     entries: u8,
 ) -> Option<()> {
     let mut made = Bills::new(alloc, entries)?;
-    carry_out(alloc, &mut made, bills, rows, events, asked)
+    let done = carry_out(alloc, &mut made, bills, rows, events, asked);
+    drop(made);
+    done
 }
 
 // The bills are lent, so that they are dropped at one place and not at each `?`.

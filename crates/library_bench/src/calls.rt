@@ -174,7 +174,11 @@ fn write_body_often(alloc: Global, body: &Body, rounds: u32) -> bool {
 
 fn over_frame(alloc: Global, bytes: &[u8], rounds: u32) -> bool {
     match frame_read(alloc, bytes) {
-        Ok(frame) => write_frame_often(alloc, &frame, rounds),
+        Ok(frame) => {
+            let is_written = write_frame_often(alloc, &frame, rounds);
+            drop(frame);
+            is_written
+        }
         Err(_) => false,
     }
 }
