@@ -13,4 +13,3 @@ pub mod Readings
 pub mod TakingLemmas
 pub mod Parts
 pub mod Refusals
-pub mod Former

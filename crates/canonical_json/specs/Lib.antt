@@ -5,7 +5,6 @@ pub mod Number
 pub mod Lawful
 pub mod Canon
 pub mod Reading
-pub mod Former
 pub mod Faults
 pub mod Field
 pub mod Taking

@@ -19,7 +19,7 @@ mod writing;
 pub use fault::ReadError;
 pub use field::{decimal_of, flag_of, int_of, list_of, member_of, text_of};
 pub use lawful::is_lawful;
-pub use laws::{canonical_reads, equal_texts_have_equal_values, formerly_read_is_read_alike};
+pub use laws::{canonical_reads, equal_texts_have_equal_values};
 pub use nesting::nests_within;
 pub use reading::{read, read_if_any};
 pub use taking::take_member;

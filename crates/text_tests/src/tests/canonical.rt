@@ -5,10 +5,11 @@ use crate::tests::comparing::{is_refused, is_rewritten, is_written, same, same_b
 use crate::tests::making::{Form, assert_table, shown};
 use canonical_json::{
     Json, JsonList, Member, MemberList, ReadError, append, canonical_reads, decimal_of,
-    equal_texts_have_equal_values, flag_of, formerly_read_is_read_alike, int_of, is_lawful,
-    list_of, member_of, nests_within, read, read_if_any, take_member, text_of, write, write_text,
+    equal_texts_have_equal_values, flag_of, int_of, is_lawful, list_of, member_of, nests_within,
+    read, read_if_any, take_member, text_of, write, write_text,
 };
 use ebl_base::{ByteList, CharList, NoMemory};
+use former_reading::formerly_read_is_read_alike;
 use serde_json::Value;
 use std::alloc::{AllocError, Global};
 use std::process::Abort;

@@ -1,5 +1,4 @@
--- How texts were read before decimals: by `serde_json`, and the last of several members with one name stays. Only the
--- law of old texts cites it.
+-- How texts were read before decimals: by `serde_json`, and the last of several members with one name stays.
 use Rattle.std.specs.Prelude.{◌≡◌, ℕ, ℤ, pos, List, Bool, false, ◌||◌, Some, option_map, unwrap_or}
 use Rattle.std.specs.Str.{IsUtf8}
 use Rattle.serde_json.specs.Data as reading

@@ -24,8 +24,8 @@ use Rattle.canonical_json.specs.Number.{lowest, greatest, exact, from_parts, num
 use Rattle.canonical_json.specs.Reading.{tree_of, has_repeated, items_have_repeated, members_have_repeated, repeats, names_of, has_number, items_have_number, members_have_number, value_of, values_of_items, members_of_members, Reads, HasNamesOnce, ItemsHaveNamesOnce, MembersHaveNamesOnce, NamesOnce}
 use Rattle.canonical_json.specs.declared.fault.ReadError.{ReadError}
 use Rattle.canonical_json.specs.declared.fault.ReadError.TheVariants.{Fraction, Range}
-use Rattle.canonical_json.specs.Former as former
-use Rattle.canonical_json.specs.Former.{FormerlyReads}
+use Rattle.former_reading.specs.Former as former
+use Rattle.former_reading.specs.Former.{FormerlyReads}
 use Rattle.canonical_json.proofs.Order.{order, put_all-put}
 use Rattle.canonical_json.proofs.Sorting.{repeats-apart}
 use Rattle.canonical_json.proofs.Readings.{value_in_tree-none}
