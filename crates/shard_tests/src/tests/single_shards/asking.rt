@@ -285,7 +285,9 @@ pub(crate) fn keyed(alloc: Global, code: &str) -> Result<Shard<KeyedRing>, Fail>
 /// The body of the start by which ALPH sends the bill to BETA after these acts.
 pub(crate) fn sent_after(alloc: Global, before: &[Act]) -> Result<ByteList, Fail> {
     let mut shard = keyed(alloc, "ALPH")?;
-    sends_after(alloc, &mut shard, before)
+    let sent = sends_after(alloc, &mut shard, before);
+    drop(shard);
+    sent
 }
 
 fn sends_after(
@@ -303,7 +305,9 @@ fn sends_after(
 /// The same where the three bytes `abc` are attached.
 pub(crate) fn sent_with_document(alloc: Global) -> Result<ByteList, Fail> {
     let mut shard = keyed(alloc, "ALPH")?;
-    sends_with_document(alloc, &mut shard)
+    let sent = sends_with_document(alloc, &mut shard);
+    drop(shard);
+    sent
 }
 
 fn sends_with_document(alloc: Global, shard: &mut Shard<KeyedRing>) -> Result<ByteList, Fail> {

@@ -35,17 +35,21 @@ fn tell_start<R: Abort>(
 fn start(rt: HostRuntime) -> Result<(), Fail> {
     let body = sent_after(rt.alloc(), &[ISSUE])?;
     let mut shard = failing_at(rt.alloc(), "BETA", 0)?;
-    tell_start(&rt, rt.alloc(), &mut shard, body.as_slice())
+    let told = tell_start(&rt, rt.alloc(), &mut shard, body.as_slice());
+    drop(shard);
+    told
 }
 
 const TRANSFERS: [(&str, usize, usize); 2] = [("SIGN", 0, 2), ("DONE", 1, 3)];
 
-// The entry is signed, and the manifest isn't.
+// The bill is signed and issued. Then the entry is signed, and the manifest isn't.
 fn tell_transfer<R: Abort>(
     rt: &R,
     alloc: Global,
     shard: &mut Shard<FailingRing>,
 ) -> Result<(), Fail> {
+    sign(alloc, shard)?;
+    drop(acts(alloc, shard, ISSUE)?);
     for row in &TRANSFERS {
         let outcome = acts(alloc, shard, SEND)?;
         comes_to(rt, shard, outcome, *row);
@@ -53,16 +57,10 @@ fn tell_transfer<R: Abort>(
     Ok(())
 }
 
-// The bill is signed and issued.
-fn issue(alloc: Global, shard: &mut Shard<FailingRing>) -> Result<(), Fail> {
-    sign(alloc, shard)?;
-    drop(acts(alloc, shard, ISSUE)?);
-    Ok(())
-}
-
 #[test]
 fn transfer(rt: HostRuntime) -> Result<(), Fail> {
     let mut shard = failing_at(rt.alloc(), "ALPH", 1)?;
-    issue(rt.alloc(), &mut shard)?;
-    tell_transfer(&rt, rt.alloc(), &mut shard)
+    let told = tell_transfer(&rt, rt.alloc(), &mut shard);
+    drop(shard);
+    told
 }

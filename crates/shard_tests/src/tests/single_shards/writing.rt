@@ -55,7 +55,9 @@ fn tell_rows<R: Abort>(
     rows: &[(&[u8], [&str; 2], usize)],
 ) -> Result<(), Fail> {
     let mut shard = keyed(alloc, "BETA")?;
-    tell_starts(rt, alloc, &mut shard, rows)
+    let told = tell_starts(rt, alloc, &mut shard, rows);
+    drop(shard);
+    told
 }
 
 fn reference_of(outcome: &Outcome) -> Result<Reference, Fail> {
@@ -95,7 +97,9 @@ fn tell_puts<R: Abort>(
 fn frames_of_a_document(rt: HostRuntime) -> Result<(), Fail> {
     let body = sent_with_document(rt.alloc())?;
     let mut shard = keyed(rt.alloc(), "BETA")?;
-    tell_document(&rt, rt.alloc(), &mut shard, body.as_slice())
+    let told = tell_document(&rt, rt.alloc(), &mut shard, body.as_slice());
+    drop(shard);
+    told
 }
 
 fn tell_desk<R: Abort>(
@@ -114,5 +118,7 @@ fn start_at_a_desk(rt: HostRuntime) -> Result<(), Fail> {
     let body = sent_after(rt.alloc(), &[ISSUE])?;
     let shard = keyed(rt.alloc(), "BETA")?;
     let mut desk = ShardDesk { shard };
-    tell_desk(&rt, rt.alloc(), &mut desk, body.as_slice())
+    let told = tell_desk(&rt, rt.alloc(), &mut desk, body.as_slice());
+    drop(desk);
+    told
 }
