@@ -100,6 +100,7 @@ fn title_after<R: Abort>(rt: &R, alloc: Global, steps: &str) -> Option<Title> {
     let samples = samples(rt, alloc);
     let register = register(rt, alloc, &samples, THE_BILL, steps);
     let title = register.title(bill_name(rt, alloc, THE_BILL)).ok();
+    drop(register);
     title.expect(rt, "folds")
 }
 

@@ -124,7 +124,9 @@ fn sealed<R: Abort>(
     entry: &Entry,
 ) -> SignedText {
     let payload = encode(alloc, entry).expect(rt, "no error");
-    signed_with(rt, alloc, ring, who, &payload)
+    let text = signed_with(rt, alloc, ring, who, &payload);
+    drop(payload);
+    text
 }
 
 // The text under the key that BETA has on the derived ring.
@@ -149,7 +151,9 @@ fn not_compact<R: Abort>(rt: &R, alloc: Global) -> SignedText {
 
 fn no_entry<R: Abort>(rt: &R, alloc: Global, who: PlatformCode) -> SignedText {
     let payload = read(alloc, b"{}").expect(rt, "no error");
-    signed(rt, alloc, who, &payload)
+    let text = signed(rt, alloc, who, &payload);
+    drop(payload);
+    text
 }
 
 // The text of an entry, with what may be wrong with a signed text.
@@ -245,7 +249,9 @@ pub(crate) fn checked<R: Abort>(
 ) -> Result<Chain, ChainRefusal> {
     let roster = roster(rt, alloc);
     let document = document(rt, alloc, THE_BILL);
-    check(alloc, &roster, &KeyedRing::derived(), &document, texts)
+    let checked = check(alloc, &roster, &KeyedRing::derived(), &document, texts);
+    drop(roster);
+    checked
 }
 
 // ---- samples

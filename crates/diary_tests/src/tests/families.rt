@@ -373,13 +373,16 @@ fn put_verdict(text: &mut String, samples: &[Sample], verdict: &Verdict) -> Resu
 fn surveyed<R: Abort>(rt: &R, alloc: Global, family: &Family) -> Verdict {
     let copy = family.copy(alloc).expect(rt, "no error");
     let verdict = survey(alloc, &copy).expect(rt, "no error");
-    verdict.copy(alloc).expect(rt, "no error")
+    let again = verdict.copy(alloc).expect(rt, "no error");
+    drop(verdict);
+    again
 }
 
 fn found<R: Abort>(rt: &R, alloc: Global, samples: &[Sample], family: &Family) -> String {
     let verdict = surveyed(rt, alloc, family);
     let mut text = String::new(alloc);
     put_verdict(&mut text, samples, &verdict).expect(rt, "no error");
+    drop(verdict);
     text
 }
 

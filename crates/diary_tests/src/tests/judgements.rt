@@ -46,7 +46,9 @@ fn judged_by<R: Abort>(
     let me = code(rt, at);
     let manifest = manifest(alloc, named, sample.name().unwrap_or(named));
     let roster = roster(rt, alloc);
-    judge(alloc, register, &roster, me, &sample.chain, &manifest).expect(rt, "no error")
+    let judgement = judge(alloc, register, &roster, me, &sample.chain, &manifest);
+    drop(roster);
+    judgement.expect(rt, "no error")
 }
 
 fn bill_of<R: Abort>(rt: &R, alloc: Global, word: &str) -> Checksum {
@@ -61,7 +63,9 @@ fn judged<R: Abort>(rt: &R, alloc: Global, samples: &[Sample], row: &str) -> Jud
     let named = bill_of(rt, alloc, named);
     let sample = sample_of(rt, samples, THE_BILL, entries);
     let register = register(rt, alloc, samples, THE_BILL, steps);
-    judged_by(rt, alloc, at, &register, sample, named)
+    let judgement = judged_by(rt, alloc, at, &register, sample, named);
+    drop(register);
+    judgement
 }
 
 fn put_evidence(
@@ -107,7 +111,9 @@ fn assert_row<R: Abort>(rt: &R, alloc: Global, samples: &[Sample], row: &str) {
     let judgement = judged(rt, alloc, samples, row);
     assert_judgement(rt, alloc, samples, &judgement, row);
     let copy = judgement.copy(alloc).expect(rt, "no error");
-    assert_judgement(rt, alloc, samples, &copy, row)
+    assert_judgement(rt, alloc, samples, &copy, row);
+    drop(judgement);
+    drop(copy);
 }
 
 #[test]

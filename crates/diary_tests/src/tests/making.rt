@@ -21,7 +21,10 @@ const ROSTER: &[u8] = br#"{
 
 /// The roster of the tests.
 pub(crate) fn roster<R: Abort>(rt: &R, alloc: Global) -> Roster {
-    Roster::read(alloc, &read(alloc, ROSTER).expect(rt, "no error")).expect(rt, "no error")
+    let json = read(alloc, ROSTER).expect(rt, "no error");
+    let roster = Roster::read(alloc, &json).expect(rt, "no error");
+    drop(json);
+    roster
 }
 
 pub(crate) fn code<R: Abort>(rt: &R, platform: &str) -> PlatformCode {
@@ -154,7 +157,9 @@ pub(crate) fn document_json<R: Abort>(rt: &R, alloc: Global, bill: &str) -> Json
 
 pub(crate) fn document<R: Abort>(rt: &R, alloc: Global, bill: &str) -> Document {
     let json = document_json(rt, alloc, bill);
-    Document::of_json(alloc, &json).expect(rt, "no error")
+    let document = Document::of_json(alloc, &json).expect(rt, "no error");
+    drop(json);
+    document
 }
 
 // ---- signed texts

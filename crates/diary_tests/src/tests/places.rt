@@ -76,7 +76,9 @@ fn known_of<R: Abort>(
     history: &History,
 ) -> &'static str {
     let place = place_of(alloc, history.restart()).expect(rt, "no error");
-    written_or_none(samples, place.known())
+    let told = written_or_none(samples, place.known());
+    drop(place);
+    told
 }
 
 fn settled_of<R: Abort>(
@@ -87,7 +89,9 @@ fn settled_of<R: Abort>(
     entry: Checksum,
 ) -> &'static str {
     let settled = settled_chain(alloc, history.restart(), entry).expect(rt, "no error");
-    written_or_none(samples, settled.as_ref())
+    let told = written_or_none(samples, settled.as_ref());
+    drop(settled);
+    told
 }
 
 // The known chain, and those that a Taken and a Settled of the last entry of a chain would tell.
@@ -146,7 +150,9 @@ fn assert_tellings<R: Abort>(rt: &R, alloc: Global, samples: &[Sample], register
 #[test]
 fn chains_that_a_history_tells(rt: HostRuntime) {
     let samples = samples(&rt, rt.alloc());
-    assert_tellings(&rt, rt.alloc(), &samples, &mut Register::new(rt.alloc()))
+    let mut register = Register::new(rt.alloc());
+    assert_tellings(&rt, rt.alloc(), &samples, &mut register);
+    drop(register);
 }
 
 // What the whole history tells, what the first two frames, and what that of an unknown bill.
@@ -182,7 +188,8 @@ const INDEXED: &str = "begun-taken u.u, taken-of-another u.u, parted u.u.u";
 fn chains_that_an_indexed_history_tells(rt: HostRuntime) {
     let samples = samples(&rt, rt.alloc());
     let register = register(&rt, rt.alloc(), &samples, THE_BILL, INDEXED);
-    assert_indexed(&rt, rt.alloc(), &samples, register.frames())
+    assert_indexed(&rt, rt.alloc(), &samples, register.frames());
+    drop(register);
 }
 
 // ---- documents
@@ -341,7 +348,8 @@ fn searches(rt: HostRuntime) {
     let register = with_documents(&rt, rt.alloc(), &samples);
     let want =
         "packing list, weights, parted 2 last u.o, bytes false weights, body the body, signed true";
-    assert_searches(&rt, rt.alloc(), &samples, &register, want)
+    assert_searches(&rt, rt.alloc(), &samples, &register, want);
+    drop(register);
 }
 
 const STORED: &str = "taken-of-another u, stored packing list, disputed-of-another u.u";
@@ -352,7 +360,8 @@ fn searches_for_bytes(rt: HostRuntime) {
     let samples = samples(&rt, rt.alloc());
     let register = register(&rt, rt.alloc(), &samples, THE_BILL, STORED);
     let want = "parted 0 last none, bytes true none, body none, signed false";
-    assert_searches(&rt, rt.alloc(), &samples, &register, want)
+    assert_searches(&rt, rt.alloc(), &samples, &register, want);
+    drop(register);
 }
 
 // The body of the last Begun with the reference of an upload with an entry.
@@ -382,7 +391,8 @@ fn searches_by_reference(rt: HostRuntime) {
     let samples = samples(&rt, rt.alloc());
     let register = with_documents(&rt, rt.alloc(), &samples);
     assert_referred(&rt, rt.alloc(), &samples, &register, "u", "the body");
-    assert_referred(&rt, rt.alloc(), &samples, &register, "u.u", "none")
+    assert_referred(&rt, rt.alloc(), &samples, &register, "u.u", "none");
+    drop(register);
 }
 
 // ---- copies
@@ -409,5 +419,6 @@ fn copies(rt: HostRuntime) {
     assert_copied(&rt, rt.alloc(), &diary);
     let history = History::of(diary.as_slice(), bill_name(&rt, rt.alloc(), THE_BILL));
     let place = place_of(rt.alloc(), history).expect(&rt, "no error");
-    assert_copied(&rt, rt.alloc(), &place)
+    assert_copied(&rt, rt.alloc(), &place);
+    drop(place);
 }

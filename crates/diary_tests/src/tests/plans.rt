@@ -51,8 +51,13 @@ fn planned<R: Abort>(
     }
     let (me, now) = (code(rt, "ALPH"), moment(rt));
     let roster = roster(rt, alloc);
-    match plan(alloc, register, &roster, me, by, command, now) {
-        Ok(_) => String::from_str(alloc, "planned").expect(rt, "no error"),
+    let plan = plan(alloc, register, &roster, me, by, command, now);
+    drop(roster);
+    match plan {
+        Ok(planned) => {
+            drop(planned);
+            String::from_str(alloc, "planned").expect(rt, "no error")
+        }
         Err(refusal) => format!(in alloc; "{refusal:?}").expect(rt, "no error"),
     }
 }
@@ -65,13 +70,16 @@ fn asked<R: Abort>(rt: &R, alloc: Global, register: &Register, act: &str) -> Str
         kind: transaction.kind,
         recipient: transaction.recipient,
     };
-    planned(rt, alloc, register, transaction.actor, &command)
+    let planned = planned(rt, alloc, register, transaction.actor, &command);
+    drop(command);
+    planned
 }
 
 fn assert_row<R: Abort>(rt: &R, alloc: Global, row: &str) {
     let [transfers, acts, act, want, _] = columns(row);
     let register = held(rt, alloc, transfers, acts);
     let seen = asked(rt, alloc, &register, act);
+    drop(register);
     assert_text(rt, seen.as_str(), want, row);
 }
 

@@ -32,7 +32,9 @@ fn assert_body<R: Abort>(rt: &R, alloc: Global, parts: &Body, begun: BegunRef) {
 // The manifest that a text is, which BETA signed.
 fn listed<R: Abort>(rt: &R, alloc: Global, text: &SignedText) -> Manifest {
     let payload = said(rt, alloc, text, code(rt, "BETA"));
-    decode(alloc, &payload).expect(rt, "no error")
+    let manifest = decode(alloc, &payload).expect(rt, "no error");
+    drop(payload);
+    manifest
 }
 
 // The manifest's text says what the manifest does.
@@ -44,7 +46,9 @@ fn assert_manifest<R: Abort>(rt: &R, alloc: Global, text: &SignedText, manifest:
 // The entry that a text is, which a platform signed.
 fn entry_of<R: Abort>(rt: &R, alloc: Global, text: &SignedText, who: PlatformCode) -> Entry {
     let payload = said(rt, alloc, text, who);
-    chain_entry::decode(alloc, &payload).expect(rt, "no error")
+    let entry = chain_entry::decode(alloc, &payload).expect(rt, "no error");
+    drop(payload);
+    entry
 }
 
 // A text is that of an entry, which has its name, and which the entry's platform signed.
@@ -91,7 +95,8 @@ fn assert_found<R: Abort>(
     let begun = last_with_reference(register, reference_of(bill, last)).expect(rt, "a Begun");
     assert!(rt; begun.bill == bill && begun.manifest.bill == bill);
     let parts = Body::read(alloc, begun.body.as_slice()).expect(rt, "no error");
-    assert_begun(rt, alloc, &parts, begun)
+    assert_begun(rt, alloc, &parts, begun);
+    drop(parts);
 }
 
 #[test]
@@ -105,5 +110,6 @@ fn texts_of_a_begun(rt: HostRuntime) {
         &register,
         bill_name(&rt, rt.alloc(), THE_BILL),
         last,
-    )
+    );
+    drop(register);
 }

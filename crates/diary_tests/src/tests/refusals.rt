@@ -91,7 +91,11 @@ fn shown(
     seen: Result<Chain, ChainRefusal>,
 ) -> Result<String, AllocError> {
     match seen {
-        Ok(found) => equal(alloc, made, &found),
+        Ok(found) => {
+            let shown = equal(alloc, made, &found);
+            drop(found);
+            shown
+        }
         Err(refusal) => format!(in alloc; "{refusal:?}"),
     }
 }
@@ -100,7 +104,9 @@ fn shown(
 fn said<R: Abort>(rt: &R, alloc: Global, entries: &str) -> String {
     let made = made(rt, alloc, THE_BILL, entries);
     let texts = texts(rt, alloc, made.as_slice(), entries);
-    shown(alloc, &made, checked(rt, alloc, &texts)).expect(rt, "no error")
+    let said = shown(alloc, &made, checked(rt, alloc, &texts));
+    drop(made);
+    said.expect(rt, "no error")
 }
 
 fn assert_row<R: Abort>(rt: &R, alloc: Global, row: &str) {

@@ -47,7 +47,9 @@ pub(crate) fn manifest(alloc: Global, bill: Checksum, last: Checksum) -> Manifes
 // The text of the manifest of a chain without documents, as the platform of its last entry signs it.
 fn manifest_text<R: Abort>(rt: &R, alloc: Global, bill: Checksum, last: &ChainLink) -> SignedText {
     let payload = encode_manifest(alloc, &manifest(alloc, bill, last.name)).expect(rt, "no error");
-    signed(rt, alloc, last.entry.platform, &payload)
+    let text = signed(rt, alloc, last.entry.platform, &payload);
+    drop(payload);
+    text
 }
 
 // ---- records
@@ -115,7 +117,9 @@ fn body_parts<R: Abort>(rt: &R, alloc: Global, bill: Checksum, sample: &Sample) 
 
 fn body<R: Abort>(rt: &R, alloc: Global, bill: Checksum, sample: &Sample) -> ByteList {
     let parts = body_parts(rt, alloc, bill, sample);
-    parts.write(alloc).expect(rt, "no error")
+    let bytes = parts.write(alloc).expect(rt, "no error");
+    drop(parts);
+    bytes
 }
 
 /// A Begun of a chain, with this manifest and body.

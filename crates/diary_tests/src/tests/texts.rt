@@ -20,6 +20,7 @@ fn one<T: Drop>(alloc: Global, item: T) -> Result<Items<T>, NoMemory> {
 
 // A Begun with a body of these bytes, which came without entries.
 fn begun(alloc: Global, body: &[u8]) -> Result<Record, NoMemory> {
+    let body = ByteList::from_slice(alloc, body)?;
     Ok(Record::Begun {
         bill: BILL,
         chain: Chain::new(),
@@ -28,7 +29,7 @@ fn begun(alloc: Global, body: &[u8]) -> Result<Record, NoMemory> {
             last: BILL,
             documents: Items::new(alloc),
         },
-        body: ByteList::from_slice(alloc, body)?,
+        body,
     })
 }
 
