@@ -15,7 +15,10 @@ const BILL: Checksum = Checksum([9; 32]);
 type Row = (Step, PlaceTag, usize, u8, usize, bool);
 
 fn assert_rows<R: Abort>(rt: &R, alloc: Global, rows: &[Row]) -> Result<(), Fail> {
-    go_through(rt, alloc, &mut Register::new(alloc), rows)
+    let mut register = Register::new(alloc);
+    let asserted = go_through(rt, alloc, &mut register, rows);
+    drop(register);
+    asserted
 }
 
 fn go_through<R: Abort>(
@@ -145,7 +148,10 @@ const ENTRIES: [EntryRow; 3] = [
 // A frame is found by its number: of a reference and an entry the last, of a document the first.
 #[test]
 fn numbers_of_frames(rt: HostRuntime) -> Result<(), Fail> {
-    assert_numbers(&rt, rt.alloc(), &mut Register::new(rt.alloc()))
+    let mut register = Register::new(rt.alloc());
+    let asserted = assert_numbers(&rt, rt.alloc(), &mut register);
+    drop(register);
+    asserted
 }
 
 fn assert_numbers<R: Abort>(rt: &R, alloc: Global, register: &mut Register) -> Result<(), Fail> {
