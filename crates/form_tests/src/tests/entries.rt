@@ -1,6 +1,6 @@
 //! Entries, and values that are none, in tables as `making` has them.
-use crate::tests::making::{Form, InJson, JsonForm, assert_table, refusal};
-use canonical_json::{Json, Member, MemberList, read, write};
+use crate::tests::making::{Form, InJson, JsonForm, assert_table, refusal, text_of};
+use canonical_json::{Json, Member, MemberList, read};
 use chain_entry::{EntryFault, decode, decode_transaction, encode, encode_transaction};
 use ebl_base::{ByteList, CharList};
 use std::alloc::Global;
@@ -93,12 +93,23 @@ fn at_time(alloc: Global, text: &[u8]) -> Option<Json> {
     let (members, time) = std::str::from_utf8(text).ok()?.rsplit_once(' ')?;
     let time = time.parse().ok()?;
     match read(alloc, members.as_bytes()) {
-        Ok(Json::Object(members)) => with_time(alloc, members, time),
-        _ => None,
+        Ok(json) => with_time(alloc, json, time),
+        Err(_) => None,
     }
 }
 
-fn with_time(alloc: Global, members: MemberList, time: i64) -> Option<Json> {
+// An object with this time as one member more.
+fn with_time(alloc: Global, json: Json, time: i64) -> Option<Json> {
+    match json {
+        Json::Object(members) => and_time(alloc, members, time),
+        other => {
+            drop(other);
+            None
+        }
+    }
+}
+
+fn and_time(alloc: Global, members: MemberList, time: i64) -> Option<Json> {
     let mut members = members.into_vec();
     let name = CharList::from_text(alloc, "time").ok()?;
     members.push(Member::new(name, Json::Int(time))).ok()?;
@@ -109,10 +120,7 @@ fn transaction_again(alloc: Global, json: Json) -> Result<ByteList, Fail> {
     let answer = decode_transaction(&json);
     drop(json);
     match answer {
-        Ok(transaction) => {
-            let json = encode_transaction(alloc, &transaction)?;
-            Ok(write(alloc, &json)?)
-        }
+        Ok(transaction) => text_of(alloc, encode_transaction(alloc, &transaction)?),
         Err(fault) => refusal(alloc, fault),
     }
 }

@@ -120,7 +120,8 @@ fn answer_to<F: JsonForm>(alloc: Global, json: Json) -> Result<ByteList, Fail> {
     }
 }
 
-fn text_of(alloc: Global, json: Json) -> Result<ByteList, Fail> {
+/// The answer that is the text of this value.
+pub(crate) fn text_of(alloc: Global, json: Json) -> Result<ByteList, Fail> {
     let text = write(alloc, &json);
     drop(json);
     Ok(text?)

@@ -15,7 +15,9 @@ impl Form for Payloads {
     fn answer(alloc: Global, text: &[u8]) -> Result<ByteList, Fail> {
         let alph = platform("ALPH")?;
         let signed = signed(alloc, alph, text)?;
-        match unseal_fault(alloc, alph, signed.0.as_slice()) {
+        let fault = unseal_fault(alloc, alph, signed.0.as_slice());
+        drop(signed);
+        match fault {
             Some(fault) => refusal(alloc, fault),
             None => Ok(ByteList::from_slice(alloc, b"taken")?),
         }

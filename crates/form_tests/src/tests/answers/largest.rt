@@ -130,6 +130,7 @@ fn longest_response(rt: HostRuntime) -> Result<(), Fail> {
     let text = sealed_longest(rt.alloc())?;
     // By Python's json, base64 and hmac.
     assert_eq!(rt; text.0.len(), 45_559);
+    drop(text);
     Ok(())
 }
 

@@ -63,6 +63,7 @@ fn assert_sample(rt: &impl Abort, r: &Response) {
 fn missing_documents_of_beta(rt: HostRuntime) -> Result<(), Fail> {
     let text = sealed_sample(rt.alloc())?;
     assert_eq!(rt; text.0.as_slice(), MISSING.as_bytes());
+    drop(text);
     Ok(())
 }
 
@@ -255,7 +256,9 @@ const OUTSIDE: [(Code, Reason, ResponseField); 4] = [
 fn outside_fault(alloc: Global, code: Code, reason: Reason) -> Result<Option<UnsealFault>, Fail> {
     let alph = platform("ALPH")?;
     let text = sealed(alloc, code, Some(reason), None)?;
-    Ok(unseal_fault(alloc, alph, text.0.as_slice()))
+    let fault = unseal_fault(alloc, alph, text.0.as_slice());
+    drop(text);
+    Ok(fault)
 }
 
 #[test]
