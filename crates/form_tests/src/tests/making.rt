@@ -18,6 +18,8 @@ const ABC: &[u8] = b"ba7816bf8f01cfea414140de5dae2223b00361a396177a9cb410ff61f20
 // The first byte is that of the first checksum, the others are bytes 1 to 15 of the second.
 const REFERENCE: &[u8] = b"447816bf-8f01-cfea-4141-40de5dae2223";
 
+const QUOTE: &[u8] = b"\"";
+
 pub(crate) fn platform(text: &str) -> Result<PlatformCode, Fail> {
     Ok(PlatformCode::try_new(text.as_bytes()).ok_or("a platform")?)
 }
@@ -26,15 +28,22 @@ pub(crate) fn party(text: &str) -> Result<Party, Fail> {
     Ok(Party::from_text(text.as_bytes()).ok_or("a party")?)
 }
 
-fn push_spelled(bytes: &mut Vec<u8>, byte: u8) -> Result<(), AllocError> {
+// What a byte of a row stands for, if not for itself.
+fn text_for(byte: u8) -> Option<&'static [u8]> {
     match byte {
-        b'\'' => bytes.push(b'"')?,
-        b'$' => bytes.extend_from_slice(OBJECT)?,
-        b'@' => bytes.extend_from_slice(ABC)?,
-        b'%' => bytes.extend_from_slice(REFERENCE)?,
-        _ => bytes.push(byte)?,
+        b'\'' => Some(QUOTE),
+        b'$' => Some(OBJECT),
+        b'@' => Some(ABC),
+        b'%' => Some(REFERENCE),
+        _ => None,
     }
-    Ok(())
+}
+
+fn push_spelled(bytes: &mut Vec<u8>, byte: u8) -> Result<(), AllocError> {
+    match text_for(byte) {
+        Some(text) => bytes.extend_from_slice(text),
+        None => Ok(bytes.push(byte)?),
+    }
 }
 
 fn push_all(bytes: &mut Vec<u8>, part: &str) -> Result<(), AllocError> {
@@ -129,8 +138,21 @@ pub(crate) fn text_of(alloc: Global, json: Json) -> Result<ByteList, Fail> {
 
 /// The answer that a text isn't read, for this reason.
 pub(crate) fn refusal<E: Copy + Debug>(alloc: Global, fault: E) -> Result<ByteList, Fail> {
-    let text = format!(in alloc; "{fault:?}")?;
-    Ok(ByteList::from_slice(alloc, text.as_bytes())?)
+    answer_made(alloc, format!(in alloc; "{fault:?}"))
+}
+
+/// The answer that is this text.
+pub(crate) fn answer_text(alloc: Global, text: &[u8]) -> Result<ByteList, Fail> {
+    Ok(ByteList::from_slice(alloc, text)?)
+}
+
+/// The answer that is this text, where it could be made.
+pub(crate) fn answer_made(
+    alloc: Global,
+    text: Result<String, AllocError>,
+) -> Result<ByteList, Fail> {
+    let text = text?;
+    answer_text(alloc, text.as_bytes())
 }
 
 /// Asserts that each text of the table has its answer.

@@ -1,5 +1,5 @@
 //! Replies beside their bodies, which were written by hand from docs/script.md and docs/forms.md.
-use crate::tests::making::party;
+use crate::tests::making::{party, same};
 use ebl_base::{
     ByteList, Checksum, ChecksumList, Code, Evidence, LimitKind, NoMemory, PlaceTag, Reference,
     SignedText,
@@ -17,7 +17,7 @@ const BILL: Checksum = Checksum([0x44; 32]);
 
 fn assert_json(rt: &impl Abort, body: &ReplyBody, text: &str) {
     match body {
-        ReplyBody::Json(body) => assert_eq!(rt; body.as_slice(), text.as_bytes(), "{text}"),
+        ReplyBody::Json(body) => same(rt, text, body.as_slice(), text.as_bytes()),
         _ => panic!(rt; "no JSON in place of {text}"),
     }
 }

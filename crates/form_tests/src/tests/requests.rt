@@ -3,7 +3,7 @@
 ghost use Rattle.platform_requests.specs.Desk.{MayAsk};
 ghost use Rattle.platform_requests.specs.Request.{request_view};
 
-use crate::tests::making::{Form, assert_table, party, platform, same};
+use crate::tests::making::{Form, answer_made, assert_table, party, platform, same};
 use canonical_json::read;
 use ebl_base::{
     ByteList, Checksum, ChecksumList, Code, Copied, Evidence, Kind, Moment, NoMemory, Party,
@@ -118,8 +118,7 @@ impl Form for Shards {
         let shards = both_shards(alloc, &request);
         drop(request);
         let (shard, again) = shards?;
-        let answer = format!(in alloc; "{shard} {again}")?;
-        Ok(ByteList::from_slice(alloc, answer.as_bytes())?)
+        answer_made(alloc, format!(in alloc; "{shard} {again}"))
     }
 }
 
@@ -290,8 +289,7 @@ impl Form for Suited {
         let suited = both_suited(alloc, asked, &outcome);
         drop(outcome);
         let (first, again) = suited?;
-        let answer = format!(in alloc; "{first} {again}")?;
-        Ok(ByteList::from_slice(alloc, answer.as_bytes())?)
+        answer_made(alloc, format!(in alloc; "{first} {again}"))
     }
 }
 

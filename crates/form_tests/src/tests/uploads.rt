@@ -1,5 +1,5 @@
 //! Uploads beside what is stored, references, and answers in and out of their form, in tables as `making` has them.
-use crate::tests::making::{Form, assert_table, refusal, same, spelled};
+use crate::tests::making::{Form, answer_text, assert_table, refusal, same, spelled};
 use document_checksum::checksum;
 use ebl_base::{ByteList, CharList, Checksum, ChecksumList, Copied, NoMemory};
 use envelope_manifest::{Manifest, Piece, PieceList};
@@ -122,9 +122,9 @@ impl Form for References {
         match reference_from(text) {
             Some(reference) => {
                 let text = reference_text(reference);
-                Ok(ByteList::from_slice(alloc, text.as_slice())?)
+                answer_text(alloc, text.as_slice())
             }
-            None => Ok(ByteList::from_slice(alloc, b"none")?),
+            None => answer_text(alloc, b"none"),
         }
     }
 }

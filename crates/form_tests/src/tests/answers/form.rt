@@ -1,6 +1,6 @@
 //! Each member wrong in each way, in tables as `making` has them.
 use crate::tests::answers::unseal_fault;
-use crate::tests::making::{Form, assert_table, platform, refusal};
+use crate::tests::making::{Form, answer_text, assert_table, platform, refusal};
 use canonical_json::read;
 use ebl_base::{ByteList, PlatformCode, SignedText};
 use signed_envelope::compose;
@@ -19,7 +19,7 @@ impl Form for Payloads {
         drop(signed);
         match fault {
             Some(fault) => refusal(alloc, fault),
-            None => Ok(ByteList::from_slice(alloc, b"taken")?),
+            None => answer_text(alloc, b"taken"),
         }
     }
 }

@@ -3,7 +3,7 @@ ghost use Rattle.std.specs.Prelude.{IfOk};
 ghost use Rattle.pint_responses.specs.Response.{IsEvidence, IsSealable};
 
 use crate::tests::answers::{response, sealed_by, unsealed};
-use crate::tests::making::{Form, assert_table, platform, same, spelled};
+use crate::tests::making::{Form, answer_made, assert_table, platform, same, spelled};
 use document_checksum::checksum;
 use ebl_base::{
     ByteList, Checksum, ChecksumList, Code, Evidence, NoMemory, PlatformCode, Reason, SignedText,
@@ -61,8 +61,7 @@ struct OwnEvidence;
 impl Form for OwnEvidence {
     fn answer(alloc: Global, text: &[u8]) -> Result<ByteList, Fail> {
         let sealable = is_shown_sealable(alloc, text)?;
-        let answer = format!(in alloc; "{} {sealable}", text.len())?;
-        Ok(ByteList::from_slice(alloc, answer.as_bytes())?)
+        answer_made(alloc, format!(in alloc; "{} {sealable}", text.len()))
     }
 }
 

@@ -3,7 +3,7 @@ ghost use Rattle.std.specs.Prelude.{IfOk};
 ghost use Rattle.pint_responses.specs.Response.{IsSealable};
 
 use crate::tests::answers::{response, sealed_by, unseal_fault, unsealed};
-use crate::tests::making::{Form, assert_table, platform, same};
+use crate::tests::making::{Form, answer_made, answer_text, assert_table, platform, same};
 use document_checksum::checksum;
 use ebl_base::{
     ByteList, CallList, Checksum, ChecksumList, Code, Copied, NoMemory, PlatformCode, Reason,
@@ -51,12 +51,17 @@ fn has_no_more(r: &Response) -> bool {
     r.reason.is_none() && r.evidence.own.is_none() && r.evidence.theirs.is_none()
 }
 
+// Asserts what holds of a response, and shows the response where it doesn't.
+fn assert_of(rt: &impl Abort, r: &Response, holds: bool) {
+    assert!(rt; holds, "{r:?}");
+}
+
 fn assert_sample(rt: &impl Abort, r: &Response) {
     let missing = [checksum(b"{}"), checksum(b"abc")];
-    assert!(rt; r.code == Code::MissingDocuments && !r.standing, "{r:?}");
-    assert!(rt; has_names(r, missing[1], missing[0]), "{r:?}");
-    assert!(rt; r.missing.as_slice() == missing.as_slice(), "{r:?}");
-    assert!(rt; has_no_more(r), "{r:?}");
+    assert_of(rt, r, r.code == Code::MissingDocuments && !r.standing);
+    assert_of(rt, r, has_names(r, missing[1], missing[0]));
+    assert_of(rt, r, r.missing.as_slice() == missing.as_slice());
+    assert_of(rt, r, has_no_more(r));
 }
 
 #[test]
@@ -97,7 +102,7 @@ struct Codes;
 impl Form for Codes {
     fn answer(alloc: Global, text: &[u8]) -> Result<ByteList, Fail> {
         let code = Code::from_text(text).ok_or("a code")?;
-        Ok(ByteList::from_slice(alloc, code.as_str().as_bytes())?)
+        answer_text(alloc, code.as_str().as_bytes())
     }
 }
 
@@ -106,11 +111,13 @@ struct Reasons;
 impl Form for Reasons {
     fn answer(alloc: Global, text: &[u8]) -> Result<ByteList, Fail> {
         let Some(reason) = Reason::from_text(text) else {
-            return Ok(ByteList::from_slice(alloc, b"none")?);
+            return answer_text(alloc, b"none");
         };
         let code = reason.code().as_str();
-        let answer = format!(in alloc; "{code} {}", reason.index().is_some())?;
-        Ok(ByteList::from_slice(alloc, answer.as_bytes())?)
+        answer_made(
+            alloc,
+            format!(in alloc; "{code} {}", reason.index().is_some()),
+        )
     }
 }
 
