@@ -34,6 +34,7 @@ fn act(kind: Kind, actor: &[u8], recipient: Option<&[u8]>) -> Result<Transaction
 
 fn link(alloc: Global, name: u8, transactions: &[Transaction]) -> Result<ChainLink, Fail> {
     let first = transactions.first().ok_or("a transaction")?;
+    let transactions = TransactionList::from_slice(alloc, transactions)?;
     Ok(ChainLink {
         text: SignedText(SharedBytes::new()),
         name: Checksum([name; 32]),
@@ -42,7 +43,7 @@ fn link(alloc: Global, name: u8, transactions: &[Transaction]) -> Result<ChainLi
             bill: Checksum([0; 32]),
             previous: None,
             attempt: 1,
-            transactions: TransactionList::from_slice(alloc, transactions)?,
+            transactions,
         },
     })
 }
@@ -96,7 +97,10 @@ fn names_of_a_chain(rt: HostRuntime) -> Result<(), Fail> {
     let chain = two_links(rt.alloc(), 2)?;
     let other = two_links(rt.alloc(), 3)?;
     assert_names(&rt, chain.as_slice());
-    assert_parting(&rt, chain.as_slice(), other.as_slice())
+    let parting = assert_parting(&rt, chain.as_slice(), other.as_slice());
+    drop(other);
+    drop(chain);
+    parting
 }
 
 fn assert_title(rt: &impl Abort, links: &[ChainLink], bank: Party, again: Transaction) {
@@ -117,6 +121,7 @@ fn the_title_after_a_chain(rt: HostRuntime) -> Result<(), Fail> {
     let again = act(Kind::Transfer, b"BETA/EXPORT", Some(b"GAMM/BANK"))?;
     let chain = two_links(rt.alloc(), 2)?;
     assert_title(&rt, chain.as_slice(), bank, again);
+    drop(chain);
     assert_no_title(&rt);
     Ok(())
 }

@@ -93,7 +93,9 @@ const BILL: &str = "98ac1e5b84a3169abca8aaaadb053b0bde6bfd0605157fb3504116e61c3b
 // Whether the value that a text is reads as a document.
 fn answer(alloc: Global, text: &str) -> Option<Result<(), DocumentFault>> {
     let json = json(alloc, text).ok()?;
-    match Document::of_json(alloc, &json) {
+    let document = Document::of_json(alloc, &json);
+    drop(json);
+    match document {
         Ok(_) => Some(Ok(())),
         Err(fault) => Some(Err(fault)),
     }
@@ -101,7 +103,9 @@ fn answer(alloc: Global, text: &str) -> Option<Result<(), DocumentFault>> {
 
 fn sample_document(alloc: Global) -> Result<Document, Fail> {
     let json = json(alloc, CAME)?;
-    match Document::of_json(alloc, &json) {
+    let document = Document::of_json(alloc, &json);
+    drop(json);
+    match document {
         Ok(document) => Ok(document),
         Err(_) => Err("a document".into()),
     }
@@ -116,14 +120,26 @@ fn assert_sample(rt: &impl Abort, document: &Document, canonical: &[u8]) {
     same(rt, &"code", Some(document.code()), code);
 }
 
+fn assert_copy(
+    rt: &impl Abort,
+    alloc: Global,
+    document: &Document,
+    canonical: &[u8],
+) -> Result<(), Fail> {
+    let copy = document.copy(alloc)?;
+    assert_sample(rt, &copy, canonical);
+    drop(copy);
+    Ok(())
+}
+
 #[test]
 fn keeps_the_canonical_text(rt: HostRuntime) -> Result<(), Fail> {
     let canonical = quoted(rt.alloc(), CANONICAL)?;
     let document = sample_document(rt.alloc())?;
     assert_sample(&rt, &document, &canonical);
-    let copy = document.copy(rt.alloc())?;
-    assert_sample(&rt, &copy, &canonical);
-    Ok(())
+    let copied = assert_copy(&rt, rt.alloc(), &document, &canonical);
+    drop(document);
+    copied
 }
 
 #[test]

@@ -8,7 +8,7 @@ use ebl_edge::{
 };
 use std::alloc::{AllocError, Global};
 use std::io;
-use std::io::{ErrorKind, Read, Write};
+use std::io::{ErrorKind, Input, Print, Read, Write};
 use std::process::Abort;
 use std::test::Fail;
 
@@ -65,7 +65,10 @@ fn assert_puts<K: Sink>(rt: &impl Abort, sink: &mut K, told: &[u8]) {
 fn source_of(alloc: Global, fails: &[u64]) -> Result<MemorySource, NoMemory> {
     let fails = CallList::from_slice(alloc, fails)?;
     let bytes = ByteList::from_slice(alloc, b"abcdefg")?;
-    MemorySource::new(bytes, fails).copy(alloc)
+    let source = MemorySource::new(bytes, fails);
+    let copy = source.copy(alloc);
+    drop(source);
+    copy
 }
 
 fn source_row(
@@ -76,8 +79,10 @@ fn source_row(
     faults: u64,
 ) -> Result<(), Fail> {
     let mut source = source_of(alloc, fails)?;
-    assert_reads(rt, alloc, &mut source, told)?;
+    let done = assert_reads(rt, alloc, &mut source, told);
     let seen = (source.faults(), source.left().len());
+    drop(source);
+    done?;
     same(rt, &"faults and bytes left", seen, (faults, 0));
     Ok(())
 }
@@ -126,7 +131,10 @@ fn listed_calls(alloc: Global) -> Result<CallList, NoMemory> {
 // A copy of a sink that fails at copied calls.
 fn copied_sink(alloc: Global) -> Result<MemorySink, NoMemory> {
     let fails = listed_calls(alloc)?.copy(alloc)?;
-    MemorySink::new(alloc, fails).copy(alloc)
+    let sink = MemorySink::new(alloc, fails);
+    let copy = sink.copy(alloc);
+    drop(sink);
+    copy
 }
 
 #[test]
@@ -169,14 +177,22 @@ fn a_count_stays_at_the_end_of_its_type(rt: HostRuntime) {
 }
 
 // Standard input may be closed here: its read then fails, and counts.
-#[test]
-fn standard_input_and_output(rt: HostRuntime) {
-    let mut source = standard_input(&rt);
+fn assert_input(rt: &(impl Abort + Input)) {
+    let mut source = standard_input(rt);
     let failed = source.read(&mut []).is_err();
     assert_eq!(rt; source.faults(), if failed { 1 } else { 0 });
-    let mut sink = standard_output(&rt);
+}
+
+fn assert_output(rt: &(impl Abort + Print)) {
+    let mut sink = standard_output(rt);
     assert_eq!(rt; put(&mut sink, b"a line that a sink wrote\n"), b'.');
     assert_eq!(rt; sink.faults(), 0);
+}
+
+#[test]
+fn standard_input_and_output(rt: HostRuntime) {
+    assert_input(&rt);
+    assert_output(&rt);
 }
 
 // Each second call is interrupted, and each other moves one byte, until four have been moved and calls fail.
@@ -329,7 +345,10 @@ fn link_of(alloc: Global, sizes: &[usize], fails: &[u64]) -> Result<MemoryLink, 
 }
 
 fn copied_link(alloc: Global, sizes: &[usize], fails: &[u64]) -> Result<MemoryLink, NoMemory> {
-    link_of(alloc, sizes, fails)?.copy(alloc)
+    let link = link_of(alloc, sizes, fails)?;
+    let copy = link.copy(alloc);
+    drop(link);
+    copy
 }
 
 fn link_row(
@@ -340,8 +359,11 @@ fn link_row(
     told: &[u8],
 ) -> Result<(), Fail> {
     let mut link = copied_link(alloc, sizes, fails)?;
-    assert_link_reads(rt, alloc, &mut link, told)?;
-    same(rt, &"bytes left", link.left().len(), 0);
+    let done = assert_link_reads(rt, alloc, &mut link, told);
+    let left = link.left().len();
+    drop(link);
+    done?;
+    same(rt, &"bytes left", left, 0);
     Ok(())
 }
 
@@ -374,6 +396,7 @@ fn put_row(rt: &impl Abort, mut link: MemoryLink, told: &[u8], written: &[u8], f
     assert!(rt; is_read);
     assert_link_puts(rt, &mut link, told);
     assert_link(rt, &link, written, faults);
+    drop(link);
 }
 
 fn two_bytes(alloc: Global) -> Result<ByteList, NoMemory> {
@@ -404,7 +427,9 @@ fn reads_and_puts_of_a_link_are_counted_together(rt: HostRuntime) -> Result<(), 
 
 fn bounded_link(alloc: Global) -> Result<BoundedLink, NoMemory> {
     let link = BoundedLink::new(alloc, two_bytes(alloc)?, 5)?;
-    link.copy(alloc)
+    let copy = link.copy(alloc);
+    drop(link);
+    copy
 }
 
 fn assert_bounded(rt: &impl Abort, link: &BoundedLink) {
@@ -418,8 +443,9 @@ fn a_bounded_link_fails_past_its_room_alone(rt: HostRuntime) -> Result<(), Fail>
     let mut link = bounded_link(rt.alloc())?;
     assert_link_puts(&rt, &mut link, b".!.");
     assert_bounded(&rt, &link);
-    assert_link_reads(&rt, rt.alloc(), &mut link, b"ab||||||")?;
-    Ok(())
+    let done = assert_link_reads(&rt, rt.alloc(), &mut link, b"ab||||||");
+    drop(link);
+    Ok(done?)
 }
 
 #[test]

@@ -250,7 +250,9 @@ fn chain_of(alloc: Global, link: ChainLink) -> Result<Chain, NoMemory> {
 fn sample_chain(alloc: Global) -> Result<Chain, Fail> {
     let chain = chain_of(alloc, sample_link(alloc)?)?;
     let link = sample_link(alloc)?;
-    Ok(chain.followed_by(alloc, link)?)
+    let followed = chain.followed_by(alloc, link);
+    drop(chain);
+    Ok(followed?)
 }
 
 #[test]
@@ -294,7 +296,9 @@ fn copies_of_evidence(rt: HostRuntime) -> Result<(), Fail> {
         own: None,
         theirs: Some(signed_text(rt.alloc(), b"abc")?),
     };
-    assert_copied(&rt, rt.alloc(), &evidence)
+    let copied = assert_copied(&rt, rt.alloc(), &evidence);
+    drop(evidence);
+    copied
 }
 
 // Calls of which the second fails, after the first.

@@ -114,8 +114,13 @@ const CARRIERS_FOR: [(Provider, &str, &str); 3] = [
 // Whether the value that a text is reads as a roster.
 fn answer(alloc: Global, text: &str) -> Option<Result<(), RosterFault>> {
     let json = json(alloc, text).ok()?;
-    match Roster::read(alloc, &json) {
-        Ok(_) => Some(Ok(())),
+    let roster = Roster::read(alloc, &json);
+    drop(json);
+    match roster {
+        Ok(roster) => {
+            drop(roster);
+            Some(Ok(()))
+        }
         Err(fault) => Some(Err(fault)),
     }
 }
@@ -139,7 +144,9 @@ fn text_of(
 fn sample_roster(alloc: Global) -> Result<Roster, Fail> {
     let text = text_of(alloc, PLATFORMS, PARTIES, CARRIERS)?;
     let json = json(alloc, &text)?;
-    match Roster::read(alloc, &json) {
+    let roster = Roster::read(alloc, &json);
+    drop(json);
+    match roster {
         Ok(roster) => Ok(roster),
         Err(_) => Err("a roster".into()),
     }
@@ -190,6 +197,7 @@ fn looks_up(rt: HostRuntime) -> Result<(), Fail> {
     let roster = sample_roster(rt.alloc())?;
     assert_lists(&rt, &roster);
     assert_look_ups(&rt, &roster);
+    drop(roster);
     Ok(())
 }
 
@@ -205,13 +213,20 @@ fn assert_same(rt: &impl Abort, copy: &Roster, roster: &Roster) {
     same_list(rt, copy.carriers(), roster.carriers(), 2);
 }
 
+fn assert_copy(rt: &impl Abort, alloc: Global, roster: &Roster) -> Result<(), Fail> {
+    let copy = roster.copy(alloc)?;
+    assert_same(rt, &copy, roster);
+    assert_look_ups(rt, &copy);
+    drop(copy);
+    Ok(())
+}
+
 #[test]
 fn copied(rt: HostRuntime) -> Result<(), Fail> {
     let roster = sample_roster(rt.alloc())?;
-    let copy = roster.copy(rt.alloc())?;
-    assert_same(&rt, &copy, &roster);
-    assert_look_ups(&rt, &copy);
-    Ok(())
+    let copied = assert_copy(&rt, rt.alloc(), &roster);
+    drop(roster);
+    copied
 }
 
 fn place_row(
