@@ -222,7 +222,9 @@ fn decimal_text(
 ) -> Result<ByteList, NoMemory> {
     let json = Json::Decimal { digits, scale };
     assert_eq!(rt; is_lawful(&json), lawful);
-    write(alloc, &json)
+    let text = write(alloc, &json);
+    drop(json);
+    text
 }
 
 // A text that is lawful reads back, and another has a fraction that is too long.
@@ -358,18 +360,28 @@ fn members_are_found_by_their_names(rt: HostRuntime) -> Result<(), Fail> {
 fn members_in(alloc: Global, text: &[u8]) -> Result<Vec<Member>, Fail> {
     match read(alloc, text)? {
         Json::Object(members) => Ok(members.into_vec()),
-        _ => Err("an object".into()),
+        other => {
+            drop(other);
+            Err("an object".into())
+        }
     }
 }
 
-// What is taken out under a name.
-fn taken(members: &mut Vec<Member>, name: &str) -> &'static str {
-    match take_member(members, name) {
+fn kind_of(value: &Option<Json>) -> &'static str {
+    match value {
         Some(Json::List(_)) => "a list",
         Some(Json::Null) => "null",
         Some(_) => "another value",
         None => "none",
     }
+}
+
+// What is taken out under a name.
+fn taken(members: &mut Vec<Member>, name: &str) -> &'static str {
+    let value = take_member(members, name);
+    let kind = kind_of(&value);
+    drop(value);
+    kind
 }
 
 // Names in turn, and what is taken out under each.
@@ -395,12 +407,17 @@ fn is_appended(rt: &impl Abort, alloc: Global, json: &Json, want: &[u8]) -> Resu
     Ok(())
 }
 
+fn is_left(rt: &impl Abort, alloc: Global, left: &Json) -> Result<(), NoMemory> {
+    is_written(rt, alloc, left, b"{\"b\":\"x\\n\"}")?;
+    is_appended(rt, alloc, left, b"= {\"b\":\"x\\n\"}")
+}
+
 #[test]
 fn a_member_is_taken_out(rt: HostRuntime) -> Result<(), Fail> {
     let left = object_left(&rt, rt.alloc())?;
-    is_written(&rt, rt.alloc(), &left, b"{\"b\":\"x\\n\"}")?;
-    is_appended(&rt, rt.alloc(), &left, b"= {\"b\":\"x\\n\"}")?;
-    Ok(())
+    let told = is_left(&rt, rt.alloc(), &left);
+    drop(left);
+    Ok(told?)
 }
 
 fn is_written_alone(
@@ -422,7 +439,11 @@ fn a_text_is_written_alone(rt: HostRuntime) -> Result<(), Fail> {
 }
 
 fn named(alloc: Global, name: &str, value: Json) -> Result<Member, NoMemory> {
-    Ok(Member::new(CharList::from_text(alloc, name)?, value))
+    let Ok(name) = CharList::from_text(alloc, name) else {
+        drop(value);
+        return Err(NoMemory);
+    };
+    Ok(Member::new(name, value))
 }
 
 fn pair(alloc: Global, first: &str, second: &str, number: i64) -> Result<Json, NoMemory> {
@@ -463,7 +484,9 @@ fn assert_same_text(
 
 fn is_copied(rt: &impl Abort, alloc: Global, json: &Json) -> Result<(), NoMemory> {
     let copy = json.copy(alloc)?;
-    assert_same_text(rt, alloc, &copy, json)
+    let told = assert_same_text(rt, alloc, &copy, json);
+    drop(copy);
+    told
 }
 
 fn built_row(
@@ -476,7 +499,9 @@ fn built_row(
 ) -> Result<(), NoMemory> {
     let json = built(alloc, first, second, number)?;
     assert_eq!(rt; is_lawful(&json), lawful);
-    is_copied(rt, alloc, &json)
+    let copied = is_copied(rt, alloc, &json);
+    drop(json);
+    copied
 }
 
 #[test]
@@ -508,14 +533,19 @@ fn assert_member(rt: &impl Abort, member: &Member) {
 }
 
 fn copied_member(alloc: Global) -> Result<Member, NoMemory> {
-    named(alloc, "a", Json::Int(7))?.copy(alloc)
+    let member = named(alloc, "a", Json::Int(7))?;
+    let copy = member.copy(alloc);
+    drop(member);
+    copy
 }
 
 #[test]
 fn lists_of_values_are_copied(rt: HostRuntime) -> Result<(), Fail> {
     assert_no_values(&rt, JsonList::new(rt.alloc()).copy(rt.alloc())?);
     assert_no_members(&rt, MemberList::new(rt.alloc()).copy(rt.alloc())?);
-    assert_member(&rt, &copied_member(rt.alloc())?);
+    let member = copied_member(rt.alloc())?;
+    assert_member(&rt, &member);
+    drop(member);
     Ok(())
 }
 
@@ -629,7 +659,9 @@ fn answer(rt: &impl Abort, alloc: Global, text: &[u8]) -> Result<usize, Fail>
 {
     match read(alloc, text) {
         Ok(json) => {
-            assert_reads_back(rt, alloc, &json)?;
+            let told = assert_reads_back(rt, alloc, &json);
+            drop(json);
+            told?;
             Ok(0)
         }
         Err(ReadError::NotJson) => Ok(1),
@@ -641,7 +673,9 @@ fn answer(rt: &impl Abort, alloc: Global, text: &[u8]) -> Result<usize, Fail>
 
 // What is no JSON here is none to `serde_json`, and the other way round.
 fn assert_same_grammar(rt: &impl Abort, alloc: Global, text: &[u8], answer: usize) {
-    let there = Value::from_slice(alloc, text).is_ok();
+    let value = Value::from_slice(alloc, text);
+    let there = value.is_ok();
+    drop(value);
     assert_eq!(rt; there, answer != 1, "{text:?}");
 }
 

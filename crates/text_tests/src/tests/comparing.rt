@@ -35,8 +35,9 @@ pub(crate) fn is_rewritten(
     want: &[u8],
 ) -> Result<(), Fail> {
     let json = read(alloc, text)?;
-    is_written(rt, alloc, &json, want)?;
-    Ok(())
+    let written = is_written(rt, alloc, &json, want);
+    drop(json);
+    Ok(written?)
 }
 
 /// The text isn't read, for this cause.

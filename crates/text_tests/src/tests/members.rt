@@ -38,6 +38,7 @@ fn members_under_their_names(rt: HostRuntime) -> Result<(), Fail> {
     let object = json(rt.alloc(), text)?;
     assert_members(&rt, &object);
     assert_optional_members(&rt, &object);
+    drop(object);
     Ok(())
 }
 
@@ -61,6 +62,7 @@ fn assert_numbers(rt: &impl Abort, object: &Json) {
 fn whole_numbers_in_their_range(rt: HostRuntime) -> Result<(), Fail> {
     let object = json(rt.alloc(), "{'n':3,'below':-1,'text':'3'}")?;
     assert_numbers(&rt, &object);
+    drop(object);
     Ok(())
 }
 
@@ -83,12 +85,15 @@ fn assert_lengths(rt: &impl Abort, object: &Json) {
 fn lists_of_a_stated_length(rt: HostRuntime) -> Result<(), Fail> {
     let object = json(rt.alloc(), "{'l':[1,2],'o':{}}")?;
     assert_lengths(&rt, &object);
+    drop(object);
     Ok(())
 }
 
 fn written(alloc: Global, checksums: &[Checksum]) -> Result<ByteList, NoMemory> {
     let json = checksums_json(alloc, checksums)?;
-    write(alloc, &json)
+    let text = write(alloc, &json);
+    drop(json);
+    text
 }
 
 // The checksums that a list is, if it is one of checksums.
@@ -109,7 +114,9 @@ fn has_both(rt: &impl Abort, alloc: Global, list: &Json) -> Result<(), Fail> {
 
 fn reads_as_both(rt: &impl Abort, alloc: Global, text: &[u8]) -> Result<(), Fail> {
     let list = read(alloc, text)?;
-    has_both(rt, alloc, &list)
+    let both = has_both(rt, alloc, &list);
+    drop(list);
+    both
 }
 
 #[test]
@@ -122,7 +129,9 @@ fn checksums_there_and_back(rt: HostRuntime) -> Result<(), Fail> {
 #[test]
 fn a_list_of_another_text_has_no_checksums(rt: HostRuntime) -> Result<(), Fail> {
     let mixed = json(rt.alloc(), "['44']")?;
-    assert!(rt; found(rt.alloc(), &mixed)?.is_none());
+    let found = found(rt.alloc(), &mixed);
+    drop(mixed);
+    assert!(rt; found?.is_none());
     Ok(())
 }
 
@@ -142,8 +151,9 @@ fn sample_object(alloc: Global) -> Result<Json, Fail> {
 fn members_written(rt: HostRuntime) -> Result<(), Fail> {
     let object = sample_object(rt.alloc())?;
     let want = b"{\"actor\":\"ALPH/EXPORT\",\"time\":9007199254740991}";
-    is_written(&rt, rt.alloc(), &object, want)?;
-    Ok(())
+    let written = is_written(&rt, rt.alloc(), &object, want);
+    drop(object);
+    Ok(written?)
 }
 
 // A number, and what is written of it.
@@ -158,7 +168,9 @@ const WRITTEN: [(u64, &str); 4] = [
 fn numbers_past_the_greatest_are_the_greatest(rt: HostRuntime) -> Result<(), Fail> {
     for &(number, canonical) in &WRITTEN {
         let json = number_json(number);
-        is_written(&rt, rt.alloc(), &json, canonical.as_bytes())?;
+        let written = is_written(&rt, rt.alloc(), &json, canonical.as_bytes());
+        drop(json);
+        written?;
     }
     Ok(())
 }

@@ -27,7 +27,11 @@ struct UnderKey;
 impl Form for UnderKey {
     fn answer(alloc: Global, text: &[u8]) -> Result<ByteList, Fail> {
         match split(alloc, text, MOST) {
-            Ok(parts) => under_key(alloc, text, parts.input_len, parts.signature),
+            Ok(parts) => {
+                let answer = under_key(alloc, text, parts.input_len, parts.signature);
+                drop(parts);
+                answer
+            }
             Err(fault) => shown(alloc, fault),
         }
     }
@@ -72,7 +76,9 @@ impl Form for Composition {
         let (platform, payload) = std::str::from_utf8(text)?.split_once(' ').ok_or("both")?;
         let who = PlatformCode::try_new(platform.as_bytes()).ok_or("a platform")?;
         let made = composed(alloc, who, payload)?;
-        with_payload(alloc, who, made.0.as_slice())
+        let answer = with_payload(alloc, who, made.0.as_slice());
+        drop(made);
+        answer
     }
 }
 
@@ -87,9 +93,10 @@ fn with_payload(alloc: Global, who: PlatformCode, text: &[u8]) -> Result<ByteLis
 }
 
 fn composed(alloc: Global, who: PlatformCode, payload: &str) -> Result<SignedText, Fail> {
-    let mut ring = KeyedRing::derived();
     let json = read(alloc, payload.as_bytes())?;
-    Ok(compose(alloc, &mut ring, who, &json, MOST)?)
+    let made = compose(alloc, &mut KeyedRing::derived(), who, &json, MOST);
+    drop(json);
+    Ok(made?)
 }
 
 // By Python's joserfc (interop/jose_vectors.py).
@@ -187,6 +194,7 @@ fn room_row(
     let alph = code(rt, "ALPH");
     let json = Json::Int(1);
     let fault = compose(alloc, ring, alph, &json, most).err();
+    drop(json);
     same(rt, "fault", fault, want);
 }
 
@@ -207,7 +215,10 @@ fn verified(alloc: Global) -> Result<Verified, BadSigned> {
 }
 
 fn copied(alloc: Global) -> Result<Verified, Fail> {
-    Ok(verified(alloc)?.copy(alloc)?)
+    let verified = verified(alloc)?;
+    let copy = verified.copy(alloc);
+    drop(verified);
+    Ok(copy?)
 }
 
 #[test]
@@ -215,6 +226,7 @@ fn copied_payload(rt: HostRuntime) -> Result<(), Fail> {
     let copy = copied(rt.alloc())?;
     same(&rt, "platform", copy.platform, code(&rt, "ALPH"));
     let payload = "{\"a\":1,\"b\":[true,null,\"€\"]}";
-    is_written(&rt, rt.alloc(), &copy.payload, payload.as_bytes())?;
-    Ok(())
+    let written = is_written(&rt, rt.alloc(), &copy.payload, payload.as_bytes());
+    drop(copy);
+    Ok(written?)
 }
