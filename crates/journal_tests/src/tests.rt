@@ -24,7 +24,11 @@ fn failures(alloc: Global, fails: &[u64], done: &[u64]) -> Result<Failures, NoMe
 }
 
 fn disk_of(alloc: Global, bytes: &[u8], failures: Failures) -> Result<MemoryDisk, NoMemory> {
-    MemoryDisk::new(alloc, ByteList::from_slice(alloc, bytes)?, failures)
+    let Ok(bytes) = ByteList::from_slice(alloc, bytes) else {
+        drop(failures);
+        return Err(NoMemory);
+    };
+    MemoryDisk::new(alloc, bytes, failures)
 }
 
 // A folder with nothing in it, whatever an earlier run left there.

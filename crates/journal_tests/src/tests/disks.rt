@@ -56,7 +56,10 @@ fn answers(disk: &mut MemoryDisk) -> [u8; 5] {
 
 // A copy of a disk of four bytes, of which the calls of a copied list fail.
 fn copied(alloc: Global, failures: &Failures) -> Result<MemoryDisk, NoMemory> {
-    disk_of(alloc, b"abcd", failures.copy(alloc)?)?.copy(alloc)
+    let disk = disk_of(alloc, b"abcd", failures.copy(alloc)?)?;
+    let copy = disk.copy(alloc);
+    drop(disk);
+    copy
 }
 
 fn tell_answers<R: Abort>(rt: &R, disk: &mut MemoryDisk, told: &[u8; 5], bytes: &[u8]) {
@@ -73,23 +76,36 @@ fn memory_row(
     bytes: &[u8],
 ) -> Result<(), Fail> {
     let failures = failures(alloc, fails, done)?;
-    tell_answers(rt, &mut copied(alloc, &failures)?, told, bytes);
+    let copy = copied(alloc, &failures);
+    drop(failures);
+    let mut disk = copy?;
+    tell_answers(rt, &mut disk, told, bytes);
+    drop(disk);
     Ok(())
 }
 
+// The calls that fail, the writes among them that are done, what the disk answers, and its bytes then.
+const ANSWERS: [(&[u64], &[u64], &[u8; 5], &[u8]); 4] = [
+    (&[], &[1], b".....", b"aXYZz"),
+    (&[1], &[], b".!...", b"abcZz"),
+    (&[2, 1], &[1], b".!!..", b"aXYd"),
+    (&[4, 3, 0], &[4, 0], b"!..!!", b"aXYZz"),
+];
+
 #[test]
 fn a_memory_disk_fails_at_the_listed_calls(rt: HostRuntime) -> Result<(), Fail> {
-    let alloc = rt.alloc();
-    memory_row(&rt, alloc, &[], &[1], b".....", b"aXYZz")?;
-    memory_row(&rt, alloc, &[1], &[], b".!...", b"abcZz")?;
-    memory_row(&rt, alloc, &[2, 1], &[1], b".!!..", b"aXYd")?;
-    memory_row(&rt, alloc, &[4, 3, 0], &[4, 0], b"!..!!", b"aXYZz")
+    for &(fails, done, told, bytes) in &ANSWERS {
+        memory_row(&rt, rt.alloc(), fails, done, told, bytes)?;
+    }
+    Ok(())
 }
 
 #[test]
 fn a_count_of_failed_calls(rt: HostRuntime) -> Result<(), Fail> {
     let failures = failures(rt.alloc(), &[0, 2], &[])?;
-    tell_count(&rt, &mut disk_of(rt.alloc(), b"abcd", failures)?);
+    let mut disk = disk_of(rt.alloc(), b"abcd", failures)?;
+    tell_count(&rt, &mut disk);
+    drop(disk);
     Ok(())
 }
 
@@ -116,12 +132,17 @@ fn bounded_marks(disk: &mut BoundedDisk) -> [u8; 5] {
 
 // A copy of a disk with room for five bytes and three calls.
 fn bounded(alloc: Global) -> Result<BoundedDisk, NoMemory> {
-    BoundedDisk::new(alloc, 5, 3)?.copy(alloc)
+    let disk = BoundedDisk::new(alloc, 5, 3)?;
+    let copy = disk.copy(alloc);
+    drop(disk);
+    copy
 }
 
 #[test]
 fn a_bounded_disk_fails_past_its_room_alone(rt: HostRuntime) -> Result<(), Fail> {
-    tell_bounded(&rt, &mut bounded(rt.alloc())?);
+    let mut disk = bounded(rt.alloc())?;
+    tell_bounded(&rt, &mut disk);
+    drop(disk);
     Ok(())
 }
 

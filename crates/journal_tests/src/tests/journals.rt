@@ -51,7 +51,10 @@ fn found_in(opening: &Opening) -> Found {
 }
 
 fn answer(alloc: Global, bytes: &[u8]) -> Result<Found, NoMemory> {
-    Ok(found_in(&open(alloc, bytes)?))
+    let opening = open(alloc, bytes)?;
+    let found = found_in(&opening);
+    drop(opening);
+    Ok(found)
 }
 
 fn tell_answer<R: Abort>(rt: &R, alloc: Global, bytes: &[u8], expected: Found) -> Result<(), Fail> {
@@ -108,7 +111,9 @@ fn tell_failing(
     expected: Found,
 ) -> Result<(), Fail> {
     let opening = open_failing(alloc, bytes, &[call])?;
-    same(rt, found_in(&opening), expected);
+    let found = found_in(&opening);
+    drop(opening);
+    same(rt, found, expected);
     Ok(())
 }
 
@@ -117,7 +122,10 @@ fn opened(alloc: Global, fails: &[u64], done: &[u64]) -> Result<Journal<MemoryDi
     let failures = failures(alloc, fails, done)?;
     match Journal::open(alloc, disk_of(alloc, b"\x01\0", failures)?) {
         Ok((journal, _)) => Ok(journal),
-        Err(_) => Err(Fail::new("the journal was refused")),
+        Err((disk, _)) => {
+            drop(disk);
+            Err(Fail::new("the journal was refused"))
+        }
     }
 }
 
@@ -140,8 +148,9 @@ fn append<D: Disk>(
 fn read_again(alloc: Global, journal: &mut Journal<MemoryDisk>) -> Result<Found, NoMemory> {
     match journal.reread(alloc) {
         Ok(frames) => {
-            let frames = frames.copy(alloc)?;
-            Ok(Found::Frames(frames.len()))
+            let copy = frames.copy(alloc);
+            drop(frames);
+            Ok(Found::Frames(copy?.len()))
         }
         Err(fault) => Ok(Found::Fault(fault)),
     }
@@ -150,10 +159,15 @@ fn read_again(alloc: Global, journal: &mut Journal<MemoryDisk>) -> Result<Found,
 #[test]
 fn a_blank_disk_becomes_a_journal(rt: HostRuntime) -> Result<(), Fail> {
     match open(rt.alloc(), b"")? {
-        Ok((journal, frames)) => tell_fresh(&rt, journal, &frames),
-        Err(_) => return Err(Fail::new("a blank disk was refused")),
+        Ok((journal, frames)) => {
+            tell_fresh(&rt, journal, &frames);
+            Ok(())
+        }
+        Err((disk, _)) => {
+            drop(disk);
+            Err(Fail::new("a blank disk was refused"))
+        }
     }
-    Ok(())
 }
 
 fn tell_fresh<R: Abort>(rt: &R, journal: Journal<MemoryDisk>, frames: &FrameBytes) {
@@ -164,7 +178,9 @@ fn tell_fresh<R: Abort>(rt: &R, journal: Journal<MemoryDisk>, frames: &FrameByte
 
 // The bytes of a journal's disk.
 fn tell_bytes<R: Abort>(rt: &R, journal: Journal<MemoryDisk>, bytes: &[u8]) {
-    same(rt, journal.close().bytes(), bytes);
+    let disk = journal.close();
+    same(rt, disk.bytes(), bytes);
+    drop(disk);
 }
 
 // The disk of a fresh journal after an append, and whether that was done.
@@ -194,6 +210,7 @@ fn a_frame_of_65_bytes(rt: HostRuntime) -> Result<(), Fail> {
     let (disk, done) = appended(rt.alloc(), &[7; 65], false)?;
     same(&rt, done, true);
     tell_frame(&rt, disk.bytes());
+    drop(disk);
     Ok(())
 }
 
@@ -225,7 +242,9 @@ fn told_room(alloc: Global, content: &[u8], settling: bool) -> Result<(bool, usi
     requires { length content.now ≤ 16777216 }
 {
     let (disk, done) = appended(alloc, content, settling)?;
-    Ok((done, disk.bytes().len()))
+    let len = disk.bytes().len();
+    drop(disk);
+    Ok((done, len))
 }
 
 #[test]
@@ -340,8 +359,9 @@ fn failing_row(rt: &impl Abort, alloc: Global, row: Row) -> Result<(), Fail> {
     let is_failed = !fails.is_empty();
     let is_unread = after == Found::Fault(OpenFault::Disk);
     let mut journal = opened(alloc, fails, done)?;
-    let told = append_and_reread(alloc, &mut journal)?;
-    same(rt, told, (is_failed, is_failed, after, is_unread));
+    let told = append_and_reread(alloc, &mut journal);
+    drop(journal);
+    same(rt, told?, (is_failed, is_failed, after, is_unread));
     Ok(())
 }
 
@@ -381,9 +401,16 @@ fn each_device_call_of_a_reread_fails(rt: HostRuntime) -> Result<(), Fail> {
 #[test]
 fn an_append_after_a_reread(rt: HostRuntime) -> Result<(), Fail> {
     let mut journal = opened(rt.alloc(), &[5], &[5])?;
-    tell_going_on(&rt, rt.alloc(), &mut journal)?;
-    tell_bytes(&rt, journal, &TWO);
-    Ok(())
+    match tell_going_on(&rt, rt.alloc(), &mut journal) {
+        Ok(()) => {
+            tell_bytes(&rt, journal, &TWO);
+            Ok(())
+        }
+        Err(fail) => {
+            drop(journal);
+            Err(fail)
+        }
+    }
 }
 
 fn tell_going_on<R: Abort>(
