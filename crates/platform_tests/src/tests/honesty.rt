@@ -224,6 +224,12 @@ fn put(alloc: Global) -> Result<Request, NoMemory> {
     })
 }
 
+fn finish() -> Request {
+    Request::Finish {
+        reference: REFERENCE,
+    }
+}
+
 fn rubbish(alloc: Global) -> Result<Request, NoMemory> {
     Ok(Request::Start {
         body: ByteList::from_slice(alloc, b"x")?,
@@ -233,11 +239,8 @@ fn rubbish(alloc: Global) -> Result<Request, NoMemory> {
 // A document and a finish bring no text that is signed; bytes that are no body bring none either.
 #[test]
 fn documents_and_rubbish(rt: HostRuntime) -> Result<(), Fail> {
-    let finish = Request::Finish {
-        reference: REFERENCE,
-    };
     assert!(rt; is_honest_now(rt.alloc(), put(rt.alloc())?)?);
-    assert!(rt; is_honest_now(rt.alloc(), finish)?);
+    assert!(rt; is_honest_now(rt.alloc(), finish())?);
     assert!(rt; is_honest_now(rt.alloc(), rubbish(rt.alloc())?)?);
     Ok(())
 }
