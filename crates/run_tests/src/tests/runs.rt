@@ -7,6 +7,7 @@ use ebl_run::{Ended, Status, run_ebl};
 use journaled_shard::Rack;
 use platform_world::{Fate, FateEnd};
 use std::alloc::Global;
+use std::mem;
 use std::process::Abort;
 use std::test::Fail;
 use test_signer::KeyedRing;
@@ -80,9 +81,10 @@ fn failures(alloc: Global, fails: &[u64], done: &[u64]) -> Result<Failures, NoMe
     })
 }
 
-// A rack whose disk has these bytes and fails so.
-fn rack(alloc: Global, bytes: &[u8], failures: Failures) -> Result<MemoryRack, NoMemory> {
+// A rack whose disk has these bytes, and fails at these calls with the bytes of these of them done.
+fn rack(alloc: Global, bytes: &[u8], fails: &[u64], done: &[u64]) -> Result<MemoryRack, NoMemory> {
     let bytes = ByteList::from_slice(alloc, bytes)?;
+    let failures = failures(alloc, fails, done)?;
     let disk = MemoryDisk::new(alloc, bytes, failures)?;
     Ok(Rack {
         disk,
@@ -91,7 +93,7 @@ fn rack(alloc: Global, bytes: &[u8], failures: Failures) -> Result<MemoryRack, N
 }
 
 fn blank_rack(alloc: Global) -> Result<MemoryRack, NoMemory> {
-    rack(alloc, b"", failures(alloc, &[], &[])?)
+    rack(alloc, b"", &[], &[])
 }
 
 // So many racks with blank disks.
@@ -115,12 +117,27 @@ struct Other {
 
 // 48 racks, of which one is this.
 fn racks_with(rt: &impl Abort, alloc: Global, other: &Other) -> Result<Vec<MemoryRack>, NoMemory> {
-    let failures = failures(alloc, other.fails, other.done)?;
-    let rack = rack(alloc, other.bytes, failures)?;
     let mut racks = racks(alloc, 48)?;
+    match put_other(rt, alloc, &mut racks, other) {
+        Ok(()) => Ok(racks),
+        Err(NoMemory) => {
+            drop(racks);
+            Err(NoMemory)
+        }
+    }
+}
+
+// Puts this rack at its place.
+fn put_other(
+    rt: &impl Abort,
+    alloc: Global,
+    racks: &mut Vec<MemoryRack>,
+    other: &Other,
+) -> Result<(), NoMemory> {
+    let rack = rack(alloc, other.bytes, other.fails, other.done)?;
     assert!(rt; other.place < racks.len());
-    racks[other.place] = rack;
-    Ok(racks)
+    drop(mem::replace(&mut racks[other.place], rack));
+    Ok(())
 }
 
 // Runs the command of these words.
@@ -131,12 +148,37 @@ fn run(
     sink: &mut MemorySink,
     racks: Vec<MemoryRack>,
 ) -> Result<MemoryEnded, NoMemory> {
-    let words = words_of(alloc, words)?;
+    let Ok(words) = words_of(alloc, words) else {
+        drop(racks);
+        return Err(NoMemory);
+    };
     Ok(run_ebl(alloc, &words, source, sink, racks))
 }
 
-// The same, and compares the bytes written.
+// Runs the command on this text, and compares the bytes written.
 fn run_writing(
+    rt: &impl Abort,
+    alloc: Global,
+    words: &str,
+    text: &[&str],
+    racks: Vec<MemoryRack>,
+    written: &[u8],
+) -> Result<MemoryEnded, NoMemory> {
+    match source(alloc, text, &[]) {
+        Ok(mut source) => {
+            let ended = run_on(rt, alloc, words, &mut source, racks, written);
+            drop(source);
+            ended
+        }
+        Err(NoMemory) => {
+            drop(racks);
+            Err(NoMemory)
+        }
+    }
+}
+
+// The same on this source.
+fn run_on(
     rt: &impl Abort,
     alloc: Global,
     words: &str,
@@ -145,9 +187,12 @@ fn run_writing(
     written: &[u8],
 ) -> Result<MemoryEnded, NoMemory> {
     let mut sink = MemorySink::new(alloc, CallList::new(alloc));
-    let ended = run(alloc, words, source, &mut sink, racks)?;
-    assert!(rt; sink.written() == written);
-    Ok(ended)
+    let ended = run(alloc, words, source, &mut sink, racks);
+    if ended.is_ok() {
+        assert!(rt; sink.written() == written);
+    }
+    drop(sink);
+    ended
 }
 
 // How often the disk at this place failed.
@@ -180,13 +225,14 @@ fn count_row(
     rt: &impl Abort,
     alloc: Global,
     words: &str,
-    source: &mut MemorySource,
+    text: &[&str],
     count: usize,
     status: Status,
 ) -> Result<(), NoMemory> {
-    let ended = run_writing(rt, alloc, words, source, racks(alloc, count)?, b"")?;
+    let ended = run_writing(rt, alloc, words, text, racks(alloc, count)?, b"")?;
     assert_eq!(rt; ended.status, status);
     assert_eq!(rt; ended.racks.len(), count);
+    drop(ended);
     Ok(())
 }
 
@@ -194,14 +240,7 @@ fn count_row(
 fn too_few_racks(rt: HostRuntime) -> Result<(), Fail> {
     let alloc = rt.alloc();
     for &(words, text, count, status) in &COUNTS {
-        count_row(
-            &rt,
-            alloc,
-            words,
-            &mut source(alloc, text, &[])?,
-            count,
-            status,
-        )?;
+        count_row(&rt, alloc, words, text, count, status)?;
     }
     Ok(())
 }
@@ -231,10 +270,10 @@ fn unfit_row(
     other: &Other,
     status: Status,
 ) -> Result<(), NoMemory> {
-    let mut source = source(alloc, script, &[])?;
     let racks = racks_with(rt, alloc, other)?;
-    let ended = run_writing(rt, alloc, "drive", &mut source, racks, b"")?;
+    let ended = run_writing(rt, alloc, "drive", script, racks, b"")?;
     tell_unfit(rt, &ended, other, status);
+    drop(ended);
     Ok(())
 }
 
@@ -313,13 +352,19 @@ fn gate_row(
     kept: &[u32],
 ) -> Result<(), NoMemory> {
     let written = text_of(alloc, &[SIGNED, BEFORE_THE_FAULT, answer, BEHIND_THE_FAULT])?;
-    let mut source = source(alloc, &[THREE, SIGN, DELIVERED_AGAIN], &[])?;
+    let script = [THREE, SIGN, DELIVERED_AGAIN];
     let racks = racks_with(rt, alloc, other)?;
-    let ended = run_writing(rt, alloc, "drive", &mut source, racks, written.as_slice())?;
-    assert_eq!(rt; ended.status, Status::Done);
-    assert_eq!(rt; faults_at(&ended, other.place), Some(1));
-    tell_fates(rt, ended.fates.as_slice(), kept);
+    let ended = run_writing(rt, alloc, "drive", &script, racks, written.as_slice())?;
+    tell_gate(rt, &ended, other, kept);
+    drop(ended);
     Ok(())
+}
+
+// The run was done, and the disk failed once.
+fn tell_gate(rt: &impl Abort, ended: &MemoryEnded, other: &Other, kept: &[u32]) {
+    assert_eq!(rt; ended.status, Status::Done);
+    assert_eq!(rt; faults_at(ended, other.place), Some(1));
+    tell_fates(rt, ended.fates.as_slice(), kept);
 }
 
 // The fifth of seven events failed, and at the sixth the shards of these numbers kept their loose frames.
@@ -353,20 +398,41 @@ fn failing_gate_write(rt: HostRuntime) -> Result<(), Fail> {
 
 const SCRIPT: [&str; 3] = [ROSTER, FIRST_RUN, TRANSFER_TO_BANK];
 
-// How the script ends over this source and sink.
-fn status_over(
+// How the script ends over a source whose reads fail at these calls, and this sink.
+fn status_over(alloc: Global, fails: &[u64], sink: &mut MemorySink) -> Result<Status, NoMemory> {
+    let mut source = source(alloc, &SCRIPT, fails)?;
+    let status = status_on(alloc, &mut source, sink);
+    drop(source);
+    status
+}
+
+fn status_on(
     alloc: Global,
     source: &mut MemorySource,
     sink: &mut MemorySink,
 ) -> Result<Status, NoMemory> {
     let ended = run(alloc, "drive", source, sink, racks(alloc, 16)?)?;
-    Ok(ended.status)
+    let status = ended.status;
+    drop(ended);
+    Ok(status)
 }
 
 // The sink fails at this call.
 fn put_row(rt: &impl Abort, alloc: Global, call: u64, whole: &[u8]) -> Result<(), NoMemory> {
     let mut sink = MemorySink::tearing(alloc, CallList::from_slice(alloc, &[call])?);
-    let status = status_over(alloc, &mut source(alloc, &SCRIPT, &[])?, &mut sink)?;
+    let told = tell_put(rt, alloc, &mut sink, call, whole);
+    drop(sink);
+    told
+}
+
+fn tell_put(
+    rt: &impl Abort,
+    alloc: Global,
+    sink: &mut MemorySink,
+    call: u64,
+    whole: &[u8],
+) -> Result<(), NoMemory> {
+    let status = status_over(alloc, &[], sink)?;
     // Four answers and the bill lines are put.
     let wanted = if call < 5 {
         Status::WriteFault
@@ -381,7 +447,18 @@ fn put_row(rt: &impl Abort, alloc: Global, call: u64, whole: &[u8]) -> Result<()
 // The source fails at this call.
 fn read_row(rt: &impl Abort, alloc: Global, call: u64) -> Result<(), NoMemory> {
     let mut sink = MemorySink::new(alloc, CallList::new(alloc));
-    let status = status_over(alloc, &mut source(alloc, &SCRIPT, &[call])?, &mut sink)?;
+    let told = tell_read(rt, alloc, &mut sink, call);
+    drop(sink);
+    told
+}
+
+fn tell_read(
+    rt: &impl Abort,
+    alloc: Global,
+    sink: &mut MemorySink,
+    call: u64,
+) -> Result<(), NoMemory> {
+    let status = status_over(alloc, &[call], sink)?;
     // The script comes in one read, and its end in another.
     let wanted = if call < 2 {
         Status::ReadFault
