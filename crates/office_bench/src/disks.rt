@@ -37,5 +37,12 @@ pub(crate) fn file_racks(
 ) -> Option<(Racks<FileDisk>, Racks<FileDisk>)>
     ensures { IfSome result (λ r. (vec_len r.0 ≡ 16) × (vec_len r.1 ≡ 16)) }
 {
-    Some((racks_in(rt, folder, "alph")?, racks_in(rt, folder, "beta")?))
+    let alph = racks_in(rt, folder, "alph")?;
+    match racks_in(rt, folder, "beta") {
+        Some(beta) => Some((alph, beta)),
+        None => {
+            drop(alph);
+            None
+        }
+    }
 }

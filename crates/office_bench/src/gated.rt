@@ -187,18 +187,30 @@ fn rack(
 ) -> Option<Rack<GatedDisk<MemoryDisk>, KeyedRing>>
     ensures { IfSome result (λ rack. rack.disk.seen ≡ []) }
 {
-    let failures = Failures {
-        calls: Items::from_slice(alloc, calls_of(trouble, number)).ok()?,
-        written: Items::new(alloc),
+    let disk = memory_disk(alloc, trouble, number)?;
+    let Ok(gate) = Arc::try_clone(gate) else {
+        drop(disk);
+        return None;
     };
     let disk = GatedDisk {
-        disk: MemoryDisk::new(alloc, Items::new(alloc), failures).ok()?,
-        gate: Arc::try_clone(gate).ok()?,
+        disk,
+        gate,
         deed: deed_of(trouble, number),
         writes: 0,
     };
     let ring = KeyedRing::derived();
     Some(Rack { disk, ring })
+}
+
+// A blank disk of which the calls of this trouble fail.
+fn memory_disk(alloc: Global, trouble: Trouble, number: u32) -> Option<MemoryDisk>
+    ensures { IfSome result (λ disk. disk.seen ≡ []) }
+{
+    let failures = Failures {
+        calls: Items::from_slice(alloc, calls_of(trouble, number)).ok()?,
+        written: Items::new(alloc),
+    };
+    MemoryDisk::new(alloc, Items::new(alloc), failures).ok()
 }
 
 /// Sixteen racks with blank disks and this trouble. A disk whose write waits does so at the gate.

@@ -76,13 +76,21 @@ const TWO: Size = Size {
 fn read_words(words: &[String]) -> Option<Asked<'_>> {
     match words {
         [word] if word.as_str() == "gated" => Some(Asked::InMemory(TWO, Trouble::Gated)),
-        [levels, bills] => Some(Asked::InMemory(size(levels, bills)?, Trouble::Nothing)),
+        [levels, bills] => in_memory_of(levels, bills, Trouble::Nothing),
         [word, levels, bills] if word.as_str() == "failing" => {
-            Some(Asked::InMemory(size(levels, bills)?, Trouble::Failing))
+            in_memory_of(levels, bills, Trouble::Failing)
         }
-        [levels, bills, folder] => Some(Asked::OnFiles(size(levels, bills)?, folder.as_str())),
+        [levels, bills, folder] => on_files_of(levels, bills, folder),
         _ => None,
     }
+}
+
+fn in_memory_of<'a>(levels: &String, bills: &String, trouble: Trouble) -> Option<Asked<'a>> {
+    Some(Asked::InMemory(size(levels, bills)?, trouble))
+}
+
+fn on_files_of<'a>(levels: &String, bills: &String, folder: &'a String) -> Option<Asked<'a>> {
+    Some(Asked::OnFiles(size(levels, bills)?, folder.as_str()))
 }
 
 // The numbers that two words are, if they are as the usage says.

@@ -1,10 +1,12 @@
 //! Two platforms' offices.
 ghost use Rattle.std.specs.Prelude.{◌≡◌, IfSome, vec_len};
+ghost use Rattle.party_roster.specs.RosterForm.{IsRoster};
 ghost use Rattle.platform_office.specs.Office.{IsPassOf};
 
 use crate::disks::Racks;
 use disk_model::Disk;
 use ebl_base::PlatformCode;
+use party_roster::Roster;
 use platform_office::{Office, Pass};
 use sample_bills::roster;
 use std::alloc::Global;
@@ -24,6 +26,14 @@ pub(crate) struct Passes<D: Disk> {
     pub(crate) beta: Pass<D, KeyedRing>,
 }
 
+// Which platform opens, and the roster.
+fn opener(alloc: Global, code: &[u8]) -> Option<(PlatformCode, Roster)>
+    ensures { IfSome result (λ r. IsRoster r.1) }
+{
+    let me = PlatformCode::try_new(code)?;
+    Some((me, roster(alloc)?))
+}
+
 // The office of one platform.
 fn open_one<D: Disk + Drop>(
     alloc: Global,
@@ -33,8 +43,10 @@ fn open_one<D: Disk + Drop>(
     requires count { vec_len racks ≡ 16 }
     ensures { IfSome result (λ r. IsPassOf r.0 r.1) }
 {
-    let me = PlatformCode::try_new(code)?;
-    let roster = roster(alloc)?;
+    let Some((me, roster)) = opener(alloc, code) else {
+        drop(racks);
+        return None;
+    };
     Office::open(alloc, me, roster, racks).ok()
 }
 
@@ -48,13 +60,11 @@ pub(crate) fn open<D: Disk + Drop>(
     ensures alph { IfSome result (λ r. IsPassOf r.0.alph r.1.alph) }
     ensures beta { IfSome result (λ r. IsPassOf r.0.beta r.1.beta) }
 {
-    let first = open_one(alloc, b"ALPH", alph);
-    let second = open_one(alloc, b"BETA", beta);
-    let Some((alph, alph_pass)) = first else {
-        drop(second);
+    let Some((alph, alph_pass)) = open_one(alloc, b"ALPH", alph) else {
+        drop(beta);
         return None;
     };
-    match second {
+    match open_one(alloc, b"BETA", beta) {
         Some((beta, beta_pass)) => {
             let offices = Offices { alph, beta };
             let passes = Passes {

@@ -6,6 +6,7 @@ ghost use Rattle.platform_office.specs.Office.{IsPassOf};
 use crate::offices::{Offices, Passes};
 use crate::serving::{Bills, Phase, Replies, serve};
 use disk_model::Disk;
+use ebl_base::NoMemory;
 use std::alloc::Global;
 use std::marker::Send;
 use std::sync::Wait;
@@ -74,7 +75,7 @@ fn spread<D: Disk + Drop + Send, R: Threads + Wait + Sync>(
                 × IsPassOf offices.entry.now.beta r.0.beta) }
         { spread(rt, alloc, offices, others, far, below) },
     );
-    Some(joined(offices, mine?, theirs?))
+    joined(offices, mine, theirs)
 }
 
 // The work of one thread.
@@ -109,37 +110,46 @@ fn split<D: Disk + Drop>(
     ensures alph { IfSome result (λ r. IsPassOf offices.now.alph r.0.alph × IsPassOf offices.now.alph r.1.alph) }
     ensures beta { IfSome result (λ r. IsPassOf offices.now.beta r.0.beta × IsPassOf offices.now.beta r.1.beta) }
 {
-    let first = offices.alph.split(&mut passes.alph);
-    let second = offices.beta.split(&mut passes.beta);
-    let Ok(alph) = first else {
-        drop(second);
+    let Ok(alph) = offices.alph.split(&mut passes.alph) else {
         drop(passes);
         return None;
     };
-    let Ok(beta) = second else {
-        drop(alph);
-        drop(passes);
-        return None;
-    };
-    Some((passes, Passes { alph, beta }))
+    match offices.beta.split(&mut passes.beta) {
+        Ok(beta) => Some((passes, Passes { alph, beta })),
+        Err(NoMemory) => {
+            drop(alph);
+            drop(passes);
+            None
+        }
+    }
 }
 
-// The passes and the replies of two threads together.
+// The passes and the replies of two threads together, if both have them.
 fn joined<D: Disk + Drop>(
     offices: &Offices<D>,
-    mine: (Passes<D>, Replies),
-    theirs: (Passes<D>, Replies),
-) -> (Passes<D>, Replies)
-    requires alph { IsPassOf offices.now.alph mine.0.alph × IsPassOf offices.now.alph theirs.0.alph }
-    requires beta { IsPassOf offices.now.beta mine.0.beta × IsPassOf offices.now.beta theirs.0.beta }
-    ensures alph { IsPassOf offices.now.alph result.0.alph }
-    ensures beta { IsPassOf offices.now.beta result.0.beta }
+    mine: Option<(Passes<D>, Replies)>,
+    theirs: Option<(Passes<D>, Replies)>,
+) -> Option<(Passes<D>, Replies)>
+    requires mine { IfSome mine (λ r. IsPassOf offices.now.alph r.0.alph × IsPassOf offices.now.beta r.0.beta) }
+    requires theirs { IfSome theirs (λ r. IsPassOf offices.now.alph r.0.alph × IsPassOf offices.now.beta r.0.beta) }
+    ensures alph { IfSome result (λ r. IsPassOf offices.now.alph r.0.alph) }
+    ensures beta { IfSome result (λ r. IsPassOf offices.now.beta r.0.beta) }
 {
-    let (mut passes, mine) = mine;
-    let (others, theirs) = theirs;
-    offices.alph.join(&mut passes.alph, others.alph);
-    offices.beta.join(&mut passes.beta, others.beta);
-    (passes, mine.plus(theirs))
+    let Some((mut passes, mine)) = mine else {
+        drop(theirs);
+        return None;
+    };
+    match theirs {
+        Some((others, theirs)) => {
+            offices.alph.join(&mut passes.alph, others.alph);
+            offices.beta.join(&mut passes.beta, others.beta);
+            Some((passes, mine.plus(theirs)))
+        }
+        None => {
+            drop(passes);
+            None
+        }
+    }
 }
 
 /// 2^`levels` threads hand over so many bills each, and then each settles those of another, if there is one.
