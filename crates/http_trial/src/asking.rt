@@ -1,7 +1,7 @@
 //! One message to an address, and the reply to it.
 use ebl_base::{ByteList, Checksum, PlatformCode, Reference};
 use ebl_edge::StreamLink;
-use pint_client::{ClientFault, exchange};
+use pint_client::{ClientFault, Incoming, exchange};
 use platform_requests::Message;
 use std::alloc::{AllocError, Global};
 use std::io;
@@ -17,7 +17,11 @@ pub(crate) fn ask(rt: &HostRuntime, words: &[String]) -> io::Result<bool> {
         return Ok(false);
     };
     match message(rt.alloc(), kind.as_str(), size as usize)? {
-        Some(out) => exchanged(rt, address.as_str(), &out),
+        Some(out) => {
+            let done = exchanged(rt, address.as_str(), &out);
+            drop(out);
+            done
+        }
         None => Ok(false),
     }
 }
@@ -56,11 +60,24 @@ fn exchanged(rt: &HostRuntime, address: &str, out: &Message) -> io::Result<bool>
     let stream = TcpStream::connect(rt, address)?;
     stream.set_nodelay(true)?;
     let mut link = StreamLink::new(stream);
-    match exchange(rt.alloc(), &mut link, out) {
-        Ok(incoming) => println!(rt; "{} {}", incoming.status, incoming.body.len()),
-        Err(ClientFault::Fault) => println!(rt; "fault"),
-        Err(ClientFault::BadReply) => println!(rt; "bad reply"),
-        Err(ClientFault::NoMemory) => println!(rt; "no memory"),
-    }?;
+    let reply = exchange(rt.alloc(), &mut link, out);
+    drop(link);
+    tell(rt, &reply)?;
     Ok(true)
+}
+
+// Writes the status of a reply and the length of its body, or why there is none.
+fn tell(rt: &HostRuntime, reply: &Result<Incoming, ClientFault>) -> io::Result<()> {
+    match reply {
+        Ok(incoming) => println!(rt; "{} {}", incoming.status, incoming.body.len()),
+        Err(fault) => println!(rt; "{}", word_of(*fault)),
+    }
+}
+
+fn word_of(fault: ClientFault) -> &'static str {
+    match fault {
+        ClientFault::Fault => "fault",
+        ClientFault::BadReply => "bad reply",
+        ClientFault::NoMemory => "no memory",
+    }
 }

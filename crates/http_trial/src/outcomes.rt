@@ -53,6 +53,7 @@ fn started(alloc: Global) -> Result<Reply, NoMemory> {
 }
 
 fn answer(alloc: Global, code: Code) -> Result<Reply, NoMemory> {
+    let text = SignedText::from_bytes(alloc, ByteList::from_slice(alloc, b"a.b.c")?)?;
     let response = Response {
         code,
         bill: None,
@@ -65,6 +66,5 @@ fn answer(alloc: Global, code: Code) -> Result<Reply, NoMemory> {
             theirs: None,
         },
     };
-    let text = SignedText::from_bytes(alloc, ByteList::from_slice(alloc, b"a.b.c")?)?;
     Ok(Reply::Answer { response, text })
 }

@@ -18,7 +18,8 @@ impl Desk for SameDesk {
     ghost known = { λ desk party. false };
 
     fn take(&mut self, alloc: Global, now: Moment, request: Request) -> Outcome {
-        let _ = (now, request);
+        let _ = now;
+        drop(request);
         let title = Title::Live {
             carrier: self.party,
             possessor: self.party,

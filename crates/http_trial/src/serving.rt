@@ -23,11 +23,13 @@ pub(crate) fn serve(rt: &HostRuntime, words: &[String]) -> io::Result<bool> {
     let mut parties = Vec::new(rt.alloc());
     let known = fill(rt.alloc(), names, &mut outcomes, &mut parties);
     let mut desk = MemoryDesk::new(rt.alloc(), outcomes, parties);
-    match known {
+    let served = match known {
         Ok(true) => serve_links(rt, address.as_str(), links, &mut desk),
         Ok(false) => Ok(false),
         Err(NoMemory) => Err(ErrorKind::OutOfMemory.into()),
-    }
+    };
+    drop(desk);
+    served
 }
 
 // The outcomes of these names, the last one first, and the party that the desk knows. False where a name is none.
@@ -63,13 +65,24 @@ fn serve_links(
     let listener = TcpListener::bind(rt, address)?;
     println!(rt; "serving {}", listener.local_addr()?)?;
     for _ in 0..links {
-        let (stream, _) = listener.accept()?;
-        let mut link = StreamLink::new(&stream);
-        let end = serve_link(rt.alloc(), &mut link, desk, &mut clock);
-        println!(rt; "{end:?}")?;
-        read_out(&stream);
+        serve_next(rt, &listener, desk, &mut clock)?;
     }
     Ok(true)
+}
+
+// Serves the next link, and writes how it ended.
+fn serve_next(
+    rt: &HostRuntime,
+    listener: &TcpListener,
+    desk: &mut MemoryDesk,
+    clock: &mut SystemClock<'_, HostRuntime>,
+) -> io::Result<()> {
+    let (stream, _) = listener.accept()?;
+    let mut link = StreamLink::new(&stream);
+    let end = serve_link(rt.alloc(), &mut link, desk, clock);
+    println!(rt; "{end:?}")?;
+    read_out(&stream);
+    Ok(())
 }
 
 // Says that nothing more is written, and reads on until the other side closes, for a second of silence or four MiB at
