@@ -1,5 +1,6 @@
 //! A clock in memory.
 ghost use Rattle.std.specs.Prelude.{◌≡◌, [], ◌∷◌, Some};
+ghost use Rattle.ebl_base.specs.Faults.{risen};
 ghost use Rattle.ebl_edge.specs.Clock.{Gives, clock_given};
 
 use crate::clock::Clock;
@@ -15,7 +16,9 @@ pub struct MemoryClock {
 impl MemoryClock {
     /// A clock that stands at this moment; it has given none yet.
     pub fn new(moment: Moment) -> Self
-        ensures { clock_given result ≡ Some [] }
+        ensures given { clock_given result ≡ Some [] }
+        ensures moment { result.moment ≡ moment }
+        ensures uncalled { result.calls ≡ 0 }
     {
         MemoryClock { moment, calls: 0 }
     }
@@ -36,6 +39,7 @@ impl Clock for MemoryClock {
         // The same moment again.
         ensures same { result ≡ self.old.moment }
         ensures stands { self.new.moment ≡ self.old.moment }
+        ensures counted { self.new.calls ≡ risen self.old.calls }
     {
         self.calls = self.calls.saturating_add(1);
         self.moment

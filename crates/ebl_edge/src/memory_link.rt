@@ -1,5 +1,5 @@
 //! A link in memory that fails at listed calls.
-ghost use Rattle.std.specs.Prelude.{◌≡◌, ◌↔◌, ◌≤◌, [], min, length, drop, true, false, Some, Contains, IfOk, OnOk, OnErr, IsErr, is_err};
+ghost use Rattle.std.specs.Prelude.{◌≡◌, ◌↔◌, ◌≤◌, [], min, length, drop, true, false, Some, Contains, IfOk, OnOk, OnErr, IsErr, is_err, if◌then◌else◌};
 ghost use Rattle.std.specs.Io.{ReadsAtMost};
 ghost use Rattle.std.specs.Io.KnownBytes.{Appends, ReadConsumes};
 ghost use Rattle.ebl_base.specs.Calls.{after_call};
@@ -162,6 +162,9 @@ impl Link for MemoryLink {
         ensures most { IfOk result (λ n. n ≡ min (length self.old.left) (piece_room self.old.pieces
             (length into.old))) }
         ensures listed { IsErr result ↔ Contains self.old.sink.calls.fails self.old.sink.calls.number }
+        // A read that fails leaves its piece to the next one.
+        ensures pieces { self.new.pieces ≡ (if is_err result then self.old.pieces else drop 1 self.old.pieces) }
+        ensures tears { self.new.sink.tears ≡ self.old.sink.tears }
         ensures counted { self.new.sink.calls ≡ after_call (is_err result) self.old.sink.calls }
     {
         if self.sink.next_call_fails() {
@@ -181,6 +184,8 @@ impl Link for MemoryLink {
         ensures unlisted { OnErr result (¬ Contains self.old.sink.calls.fails self.old.sink.calls.number
             → self.new.sink.written ≡ self.old.sink.written) }
         ensures whole { OnErr result (self.old.sink.tears ≡ false → self.new.sink.written ≡ self.old.sink.written) }
+        ensures pieces { self.new.pieces ≡ self.old.pieces }
+        ensures tears { self.new.sink.tears ≡ self.old.sink.tears }
         ensures counted { self.new.sink.calls ≡ after_call (is_err result) self.old.sink.calls }
     {
         self.sink.put(piece)

@@ -9,7 +9,7 @@ use std::time::{SystemTime, UNIX_EPOCH};
 /// The system's wall clock in milliseconds since 1970; its moments aren't known to contracts.
 ///
 /// While the system gives no time, or one outside the range of moments, the clock gives its last moment again, at first
-/// that of number 0. It goes back where the system's clock does.
+/// the one that it was made with. It goes back where the system's clock does.
 #[derive(Drop)]
 pub struct SystemClock<'a, R> {
     rt: &'a R,
