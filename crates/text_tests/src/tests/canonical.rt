@@ -4,7 +4,7 @@ ghost use Rattle.std.specs.Prelude.{◌<◌, IfOk, length};
 use crate::tests::comparing::{is_refused, is_rewritten, is_written, same, same_bytes};
 use crate::tests::making::{Form, assert_table, shown};
 use canonical_json::{
-    Json, JsonList, Member, MemberList, ReadError, append, canonical_reads, decimal_of,
+    Json, JsonList, Member, MemberList, ReadError, canonical_reads, decimal_of,
     equal_texts_have_equal_values, flag_of, int_of, is_lawful, list_of, member_of, nests_within,
     read, read_if_any, take_member, text_of, write, write_text,
 };
@@ -400,24 +400,12 @@ fn object_left(rt: &impl Abort, alloc: Global) -> Result<Json, Fail> {
     Ok(Json::Object(MemberList::from_vec(members)))
 }
 
-fn is_appended(rt: &impl Abort, alloc: Global, json: &Json, want: &[u8]) -> Result<(), NoMemory> {
-    let mut out = Vec::from_slice(alloc, b"= ")?;
-    append(&mut out, json)?;
-    same_bytes(rt, out.as_slice(), want);
-    Ok(())
-}
-
-fn is_left(rt: &impl Abort, alloc: Global, left: &Json) -> Result<(), NoMemory> {
-    is_written(rt, alloc, left, b"{\"b\":\"x\\n\"}")?;
-    is_appended(rt, alloc, left, b"= {\"b\":\"x\\n\"}")
-}
-
 #[test]
 fn a_member_is_taken_out(rt: HostRuntime) -> Result<(), Fail> {
     let left = object_left(&rt, rt.alloc())?;
-    let told = is_left(&rt, rt.alloc(), &left);
+    let written = is_written(&rt, rt.alloc(), &left, b"{\"b\":\"x\\n\"}");
     drop(left);
-    Ok(told?)
+    Ok(written?)
 }
 
 fn is_written_alone(
