@@ -2,6 +2,7 @@
 -- std's `scan`.
 use Rattle.std.specs.Prelude.{ℕ, zero, suc, ◌*◌, ◌/◌, ◌%◌, ◌^◌, List, length, drop, slice_index, Bool, true, false, not, ◌&&◌, ◌==◌, nat_lt, nat_le, if◌then◌else◌, Result, Ok, Err}
 use Rattle.fast_float.specs.Text.{minus, Parts, scan, digits_of, with_sign}
+use Rattle.ebl_base.specs.declared.limits.TheConstants.{MAX_WHOLE_NUMBER}
 use Rattle.canonical_json.specs.Value.{Value, null, int, decimal}
 use Rattle.canonical_json.specs.declared.fault.ReadError.{ReadError}
 use Rattle.canonical_json.specs.declared.fault.ReadError.TheVariants.{Fraction, Range}
@@ -25,7 +26,7 @@ is_decimal n s = nat_lt 0 s && not (n % 10 == 0) && nat_lt n 1000000000000000 &&
 
 -- the greatest whole number that is read: 2^53 - 1
 abbrev pub greatest : ℕ
-greatest = 9007199254740991
+greatest = MAX_WHOLE_NUMBER
 
 -- n / 10^s in lowest terms, with its sign, or why it is none of ours
 abbrev pub exact : Bool → ℕ × ℕ → Result Value ReadError

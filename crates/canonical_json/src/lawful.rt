@@ -4,12 +4,13 @@ ghost use Rattle.canonical_json.specs.View.{view, list_view, object_view};
 ghost use Rattle.canonical_json.specs.Lawful.{is_lawful, are_lawful, members_are_lawful, is_out_of_range};
 
 use crate::name::names_rise;
-use crate::number::{GREATEST, is_decimal};
+use crate::number::is_decimal;
 use crate::value::{Json, JsonList, MemberList};
+use ebl_base::MAX_WHOLE_NUMBER;
 
 /// Whether each whole number is at most 2^53 - 1 in size, each decimal has at most 15 digits, the
-/// last of them not 0, and is at least 10^-6 in size, and the names of each object rise strictly as
-/// sequences of UTF-16 code units. It goes as deep as the value nests.
+/// last of them not 0, a scale of at least 1 and a size of at least 10^-6, and the names of each
+/// object rise strictly as sequences of UTF-16 code units. It goes as deep as the value nests.
 #[cycle(lawful)]
 pub fn is_lawful(json: &Json) -> bool
     ensures { result ≡ is_lawful (view json.now) }
@@ -52,5 +53,5 @@ fn members_are_lawful(members: &MemberList) -> bool
 fn is_out_of_range(number: i64) -> bool
     ensures { result ≡ is_out_of_range number }
 {
-    GREATEST < number.unsigned_abs()
+    MAX_WHOLE_NUMBER < number.unsigned_abs()
 }

@@ -24,4 +24,4 @@ pub use nesting::nests_within;
 pub use reading::{read, read_if_any};
 pub use taking::take_member;
 pub use value::{Json, JsonList, Member, MemberList};
-pub use writing::{append, write, write_text};
+pub use writing::{write, write_text};

@@ -9,13 +9,11 @@ ghost use Rattle.canonical_json.specs.View.{view};
 
 use crate::faults::Faults;
 use crate::value::Json;
+use ebl_base::MAX_WHOLE_NUMBER;
 use fast_float::Numeral;
 
-/// The greatest whole number: 2^53 - 1 (RFC 8785, section 3.2.2.3; RFC 7493, section 2.2).
-pub(crate) const GREATEST: u64 = 9_007_199_254_740_991;
-
 // Sizes from here on need no exact value, since no number of this size is read.
-const TOO_LARGE: u64 = GREATEST + 1;
+const TOO_LARGE: u64 = MAX_WHOLE_NUMBER + 1;
 
 /// The value of a number's text, or null where it has a fault, which is noted.
 pub(crate) fn number_of(text: &str, faults: &mut Faults) -> Json
@@ -76,7 +74,7 @@ fn whole(negative: bool, size: u64, faults: &mut Faults) -> Json
         → IsNoted (exact negative (n, 0)) faults.old faults.new result }
     ensures texts { HasTexts (view result) }
 {
-    if GREATEST < size {
+    if MAX_WHOLE_NUMBER < size {
         faults.range = true;
         return Json::Null;
     }

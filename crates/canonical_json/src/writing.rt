@@ -22,17 +22,8 @@ pub fn write(alloc: Global, json: &Json) -> Result<ByteList, NoMemory>
     ensures texts { OnOk result (HasTexts (view json.now)) }
 {
     let mut out = Vec::new(alloc);
-    append(&mut out, json)?;
+    push_value(&mut out, json)?;
     Ok(ByteList::from_vec(out))
-}
-
-/// Appends the canonical text of a value to a buffer. Where memory runs out, some first part of the
-/// text stands there.
-pub fn append(out: &mut Vec<u8>, json: &Json) -> Result<(), NoMemory>
-    ensures text { OnOk result (out.new.items ≡ out.old.items ++ canon (view json.now)) }
-    ensures texts { OnOk result (HasTexts (view json.now)) }
-{
-    push_value(out, json)
 }
 
 /// The canonical text of a text of these bytes, in quotation marks: RFC 8785, section 3.2.2.2. It is
