@@ -7,12 +7,12 @@ use Rattle.canonical_json.specs.Canon.{canon, values_text}
 use Rattle.canonical_json.specs.Field.{under}
 use Rattle.canonical_json.specs.Taking.{without}
 use Rattle.json.specs.Print.{escape_byte}
-use Rattle.json_forms.specs.Writing.{each_written}
+use Rattle.json_forms.specs.Writing.{each_written, signed_value}
 use Rattle.ebl_base.specs.declared.signed_text.SignedText.{SignedText}
 use Rattle.envelope_manifest.specs.declared.fault.BodyField.{BodyField}
 use Rattle.envelope_manifest.specs.declared.fault.BodyField.TheVariants as fields
-use Rattle.json_forms.specs.Reading.{required}
-use Rattle.envelope_manifest.specs.Body.{BodyRecord, object_in, signed_in, all_signed_in, parts_of, signed_value, body_value}
+use Rattle.json_forms.specs.Reading.{required, signed_in}
+use Rattle.envelope_manifest.specs.Body.{BodyRecord, object_in, all_signed_in, parts_of, body_value}
 
 -- another name stands where it stood
 under-without : (name other : List ℕ) (ms : Members) → bytes_eq name other ≡ false

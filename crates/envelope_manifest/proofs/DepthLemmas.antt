@@ -4,8 +4,9 @@ use Rattle.std.specs.Prelude.{option_and_then}
 use Rattle.canonical_json.specs.Value.{Value, null, flag, int, decimal, text, list, object, Members, no_members, member, depth, members_depth}
 use Rattle.canonical_json.specs.Field.{under}
 use Rattle.json_forms.proofs.ReadForms.{required-parts}
+use Rattle.json_forms.specs.Reading.{signed_in}
 use Rattle.envelope_manifest.specs.declared.fault.BodyField.TheVariants as fields
-use Rattle.envelope_manifest.specs.Body.{BodyRecord, all_signed_in, body_of, object_in, parts_of, signed_in}
+use Rattle.envelope_manifest.specs.Body.{BodyRecord, all_signed_in, body_of, object_in, parts_of}
 use Rattle.envelope_manifest.proofs.ReadBodies.{made_of, object_same}
 
 -- a member nests no deeper than the members together

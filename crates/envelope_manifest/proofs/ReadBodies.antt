@@ -6,13 +6,13 @@ use Rattle.canonical_json.specs.Value.{Value, null, flag, int, decimal, text, li
 use Rattle.canonical_json.specs.Field.{under}
 use Rattle.canonical_json.specs.Lawful.{IsLawful, HasTexts, HaveTexts, MembersHaveTexts}
 use Rattle.canonical_json.proofs.Parts.{HasTexts-under, is_lawful-member_of}
-use Rattle.json_forms.specs.Reading.{all_of, with_more}
+use Rattle.json_forms.specs.Reading.{all_of, with_more, signed_in}
 use Rattle.ebl_base.specs.declared.signed_text.SignedText.{SignedText}
 use Rattle.envelope_manifest.specs.declared.body.Body.{Body}
 use Rattle.envelope_manifest.specs.declared.fault.BodyField.{BodyField}
 use Rattle.envelope_manifest.specs.declared.fault.BodyField.TheVariants as fields
 use Rattle.envelope_manifest.specs.declared.fault.BodyFault.{BodyFault}
-use Rattle.envelope_manifest.specs.Body.{BodyRecord, AreUtf8, IsBody, object_in, signed_in, all_signed_in, parts_of, body_of, body_view}
+use Rattle.envelope_manifest.specs.Body.{BodyRecord, AreUtf8, IsBody, object_in, all_signed_in, parts_of, body_of, body_view}
 use Rattle.json_forms.proofs.ReadForms.{required-parts}
 
 -- what was made of a value that is there

@@ -6,12 +6,12 @@ use Rattle.canonical_json.specs.Value.{Value, depth, values_depth}
 use Rattle.canonical_json.specs.Name.{name_cmp}
 use Rattle.canonical_json.specs.Lawful.{IsLawful, is_lawful, are_lawful, HasTexts, HaveTexts}
 use Rattle.canonical_json.proofs.Parts.{Reads_once}
-use Rattle.json_forms.specs.Reading.{required, all_of, with_more}
-use Rattle.json_forms.specs.Writing.{each_written}
+use Rattle.json_forms.specs.Reading.{required, all_of, with_more, signed_in}
+use Rattle.json_forms.specs.Writing.{each_written, signed_value}
 use Rattle.ebl_base.specs.declared.signed_text.SignedText.{SignedText}
 use Rattle.envelope_manifest.specs.declared.fault.BodyField.{BodyField}
 use Rattle.envelope_manifest.specs.declared.fault.BodyField.TheVariants as fields
-use Rattle.envelope_manifest.specs.Body.{BodyRecord, AreUtf8, IsBody, ReadsAs, object_in, signed_in, body_of, signed_value, body_value}
+use Rattle.envelope_manifest.specs.Body.{BodyRecord, AreUtf8, IsBody, ReadsAs, object_in, body_of, body_value}
 use Rattle.envelope_manifest.proofs.FormLemmas.{IsUtf8-ascii}
 
 all_of-signed : (texts : List SignedText) → all_of signed_in (each_written signed_value texts) ≡ Some texts

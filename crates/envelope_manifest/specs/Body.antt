@@ -3,12 +3,12 @@ use Rattle.std.specs.Prelude.{◌≡◌, ◌⊎◌, ℕ, List, [], ◌∷◌, Op
 use Rattle.std.specs.Str.{IsUtf8}
 use Rattle.canonical_json.specs.Value.{Value, null, flag, int, decimal, text, list, object, Members, no_members, member}
 use Rattle.canonical_json.specs.View.{view}
-use Rattle.canonical_json.specs.Field.{as_text, as_list, under}
+use Rattle.canonical_json.specs.Field.{as_list, under}
 use Rattle.canonical_json.specs.Lawful.{IsLawful, HasTexts}
 use Rattle.canonical_json.specs.Reading.{IsUnread, Reads, value_in}
 use Rattle.canonical_json.specs.declared.fault.ReadError.{ReadError}
-use Rattle.json_forms.specs.Reading.{all_of, required}
-use Rattle.json_forms.specs.Writing.{each_written}
+use Rattle.json_forms.specs.Reading.{all_of, required, signed_in}
+use Rattle.json_forms.specs.Writing.{each_written, signed_value}
 use Rattle.ebl_base.specs.declared.signed_text.SignedText.{SignedText}
 use Rattle.envelope_manifest.specs.declared.body.Body.{Body}
 use Rattle.envelope_manifest.specs.declared.fault.BodyField.{BodyField}
@@ -39,14 +39,6 @@ members_in (object ms) = Some ms
 -- a value that is an object
 abbrev pub object_in : Value → Option Value
 object_in v = option_map object (members_in v)
-
--- a text, as one that may be signed
-abbrev pub signed : List ℕ → SignedText
-signed t = record { 0 = t }
-
--- the one that a value is
-abbrev pub signed_in : Value → Option SignedText
-signed_in v = option_map signed (as_text v)
 
 -- those that a list is
 abbrev pub all_signed_in : Value → Option (List SignedText)
@@ -104,10 +96,6 @@ pub record IsBody (body : BodyRecord) : Type 0 where
   pub texts : HasTexts body.document
   pub manifest : IsUtf8 body.manifest.0
   pub chain : AreUtf8 body.chain
-
--- a signed text is a text
-abbrev pub signed_value : SignedText → Value
-signed_value t = text t.0
 
 -- the written form, with the names in order
 abbrev pub body_value : BodyRecord → Value

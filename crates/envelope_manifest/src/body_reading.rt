@@ -3,8 +3,8 @@ ghost use Rattle.std.specs.Prelude.{◌≡◌, Ok, option_map, option_and_then, 
 ghost use Rattle.canonical_json.specs.Field.{under};
 ghost use Rattle.canonical_json.specs.Taking.{without};
 ghost use Rattle.canonical_json.specs.View.{view, items_view, members_view};
-ghost use Rattle.json_forms.specs.Reading.{all_of};
-ghost use Rattle.envelope_manifest.specs.Body.{IsPartFault, all_signed_in, body_of, body_view, object_in, parts_of, signed_in};
+ghost use Rattle.json_forms.specs.Reading.{all_of, signed_in};
+ghost use Rattle.envelope_manifest.specs.Body.{IsPartFault, all_signed_in, body_of, body_view, object_in, parts_of};
 
 use crate::body::Body;
 use crate::fault::{BodyFault, BodyField};

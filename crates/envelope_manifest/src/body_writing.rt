@@ -1,8 +1,7 @@
 //! The parts of a body as they are written.
 ghost use Rattle.std.specs.Prelude.{◌≡◌, ◌++◌, false, OnOk};
 ghost use Rattle.canonical_json.specs.Canon.{canon, comma_if, values_text};
-ghost use Rattle.json_forms.specs.Writing.{each_written};
-ghost use Rattle.envelope_manifest.specs.Body.{signed_value};
+ghost use Rattle.json_forms.specs.Writing.{each_written, signed_value};
 
 use canonical_json::write_text;
 use ebl_base::{ByteList, NoMemory, SignedText};

@@ -26,7 +26,7 @@ pub enum ManifestFault {
 /// A part of a body.
 #[derive(Clone, Copy, Debug, PartialEq, Eq)]
 pub enum BodyField {
-    /// The whole, an object of JSON (RFC 8259) whose numbers are whole and at most 2^53 - 1 in size.
+    /// The whole, an object that `canonical_json` reads.
     Json,
     /// `document`, an object.
     Document,

@@ -1,5 +1,5 @@
 -- Small forms that many JSON objects have as members.
-use Rattle.std.specs.Prelude.{◌≡◌, ℕ, suc, ℤ, pos, negsuc, List, [], ◌∷◌, Option, Some, None, Result, Ok, Err, option_and_then, nat_le, ◌&&◌, if◌then◌else◌}
+use Rattle.std.specs.Prelude.{◌≡◌, ℕ, suc, ℤ, pos, negsuc, List, [], ◌∷◌, Option, Some, None, Result, Ok, Err, option_map, option_and_then, nat_le, ◌&&◌, if◌then◌else◌}
 use Rattle.canonical_json.specs.Value.{Value, Values, no_values, item}
 use Rattle.canonical_json.specs.Field.{as_text, member_of, text_of, int_of, list_of}
 use Rattle.ebl_base.specs.PlatformCode.{code_of}
@@ -12,6 +12,7 @@ use Rattle.ebl_base.specs.declared.platform_code.PlatformCode.{PlatformCode}
 use Rattle.ebl_base.specs.declared.party.Party.{Party}
 use Rattle.ebl_base.specs.declared.provider.Provider.{Provider}
 use Rattle.ebl_base.specs.declared.carrier_code.CarrierCode.{CarrierCode}
+use Rattle.ebl_base.specs.declared.signed_text.SignedText.{SignedText}
 use Rattle.json_forms.specs.declared.reading.Malformed.{Malformed}
 
 -- the platform code that a text is
@@ -25,6 +26,10 @@ party_in v = option_and_then party_of (as_text v)
 -- the checksum that a text is
 abbrev pub checksum_in : Value → Option Checksum
 checksum_in v = option_and_then checksum_of_text (as_text v)
+
+-- a text, as one that may be signed
+abbrev pub signed_in : Value → Option SignedText
+signed_in v = option_map (λ t. record { 0 = t }) (as_text v)
 
 -- the platform code that the member of that name is
 abbrev pub required_platform : List ℕ → Value → Option PlatformCode

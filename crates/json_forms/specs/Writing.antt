@@ -9,6 +9,7 @@ use Rattle.ebl_base.specs.declared.limits.TheConstants.{MAX_WHOLE_NUMBER}
 use Rattle.ebl_base.specs.declared.checksum.Checksum.{Checksum}
 use Rattle.ebl_base.specs.declared.platform_code.PlatformCode.{PlatformCode}
 use Rattle.ebl_base.specs.declared.party.Party.{Party}
+use Rattle.ebl_base.specs.declared.signed_text.SignedText.{SignedText}
 
 -- each item of a list, written in one way
 abbrev pub each_written : {T : Type 0} → (T → Value) → List T → Values
@@ -29,6 +30,10 @@ platform_value platform = text (code_text platform)
 -- a party is its text
 abbrev pub party_value : Party → Value
 party_value party = text (party_text party)
+
+-- a signed text is a text
+abbrev pub signed_value : SignedText → Value
+signed_value signed = text signed.0
 
 -- a checksum is its text
 abbrev pub checksum_value : Checksum → Value

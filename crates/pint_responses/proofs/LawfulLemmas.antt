@@ -8,10 +8,10 @@ use Rattle.std.specs.Str.{chars}
 use Rattle.canonical_json.specs.Value.{Value, Members, no_members}
 use Rattle.canonical_json.specs.Lawful.{IsLawful, are_lawful, is_lawful, is_out_of_range, members_are_lawful}
 use Rattle.canonical_json.specs.Name.{comes_before, name_cmp, names_rise}
-use Rattle.json_forms.specs.Writing.{checksum_value, each_written, optional_member}
+use Rattle.json_forms.specs.Writing.{checksum_value, each_written, optional_member, signed_value}
 use Rattle.ebl_base.specs.Reason.{reason_index}
 use Rattle.ebl_base.specs.declared.checksum.Checksum.{Checksum}
-use Rattle.pint_responses.specs.Writing.{evidence_value, place_value, reason_value, response_members, response_value}
+use Rattle.pint_responses.specs.Writing.{place_value, reason_value, response_members, response_value}
 use Rattle.pint_responses.proofs.Tails.{from_code, from_index, from_last, from_missing, from_own, from_reason, from_standing, from_theirs}
 use Rattle.pint_responses.specs.declared.response.Response.{Response}
 
@@ -36,18 +36,18 @@ names_of_response_rise : (r : Response) → names_rise (response_members r) ≡ 
 unfolding name_cmp chars
 names_of_response_rise r =
     let rise_theirs : names_rise (from_theirs r) ≡ true =
-    optional_rise (codes "theirs") evidence_value r.evidence.theirs no_members refl refl in
+    optional_rise (codes "theirs") signed_value r.evidence.theirs no_members refl refl in
     let before_theirs : comes_before (codes "standing") (from_theirs r) ≡ true =
-    optional_before (codes "theirs") evidence_value (codes "standing") r.evidence.theirs no_members refl refl in
+    optional_before (codes "theirs") signed_value (codes "standing") r.evidence.theirs no_members refl refl in
     let rise_standing : names_rise (from_standing r) ≡ true = rw (before_theirs, rise_theirs) refl in
     let rise_reason : names_rise (from_reason r) ≡ true =
     optional_rise (codes "reason") reason_value r.reason (from_code r) refl rise_standing in
     let own_before : comes_before (codes "own") (from_reason r) ≡ true =
     optional_before (codes "reason") reason_value (codes "own") r.reason (from_code r) refl refl in
     let rise_own : names_rise (from_own r) ≡ true =
-    optional_rise (codes "own") evidence_value r.evidence.own (from_reason r) own_before rise_reason in
+    optional_rise (codes "own") signed_value r.evidence.own (from_reason r) own_before rise_reason in
     let missing_before : comes_before (codes "missing") (from_own r) ≡ true =
-    optional_before (codes "own") evidence_value (codes "missing") r.evidence.own (from_reason r) refl
+    optional_before (codes "own") signed_value (codes "missing") r.evidence.own (from_reason r) refl
     (optional_before (codes "reason") reason_value (codes "missing") r.reason (from_code r) refl refl) in
     let rise_missing : names_rise (from_missing r) ≡ true = rw (missing_before, rise_own) refl in
     let rise_last : names_rise (from_last r) ≡ true =
@@ -76,11 +76,11 @@ checksums_are_lawful (c ∷ cs) = checksums_are_lawful cs
 values_of_response_are_lawful : (r : Response) → members_are_lawful (response_members r) ≡ true
 values_of_response_are_lawful r =
     let theirs : members_are_lawful (from_theirs r) ≡ true =
-    optional_lawful (codes "theirs") evidence_value r.evidence.theirs no_members (λ x. refl) refl in
+    optional_lawful (codes "theirs") signed_value r.evidence.theirs no_members (λ x. refl) refl in
     let reason : members_are_lawful (from_reason r) ≡ true =
     optional_lawful (codes "reason") reason_value r.reason (from_code r) (λ x. refl) theirs in
     let own : members_are_lawful (from_own r) ≡ true =
-    optional_lawful (codes "own") evidence_value r.evidence.own (from_reason r) (λ x. refl) reason in
+    optional_lawful (codes "own") signed_value r.evidence.own (from_reason r) (λ x. refl) reason in
     let missing : members_are_lawful (from_missing r) ≡ true = rw (checksums_are_lawful r.missing, own) refl in
     let last : members_are_lawful (from_last r) ≡ true =
     optional_lawful (codes "last") checksum_value r.last (from_missing r) (λ x. refl) missing in

@@ -7,7 +7,7 @@ use Rattle.std.proofs.lemmas.Fmt.{length-decimal-le}
 use Rattle.json.specs.Print.{escape, escape_byte, escape_letter, quoted}
 use Rattle.canonical_json.specs.Canon.{canon, members_text, values_text}
 use Rattle.canonical_json.specs.Value.{Value, flag, text, Members, no_members, member}
-use Rattle.json_forms.specs.Writing.{HasDigits, checksum_value, checksums_value, each_written, optional_member}
+use Rattle.json_forms.specs.Writing.{HasDigits, checksum_value, checksums_value, each_written, optional_member, signed_value}
 use Rattle.document_checksum.specs.Text.{checksum_text}
 use Rattle.ebl_base.specs.Code.{response_code_text}
 use Rattle.ebl_base.specs.Reason.{reason_index, reason_text}
@@ -18,7 +18,7 @@ use Rattle.ebl_base.specs.declared.reason.Reason.{Reason}
 use Rattle.ebl_base.specs.declared.reason.Reason.TheVariants.{Body, Document, Length, Signature, Entry, Signer, Link, Bill, Carrier, Platform, Fold, Move, ManifestSignature, ManifestForm, ManifestNames, Destination, Party, Parts, NotListed, Bytes}
 use Rattle.ebl_base.specs.declared.signed_text.SignedText.{SignedText}
 use Rattle.pint_responses.specs.Response.{HasOptionalDigits, HaveDigits, IsEvidence, IsOptionalEvidence, IsSealable}
-use Rattle.pint_responses.specs.Writing.{code_value, evidence_value, place_value, reason_value, response_members, response_value}
+use Rattle.pint_responses.specs.Writing.{code_value, place_value, reason_value, response_members, response_value}
 use Rattle.pint_responses.specs.declared.response.Response.{Response}
 use Rattle.pint_responses.proofs.Tails.{from_code, from_index, from_last, from_missing, from_own, from_reason, from_standing, from_theirs}
 use Rattle.signed_envelope.proofs.CompactLemmas.{escape_on_compact}
@@ -54,7 +54,7 @@ length-text s most h = omega (arith, length-quoted s, length-escape s)
 length-checksum : (c : Checksum) → HasDigits c → length (canon (checksum_value c)) ≤ 386
 length-checksum c digits = length-text (checksum_text c) 64 (omega (arith, digits))
 
-length-evidence : (e : SignedText) → IsEvidence e.0 → length (canon (evidence_value e)) ≤ 16386
+length-evidence : (e : SignedText) → IsEvidence e.0 → length (canon (signed_value e)) ≤ 16386
 length-evidence e is =
     let same : length (escape e.0) ≡ length e.0 = ap length (escape_on_compact 16384 e.0 is.0 is.1) in
     let fits = is.1.fits in
@@ -166,7 +166,7 @@ evidence_of (Some d) h t e = let same : d ≡ t = cc in subst (λ (x : SignedTex
 length-response : (r : Response) → IsSealable r → HaveDigits r → length (canon (response_value r)) ≤ 40401
 length-response r sealable sizes =
     let end : length (members_text true no_members) ≤ 1 = lit≤ tt in
-    let theirs = optional_length (codes "theirs") evidence_value r.evidence.theirs no_members 16426
+    let theirs = optional_length (codes "theirs") signed_value r.evidence.theirs no_members 16426
     (λ t e. let l = length-evidence t (evidence_of r.evidence.theirs sealable.theirs t e) in omega (arith, l)) in
     let standing = length_member (codes "standing") (flag r.standing) (from_theirs r) 57
     (let l = length-flag r.standing in omega (arith, l)) in
@@ -174,7 +174,7 @@ length-response r sealable sizes =
     (let l = length-text (response_code_text r.code) 4 (length-code_text r.code) in omega (arith, l)) in
     let reason = optional_length (codes "reason") reason_value r.reason (from_code r) 150
     (λ x e. let l = length-text (reason_text x) 18 (length-reason_text x) in omega (arith, l)) in
-    let own = optional_length (codes "own") evidence_value r.evidence.own (from_reason r) 16408
+    let own = optional_length (codes "own") signed_value r.evidence.own (from_reason r) 16408
     (λ t e. let l = length-evidence t (evidence_of r.evidence.own sealable.own t e) in omega (arith, l)) in
     let missing = length_member (codes "missing") (checksums_value r.missing) (from_own r) 6240
     (let l = length-missing r.missing sealable.missing sizes.missing in omega (arith, l)) in

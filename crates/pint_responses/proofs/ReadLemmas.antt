@@ -5,7 +5,7 @@ use Rattle.std.proofs.lemmas.Bool.{and_parts}
 use Rattle.std.proofs.lemmas.List.Elements.{All-cons}
 use Rattle.canonical_json.specs.Field.{as_text, flag_of, int_of, list_of, member_of}
 use Rattle.canonical_json.specs.Value.{Value, Values, no_values, item, null, flag, int, decimal, text, list, object}
-use Rattle.json_forms.specs.Reading.{all_of, optional_checksum, checksum_in, optional, in_form, number_in, required_number, with_more}
+use Rattle.json_forms.specs.Reading.{all_of, optional_checksum, checksum_in, optional, in_form, number_in, required_number, with_more, signed_in}
 use Rattle.json_forms.proofs.RoundTrips.{number_in-within}
 use Rattle.document_checksum.specs.Digest.{IsChecksum}
 use Rattle.document_checksum.specs.Text.{checksum_of_text}
@@ -18,7 +18,7 @@ use Rattle.ebl_base.specs.declared.reason.Reason.{Reason}
 use Rattle.ebl_base.specs.declared.reason.Reason.TheVariants.{Body, Document, Length, Signature, Entry, Signer, Link, Bill, Carrier, Platform, Fold, Move, ManifestSignature, ManifestForm, ManifestNames, Destination, Party, Parts, NotListed, Bytes}
 use Rattle.ebl_base.specs.declared.signed_text.SignedText.{SignedText}
 use Rattle.ebl_base.proofs.AnswerLemmas.{code_for-reason_at}
-use Rattle.pint_responses.specs.Reading.{at_index, evidence_of, indexed, optional_reason, optional_signed, reason_in, reason_under, required_code, required_missing, response_of, signed_in, with_code}
+use Rattle.pint_responses.specs.Reading.{at_index, evidence_of, indexed, optional_reason, optional_signed, reason_in, reason_under, required_code, required_missing, response_of, with_code}
 use Rattle.pint_responses.specs.Response.{IsAllowed, IsOptionalChecksum, IsOptionalUtf8, IsReasonOf, comes_with, is_place}
 use Rattle.pint_responses.specs.declared.fault.ResponseField.{ResponseField}
 use Rattle.pint_responses.specs.declared.fault.ResponseField.TheVariants as fields

@@ -2,13 +2,13 @@
 use Rattle.std.proofs.Common.{codes}
 use Rattle.std.specs.Prelude.{option_and_then}
 use Rattle.canonical_json.specs.Value.{flag, Members, no_members, member}
-use Rattle.json_forms.specs.Writing.{checksum_value, checksums_value, optional_member}
+use Rattle.json_forms.specs.Writing.{checksum_value, checksums_value, optional_member, signed_value}
 use Rattle.ebl_base.specs.Reason.{reason_index}
-use Rattle.pint_responses.specs.Writing.{code_value, evidence_value, place_value, reason_value}
+use Rattle.pint_responses.specs.Writing.{code_value, place_value, reason_value}
 use Rattle.pint_responses.specs.declared.response.Response.{Response}
 
 abbrev pub from_theirs : Response → Members
-from_theirs r = optional_member (codes "theirs") evidence_value r.evidence.theirs no_members
+from_theirs r = optional_member (codes "theirs") signed_value r.evidence.theirs no_members
 
 abbrev pub from_standing : Response → Members
 from_standing r = member (codes "standing") (flag r.standing) (from_theirs r)
@@ -20,7 +20,7 @@ abbrev pub from_reason : Response → Members
 from_reason r = optional_member (codes "reason") reason_value r.reason (from_code r)
 
 abbrev pub from_own : Response → Members
-from_own r = optional_member (codes "own") evidence_value r.evidence.own (from_reason r)
+from_own r = optional_member (codes "own") signed_value r.evidence.own (from_reason r)
 
 abbrev pub from_missing : Response → Members
 from_missing r = member (codes "missing") (checksums_value r.missing) (from_own r)

@@ -9,7 +9,7 @@ use Rattle.std.specs.List.{list_all}
 use Rattle.std.specs.Str.{IsAscii, IsUtf8}
 use Rattle.canonical_json.specs.Lawful.{HasTexts, HaveTexts, MembersHaveTexts}
 use Rattle.canonical_json.specs.Value.{Value, depth, Members, members_depth, no_members, values_depth}
-use Rattle.json_forms.specs.Writing.{checksum_value, each_written, optional_member}
+use Rattle.json_forms.specs.Writing.{checksum_value, each_written, optional_member, signed_value}
 use Rattle.document_checksum.proofs.ReadTexts.{IsUtf8-checksum_text}
 use Rattle.ebl_base.specs.Code.{response_code_text}
 use Rattle.ebl_base.specs.Reason.{reason_index, reason_text}
@@ -20,7 +20,7 @@ use Rattle.ebl_base.specs.declared.reason.Reason.{Reason}
 use Rattle.ebl_base.specs.declared.reason.Reason.TheVariants.{Body, Document, Length, Signature, Entry, Signer, Link, Bill, Carrier, Platform, Fold, Move, ManifestSignature, ManifestForm, ManifestNames, Destination, Party, Parts, NotListed, Bytes}
 use Rattle.ebl_base.specs.declared.signed_text.SignedText.{SignedText}
 use Rattle.pint_responses.specs.Response.{IsOptionalUtf8}
-use Rattle.pint_responses.specs.Writing.{evidence_value, place_value, reason_value, response_members, response_value}
+use Rattle.pint_responses.specs.Writing.{place_value, reason_value, response_members, response_value}
 use Rattle.pint_responses.specs.declared.response.Response.{Response}
 use Rattle.pint_responses.proofs.Tails.{from_code, from_index, from_last, from_missing, from_own, from_reason, from_theirs}
 
@@ -78,7 +78,7 @@ optional_texts name write None rest utf8 each h = h
 optional_texts name write (Some x) rest utf8 each h = (utf8, each x refl, h)
 
 evidence_has_texts : (o : Option SignedText) → IsOptionalUtf8 o → (t : SignedText) → o ≡ Some t
-    → HasTexts (evidence_value t)
+    → HasTexts (signed_value t)
 evidence_has_texts None is t e = cc e
 evidence_has_texts (Some d) is t e = let same : d ≡ t = cc in subst (λ (x : SignedText). IsUtf8 x.0) same is
 
@@ -87,7 +87,7 @@ pub response_has_texts : (r : Response) → IsOptionalUtf8 r.evidence.own → Is
     → HasTexts (response_value r)
 response_has_texts r own theirs =
     let end : MembersHaveTexts (from_theirs r) =
-    optional_texts (codes "theirs") evidence_value r.evidence.theirs no_members (ascii_text (codes "theirs") refl)
+    optional_texts (codes "theirs") signed_value r.evidence.theirs no_members (ascii_text (codes "theirs") refl)
     (evidence_has_texts r.evidence.theirs theirs) tt in
     let code : MembersHaveTexts (from_code r) =
     (ascii_text (codes "responseCode") refl, code_is_utf8 r.code, (ascii_text (codes "standing") refl, tt, end)) in
@@ -95,7 +95,7 @@ response_has_texts r own theirs =
     optional_texts (codes "reason") reason_value r.reason (from_code r) (ascii_text (codes "reason") refl)
     (λ x e. reason_is_utf8 x) code in
     let mine : MembersHaveTexts (from_own r) =
-    optional_texts (codes "own") evidence_value r.evidence.own (from_reason r) (ascii_text (codes "own") refl)
+    optional_texts (codes "own") signed_value r.evidence.own (from_reason r) (ascii_text (codes "own") refl)
     (evidence_has_texts r.evidence.own own) reason in
     let missing : MembersHaveTexts (from_missing r) =
     (ascii_text (codes "missing") refl, checksums_have_texts r.missing, mine) in
@@ -123,12 +123,12 @@ optional_flat name write (Some x) rest each h = let first = each x in omega (ari
 pub response_is_flat : (r : Response) → depth (response_value r) ≤ 127
 response_is_flat r =
     let end : members_depth (from_theirs r) ≤ 1 =
-    optional_flat (codes "theirs") evidence_value r.evidence.theirs no_members (λ x. omega arith) (omega arith) in
+    optional_flat (codes "theirs") signed_value r.evidence.theirs no_members (λ x. omega arith) (omega arith) in
     let code : members_depth (from_code r) ≤ 1 = omega (arith, end) in
     let reason : members_depth (from_reason r) ≤ 1 =
     optional_flat (codes "reason") reason_value r.reason (from_code r) (λ x. omega arith) code in
     let own : members_depth (from_own r) ≤ 1 =
-    optional_flat (codes "own") evidence_value r.evidence.own (from_reason r) (λ x. omega arith) reason in
+    optional_flat (codes "own") signed_value r.evidence.own (from_reason r) (λ x. omega arith) reason in
     let checksums = checksums_are_flat r.missing in
     let missing : members_depth (from_missing r) ≤ 1 = omega (arith, own, checksums) in
     let last : members_depth (from_last r) ≤ 1 =

@@ -5,7 +5,7 @@ use Rattle.std.proofs.lemmas.Bool.Decides.{nat_tests}
 use Rattle.canonical_json.specs.Field.{flag_of, member_of, under}
 use Rattle.canonical_json.specs.Value.{Value, flag, Members, no_members}
 use Rattle.json_forms.specs.Reading.{all_of, optional_checksum, checksum_in, required_number}
-use Rattle.json_forms.specs.Writing.{checksum_value, checksums_value, each_written, optional_member}
+use Rattle.json_forms.specs.Writing.{checksum_value, checksums_value, each_written, optional_member, signed_value}
 use Rattle.document_checksum.specs.Digest.{IsChecksum}
 use Rattle.document_checksum.proofs.Texts.{checksum_of_text-checksum_text}
 use Rattle.ebl_base.specs.Reason.{reason_at, reason_index}
@@ -17,7 +17,7 @@ use Rattle.ebl_base.specs.declared.signed_text.SignedText.{SignedText}
 use Rattle.ebl_base.proofs.AnswerLemmas.{code_for-reason_at, reason_of-reason_text, response_code_of-response_code_text}
 use Rattle.pint_responses.specs.Reading.{indexed, optional_reason, optional_signed, reason_in, required_code, required_missing, response_of}
 use Rattle.pint_responses.specs.Response.{IsAllowed, IsOptionalChecksum, IsReasonOf, comes_with}
-use Rattle.pint_responses.specs.Writing.{code_value, evidence_value, place_value, reason_value, response_members, response_value}
+use Rattle.pint_responses.specs.Writing.{code_value, place_value, reason_value, response_members, response_value}
 use Rattle.pint_responses.specs.declared.response.Response.{Response}
 use Rattle.pint_responses.proofs.Tails.{from_code, from_index, from_last, from_missing, from_reason}
 
@@ -41,9 +41,9 @@ under_bill r =
     found (codes "bill") checksum_value r.bill (from_index r) refl
     (skip (codes "bill") (codes "index") place_value (option_and_then reason_index r.reason) (from_last r) refl
     ∙ skip (codes "bill") (codes "last") checksum_value r.last (from_missing r) refl
-    ∙ skip (codes "bill") (codes "own") evidence_value r.evidence.own (from_reason r) refl
+    ∙ skip (codes "bill") (codes "own") signed_value r.evidence.own (from_reason r) refl
     ∙ skip (codes "bill") (codes "reason") reason_value r.reason (from_code r) refl
-    ∙ skip (codes "bill") (codes "theirs") evidence_value r.evidence.theirs no_members refl)
+    ∙ skip (codes "bill") (codes "theirs") signed_value r.evidence.theirs no_members refl)
 
 under_index : (r : Response)
     → under (codes "index") (response_members r) ≡ option_map place_value (option_and_then reason_index r.reason)
@@ -51,18 +51,18 @@ under_index r =
     skip (codes "index") (codes "bill") checksum_value r.bill (from_index r) refl
     ∙ found (codes "index") place_value (option_and_then reason_index r.reason) (from_last r) refl
     (skip (codes "index") (codes "last") checksum_value r.last (from_missing r) refl
-    ∙ skip (codes "index") (codes "own") evidence_value r.evidence.own (from_reason r) refl
+    ∙ skip (codes "index") (codes "own") signed_value r.evidence.own (from_reason r) refl
     ∙ skip (codes "index") (codes "reason") reason_value r.reason (from_code r) refl
-    ∙ skip (codes "index") (codes "theirs") evidence_value r.evidence.theirs no_members refl)
+    ∙ skip (codes "index") (codes "theirs") signed_value r.evidence.theirs no_members refl)
 
 under_last : (r : Response) → under (codes "last") (response_members r) ≡ option_map checksum_value r.last
 under_last r =
     skip (codes "last") (codes "bill") checksum_value r.bill (from_index r) refl
     ∙ skip (codes "last") (codes "index") place_value (option_and_then reason_index r.reason) (from_last r) refl
     ∙ found (codes "last") checksum_value r.last (from_missing r) refl
-    (skip (codes "last") (codes "own") evidence_value r.evidence.own (from_reason r) refl
+    (skip (codes "last") (codes "own") signed_value r.evidence.own (from_reason r) refl
     ∙ skip (codes "last") (codes "reason") reason_value r.reason (from_code r) refl
-    ∙ skip (codes "last") (codes "theirs") evidence_value r.evidence.theirs no_members refl)
+    ∙ skip (codes "last") (codes "theirs") signed_value r.evidence.theirs no_members refl)
 
 under_missing : (r : Response) → under (codes "missing") (response_members r) ≡ Some (checksums_value r.missing)
 under_missing r =
@@ -70,30 +70,30 @@ under_missing r =
     ∙ skip (codes "missing") (codes "index") place_value (option_and_then reason_index r.reason) (from_last r) refl
     ∙ skip (codes "missing") (codes "last") checksum_value r.last (from_missing r) refl
 
-under_own : (r : Response) → under (codes "own") (response_members r) ≡ option_map evidence_value r.evidence.own
+under_own : (r : Response) → under (codes "own") (response_members r) ≡ option_map signed_value r.evidence.own
 under_own r =
     skip (codes "own") (codes "bill") checksum_value r.bill (from_index r) refl
     ∙ skip (codes "own") (codes "index") place_value (option_and_then reason_index r.reason) (from_last r) refl
     ∙ skip (codes "own") (codes "last") checksum_value r.last (from_missing r) refl
-    ∙ found (codes "own") evidence_value r.evidence.own (from_reason r) refl
+    ∙ found (codes "own") signed_value r.evidence.own (from_reason r) refl
     (skip (codes "own") (codes "reason") reason_value r.reason (from_code r) refl
-    ∙ skip (codes "own") (codes "theirs") evidence_value r.evidence.theirs no_members refl)
+    ∙ skip (codes "own") (codes "theirs") signed_value r.evidence.theirs no_members refl)
 
 under_reason : (r : Response) → under (codes "reason") (response_members r) ≡ option_map reason_value r.reason
 under_reason r =
     skip (codes "reason") (codes "bill") checksum_value r.bill (from_index r) refl
     ∙ skip (codes "reason") (codes "index") place_value (option_and_then reason_index r.reason) (from_last r) refl
     ∙ skip (codes "reason") (codes "last") checksum_value r.last (from_missing r) refl
-    ∙ skip (codes "reason") (codes "own") evidence_value r.evidence.own (from_reason r) refl
+    ∙ skip (codes "reason") (codes "own") signed_value r.evidence.own (from_reason r) refl
     ∙ found (codes "reason") reason_value r.reason (from_code r) refl
-    (skip (codes "reason") (codes "theirs") evidence_value r.evidence.theirs no_members refl)
+    (skip (codes "reason") (codes "theirs") signed_value r.evidence.theirs no_members refl)
 
 under_responseCode : (r : Response) → under (codes "responseCode") (response_members r) ≡ Some (code_value r.code)
 under_responseCode r =
     skip (codes "responseCode") (codes "bill") checksum_value r.bill (from_index r) refl
     ∙ skip (codes "responseCode") (codes "index") place_value (option_and_then reason_index r.reason) (from_last r) refl
     ∙ skip (codes "responseCode") (codes "last") checksum_value r.last (from_missing r) refl
-    ∙ skip (codes "responseCode") (codes "own") evidence_value r.evidence.own (from_reason r) refl
+    ∙ skip (codes "responseCode") (codes "own") signed_value r.evidence.own (from_reason r) refl
     ∙ skip (codes "responseCode") (codes "reason") reason_value r.reason (from_code r) refl
 
 under_standing : (r : Response) → under (codes "standing") (response_members r) ≡ Some (flag r.standing)
@@ -101,18 +101,18 @@ under_standing r =
     skip (codes "standing") (codes "bill") checksum_value r.bill (from_index r) refl
     ∙ skip (codes "standing") (codes "index") place_value (option_and_then reason_index r.reason) (from_last r) refl
     ∙ skip (codes "standing") (codes "last") checksum_value r.last (from_missing r) refl
-    ∙ skip (codes "standing") (codes "own") evidence_value r.evidence.own (from_reason r) refl
+    ∙ skip (codes "standing") (codes "own") signed_value r.evidence.own (from_reason r) refl
     ∙ skip (codes "standing") (codes "reason") reason_value r.reason (from_code r) refl
 
 under_theirs : (r : Response)
-    → under (codes "theirs") (response_members r) ≡ option_map evidence_value r.evidence.theirs
+    → under (codes "theirs") (response_members r) ≡ option_map signed_value r.evidence.theirs
 under_theirs r =
     skip (codes "theirs") (codes "bill") checksum_value r.bill (from_index r) refl
     ∙ skip (codes "theirs") (codes "index") place_value (option_and_then reason_index r.reason) (from_last r) refl
     ∙ skip (codes "theirs") (codes "last") checksum_value r.last (from_missing r) refl
-    ∙ skip (codes "theirs") (codes "own") evidence_value r.evidence.own (from_reason r) refl
+    ∙ skip (codes "theirs") (codes "own") signed_value r.evidence.own (from_reason r) refl
     ∙ skip (codes "theirs") (codes "reason") reason_value r.reason (from_code r) refl
-    ∙ found (codes "theirs") evidence_value r.evidence.theirs no_members refl refl
+    ∙ found (codes "theirs") signed_value r.evidence.theirs no_members refl refl
 
 -- ---- what each of them is read as
 
@@ -184,7 +184,7 @@ index-written v (Some reason) code h is = by_entry (entry_of reason)
         let small : nat_le at.0 63 ≡ true = rw at.1 at is.1 in
         rw (at.2, place-written v at.0 some small, at.3) refl
 
-evidence-written : (name : List ℕ) (v : Value) (o : Option SignedText) → member_of name v ≡ option_map evidence_value o
+evidence-written : (name : List ℕ) (v : Value) (o : Option SignedText) → member_of name v ≡ option_map signed_value o
     → optional_signed name v ≡ Ok o
 evidence-written name v None h = rw h refl
 evidence-written name v (Some text) h = rw h refl

@@ -2,7 +2,7 @@
 use Rattle.std.specs.Prelude.{◌≡◌, ℕ, ◌-◌, List, Option, Some, None, Result, Ok, Err, codes, option_and_then, option_map, is_some, if◌then◌else◌}
 use Rattle.canonical_json.specs.Value.{Value}
 use Rattle.canonical_json.specs.Field.{as_text, flag_of, list_of, member_of, text_of}
-use Rattle.json_forms.specs.Reading.{all_of, checksum_in, optional, optional_checksum, required, required_number, then_read, unless_malformed}
+use Rattle.json_forms.specs.Reading.{all_of, checksum_in, optional, optional_checksum, required, required_number, then_read, unless_malformed, signed_in}
 use Rattle.json_forms.specs.declared.reading.Malformed.{Malformed}
 use Rattle.ebl_base.specs.Code.{response_code_of}
 use Rattle.ebl_base.specs.Reason.{reason_at, reason_index, reason_of}
@@ -58,10 +58,6 @@ reason_under code v =
 -- the checksums under `missing`
 abbrev pub required_missing : Value → Option (List Checksum)
 required_missing v = option_and_then (all_of checksum_in) (list_of (codes "missing") v)
-
--- a text, as one that may be signed
-abbrev pub signed_in : Value → Option SignedText
-signed_in v = option_map (λ t. record { 0 = t }) (as_text v)
 
 -- the text under a name, if there is one
 abbrev pub optional_signed : List ℕ → Value → Result (Option SignedText) Malformed

@@ -3,9 +3,9 @@ ghost use Rattle.std.specs.Prelude.{◌≡◌, All, IfOk, OnOk, codes, map, opti
 ghost use Rattle.canonical_json.specs.Value.{Members, flag as flag_value, member, text};
 ghost use Rattle.canonical_json.specs.View.{member_view, view};
 ghost use Rattle.ebl_base.specs.Reason.{reason_index};
-ghost use Rattle.json_forms.specs.Writing.{HasDigits, checksum_value, checksums_value, optional_member};
+ghost use Rattle.json_forms.specs.Writing.{HasDigits, checksum_value, checksums_value, optional_member, signed_value};
 ghost use Rattle.pint_responses.specs.Response.{HasOptionalDigits, HaveDigits, IsEvidence, IsOptionalEvidence};
-ghost use Rattle.pint_responses.specs.Writing.{code_value, evidence_value, in_front, place_value, reason_value, response_value};
+ghost use Rattle.pint_responses.specs.Writing.{code_value, in_front, place_value, reason_value, response_value};
 
 use crate::response::Response;
 use canonical_json::{Json, Member};
@@ -48,11 +48,11 @@ fn push_verdict(alloc: Global, members: &mut Vec<Member>, r: &Response) -> Resul
     requires theirs { IsOptionalEvidence r.now.evidence.theirs }
     ensures { OnOk result ((rest : Members) → in_front (map member_view members.new.items) rest
         ≡ in_front (map member_view members.old.items)
-        (optional_member (codes "own") evidence_value r.now.evidence.own
+        (optional_member (codes "own") signed_value r.now.evidence.own
         (optional_member (codes "reason") reason_value r.now.reason
         (member (codes "responseCode") (code_value r.now.code)
         (member (codes "standing") (flag_value r.now.standing)
-        (optional_member (codes "theirs") evidence_value r.now.evidence.theirs rest)))))) }
+        (optional_member (codes "theirs") signed_value r.now.evidence.theirs rest)))))) }
 {
     push_optional_evidence(alloc, members, "own", &r.evidence.own)?;
     push_optional_reason(alloc, members, r.reason)?;
@@ -166,7 +166,7 @@ fn push_optional_evidence(
 ) -> Result<(), NoMemory>
     requires { IsOptionalEvidence evidence.now }
     ensures { OnOk result ((rest : Members) → in_front (map member_view members.new.items) rest
-        ≡ in_front (map member_view members.old.items) (optional_member name.now evidence_value evidence.now rest)) }
+        ≡ in_front (map member_view members.old.items) (optional_member name.now signed_value evidence.now rest)) }
 {
     match evidence {
         Some(evidence) => push_text(alloc, members, name, evidence_str(evidence)),

@@ -15,12 +15,12 @@ use Rattle.ebl_base.specs.declared.signed_text.SignedText.{SignedText}
 use Rattle.json.specs.Print.{quoted, escape_byte}
 use Rattle.canonical_json.specs.Canon.{canon, comma_if, members_text, values_text}
 use Rattle.canonical_json.specs.Value.{list, no_members, member}
-use Rattle.json_forms.specs.Writing.{each_written}
+use Rattle.json_forms.specs.Writing.{each_written, signed_value}
 use Rattle.json_forms.proofs.LengthLemmas.{member_length, unescaped_length}
 use Rattle.signed_envelope.specs.Compact.{IsCompact}
 use Rattle.signed_envelope.specs.declared.compact.Parts.{Parts}
 use Rattle.signed_envelope.proofs.CompactLemmas.{compact_is_plain}
-use Rattle.envelope_manifest.specs.Body.{BodyRecord, body_value, signed_value}
+use Rattle.envelope_manifest.specs.Body.{BodyRecord, body_value}
 use Rattle.envelope_manifest.specs.Manifest.{ArePieces, IsManifest}
 use Rattle.envelope_manifest.specs.declared.manifest.Manifest.{Manifest}
 use Rattle.envelope_manifest.specs.declared.piece.Piece.{Piece}

@@ -20,11 +20,12 @@ use Rattle.canonical_json.specs.declared.fault.ReadError.TheVariants.{Repeated, 
 use Rattle.canonical_json.proofs.Parts.{is_lawful-member_of}
 use Rattle.canonical_json.proofs.Readings.{is_lawful-value_of, canon_reads, canon_same}
 use Rattle.json_forms.proofs.ReadForms.{required-parts}
+use Rattle.json_forms.specs.Reading.{signed_in}
 use Rattle.signed_envelope.proofs.CompactLemmas.{compact_is_utf8}
 use Rattle.transport_document.specs.DocumentRecord.{DocumentRecord}
 use Rattle.transport_document.specs.Reading.{document_of}
 use Rattle.transport_document.proofs.DocumentLemmas.{text-document_of}
-use Rattle.envelope_manifest.specs.Body.{BodyRecord, AreUtf8, IsBody, ReadsAs, all_signed_in, body_of, body_value, body_of_reading, object_in, signed_in}
+use Rattle.envelope_manifest.specs.Body.{BodyRecord, AreUtf8, IsBody, ReadsAs, all_signed_in, body_of, body_value, body_of_reading, object_in}
 use Rattle.envelope_manifest.specs.declared.fault.BodyField.{BodyField}
 use Rattle.envelope_manifest.specs.declared.fault.BodyField.TheVariants as fields
 use Rattle.envelope_manifest.specs.declared.manifest.Manifest.{Manifest}

@@ -1,9 +1,8 @@
 use Rattle.std.proofs.Common.{◌≡◌, length}
 use Rattle.std.specs.Vec.Iter.{into_iter_items, into_iter_len}
 use Rattle.canonical_json.specs.View.{items_view}
-use Rattle.json_forms.specs.Reading.{all_of}
+use Rattle.json_forms.specs.Reading.{all_of, signed_in}
 use Rattle.json_forms.proofs.ListLemmas.{gathered}
-use Rattle.envelope_manifest.specs.Body.{signed_in}
 use Rattle.envelope_manifest.proofs.body_reading.all_signed_in.Given as goal
 
 abbrev pub invariant-loop-item : goal.invariant-loop-item

@@ -1,7 +1,6 @@
 use Rattle.std.proofs.Common.{◌≡◌, ◌++◌, false, drop}
 use Rattle.canonical_json.specs.Canon.{values_text}
-use Rattle.json_forms.specs.Writing.{each_written}
-use Rattle.envelope_manifest.specs.Body.{signed_value}
+use Rattle.json_forms.specs.Writing.{each_written, signed_value}
 use Rattle.envelope_manifest.proofs.body_writing.push_texts.Given as goal
 
 abbrev pub invariant-loop-text : goal.invariant-loop-text

@@ -1,8 +1,8 @@
 use Rattle.std.proofs.Common.{◌++◌, false, codes, sym, ap, ◌∙◌}
 use Rattle.canonical_json.specs.Canon.{canon, values_text}
 use Rattle.canonical_json.specs.View.{view}
-use Rattle.json_forms.specs.Writing.{each_written}
-use Rattle.envelope_manifest.specs.Body.{body_view, signed_value}
+use Rattle.json_forms.specs.Writing.{each_written, signed_value}
+use Rattle.envelope_manifest.specs.Body.{body_view}
 use Rattle.envelope_manifest.proofs.BodyLemmas.{canon-body_value, joined, put_same}
 use Rattle.envelope_manifest.proofs.body.Body.write_around.Goals as goal
 
