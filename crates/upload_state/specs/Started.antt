@@ -28,7 +28,7 @@ started_of v =
     started_with (option_and_then reference_in (text_of (codes "reference") v))
     (option_and_then (all_of checksum_in) (required_items (codes "missing") 1 MAX_DOCUMENTS v))
 
--- the bytes are a text of JSON with whole numbers, and its value is the answer
+-- the bytes are a text of JSON, and its value is the answer
 abbrev pub ReadsAs : List ℕ → Started → Type 0
 ReadsAs bytes started = (v : Value) × Reads bytes v × (started_of v ≡ Some started)
 

@@ -16,4 +16,4 @@ pub use piece::{fits, missing};
 pub use reading::started_read;
 pub use reference::{reference_from, reference_of, reference_text};
 pub use started::{Started, StartedFault};
-pub use writing::started_write;
+pub use writing::{reference_member, started_write};

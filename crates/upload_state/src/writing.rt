@@ -47,7 +47,8 @@ fn missing_member(alloc: Global, missing: &[Checksum]) -> Result<Member, NoMemor
     member(alloc, "missing", missing)
 }
 
-fn reference_member(alloc: Global, reference: Reference) -> Result<Member, NoMemory>
+/// A reference as the member `reference` of an object: its text, lower case with hyphens (RFC 9562, section 4).
+pub fn reference_member(alloc: Global, reference: Reference) -> Result<Member, NoMemory>
     ensures { IfOk result (λ m. member_view m ≡ (codes "reference", text (reference_text reference))) }
 {
     let mut buffer = Uuid::encode_buffer();
