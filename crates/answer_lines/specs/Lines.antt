@@ -21,14 +21,13 @@ use Rattle.canonical_json.specs.Value.{Value, flag, text, list, object, member}
 use Rattle.canonical_json.specs.Canon.{canon}
 use Rattle.canonical_json.specs.View.{Entry, members_of}
 use Rattle.json_forms.specs.Bytes.{bytes_value}
-use Rattle.json_forms.specs.Writing.{capped_value, checksum_value, checksums_value, party_value, platform_value, each_written}
-use Rattle.ebl_base.specs.Reason.{reason_index, reason_text}
+use Rattle.json_forms.specs.Writing.{capped_value, checksum_value, checksums_value, party_value, platform_value, each_written, signed_value}
+use Rattle.ebl_base.specs.Reason.{reason_index}
 use Rattle.ebl_base.specs.declared.checksum.Checksum.{Checksum}
 use Rattle.ebl_base.specs.declared.code.Code.{Code}
 use Rattle.ebl_base.specs.declared.code.Code.TheVariants.{MissingDocuments}
-use Rattle.ebl_base.specs.declared.reason.Reason.{Reason}
-use Rattle.ebl_base.specs.declared.signed_text.SignedText.{SignedText}
 use Rattle.pint_responses.specs.Response.{IsOptionalEvidence}
+use Rattle.pint_responses.specs.Writing.{reason_value}
 use Rattle.title_fold.specs.Refusal.{refusal_text}
 use Rattle.transport_document.specs.declared.fault.DocumentFault.{DocumentFault}
 use Rattle.transport_document.specs.declared.fault.DocumentFault.TheVariants as documents
@@ -57,13 +56,6 @@ view_value number v =
     (member (codes "entries") (capped_value v.entries)
     (with_holder v.title
     (member (codes "place") (text (place_text v.place)) (possession v.title)))))
-
-abbrev pub reason_value : Reason → Value
-reason_value reason = text (reason_text reason)
-
--- a signed text is a text
-abbrev pub signed_value : SignedText → Value
-signed_value signed = text signed.0
 
 -- a member, if there is one
 abbrev pub optional : {T : Type 0} → List ℕ → (T → Value) → Option T → List Entry

@@ -1,13 +1,13 @@
 //! The line that answers an event.
 ghost use Rattle.std.specs.Prelude.{◌≡◌, ◌∷◌, ◌++◌, [], Some, codes, map, option_and_then, IfOk, OnOk};
-ghost use Rattle.canonical_json.specs.Value.{list, text};
-ghost use Rattle.canonical_json.specs.View.{member_view, view};
-ghost use Rattle.json_forms.specs.Writing.{capped_value, each_written, platform_value};
+ghost use Rattle.canonical_json.specs.Value.{list};
+ghost use Rattle.canonical_json.specs.View.{view};
+ghost use Rattle.json_forms.specs.Writing.{capped_value, each_written, platform_value, signed_value};
 ghost use Rattle.ebl_base.specs.Reason.{reason_index};
 ghost use Rattle.pint_responses.specs.Response.{IsEvidence, IsOptionalEvidence};
+ghost use Rattle.pint_responses.specs.Writing.{reason_value};
 ghost use Rattle.platform_requests.specs.declared.reply.Reply.TheVariants as replies;
-ghost use Rattle.upload_state.specs.Reference.{reference_text};
-ghost use Rattle.answer_lines.specs.Lines.{IsWritable, answer_line, answer_members, back_of, fault_members, front_of, middle_of, missing_by, optional, reason_value, reply_back, reply_front, reply_middle, signed_value};
+ghost use Rattle.answer_lines.specs.Lines.{IsWritable, answer_line, answer_members, back_of, fault_members, front_of, middle_of, missing_by, optional, reply_back, reply_front, reply_middle};
 ghost use Rattle.answer_lines.specs.Row.{row_entries};
 ghost use Rattle.answer_lines.specs.declared.answer.Answer.TheVariants.{Replied, Shown};
 
@@ -15,15 +15,15 @@ use crate::answer::Answer;
 use crate::parcel::Parcel;
 use crate::row::Row;
 use crate::views::view_json;
-use canonical_json::{Json, Member};
+use canonical_json::Json;
 use ebl_base::{ByteList, Checksum, Code, NoMemory, Reason, Reference, SignedText};
-use json_forms::{list_json, number_json, text_member};
+use json_forms::{list_json, number_json};
 use pint_responses::Response;
 use platform_requests::Reply;
 use reply_forms::{field_name, limit_text, place_text};
 use std::alloc::Global;
 use transport_document::DocumentFault;
-use uuid::Uuid;
+use upload_state::reference_member;
 
 /// The line that answers the event of this number, when the messages of these numbers were sent. `number` is that of
 /// the bill that the answer shows, if the script signed it.
@@ -123,16 +123,6 @@ fn put_started(
 {
     row.put_checksums(alloc, "missing", missing)?;
     row.put_member(reference_member(alloc, reference)?)
-}
-
-fn reference_member(alloc: Global, reference: Reference) -> Result<Member, NoMemory>
-    ensures { IfOk result (λ m. member_view m ≡ (codes "reference", text (reference_text reference))) }
-{
-    let mut buffer = Uuid::encode_buffer();
-    let chars = Uuid::from_bytes(reference.0)
-        .hyphenated()
-        .encode_lower(&mut buffer);
-    text_member(alloc, "reference", chars)
 }
 
 fn put_answer(alloc: Global, row: &mut Row, r: &Response) -> Result<(), NoMemory>

@@ -4,7 +4,7 @@ ghost use Rattle.canonical_json.specs.Value.{object, text};
 ghost use Rattle.canonical_json.specs.View.{member_view, members_view, view};
 ghost use Rattle.json_forms.specs.Writing.{capped_value, party_value, platform_value};
 ghost use Rattle.world_script.specs.Event.{deed_view, event_view, foreign_view, acts, asks, attaches, delivers, finishes, puts, resends, signs, starts};
-ghost use Rattle.world_script.specs.Writing.{bill_value, command_value, event_value, foreign_value, moment_value, reference_value, reply_value};
+ghost use Rattle.world_script.specs.Writing.{bill_value, command_value, event_value, foreign_value, moment_value, reply_value};
 
 use crate::deed::{BillName, Deed};
 use crate::event::Event;
@@ -17,7 +17,7 @@ use json_forms::{
     bytes_member, checksum_member, member, number_member, object_json, party_member, text_member,
 };
 use std::alloc::Global;
-use uuid::Uuid;
+use upload_state::reference_member;
 
 impl Event {
     /// The written form of the event, an object as [`Event::read`] takes it, with `now` in every command and a bill's
@@ -367,14 +367,4 @@ fn bill_member(alloc: Global, bill: BillName) -> Result<Member, NoMemory>
         BillName::Name(name) => checksum_member(alloc, "bill", name),
         BillName::Number(number) => number_member(alloc, "bill", number),
     }
-}
-
-fn reference_member(alloc: Global, reference: Reference) -> Result<Member, NoMemory>
-    ensures { IfOk result (λ m. member_view m ≡ (codes "reference", reference_value reference)) }
-{
-    let mut buffer = Uuid::encode_buffer();
-    let chars = Uuid::from_bytes(reference.0)
-        .hyphenated()
-        .encode_lower(&mut buffer);
-    text_member(alloc, "reference", chars)
 }
