@@ -9,8 +9,8 @@ use std::sync::Arc;
 
 /// A list inside a public type that may have several owners, in any threads. Contracts see the list of its items.
 ///
-/// It never changes. A copy is one owner more: it costs the same whatever the list's length, and takes no memory. It
-/// answers NoMemory only where the count of owners is full. The empty list has no owner to count.
+/// It never changes. A copy is one owner more: it costs the same whatever the list's length, and takes no memory. The
+/// empty list has no owner to count.
 #[derive(Debug, Drop)]
 pub struct SharedItems<T> {
     items: Option<Arc<Items<T>>>,

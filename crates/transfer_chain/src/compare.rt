@@ -18,9 +18,8 @@ pub enum Meeting {
     Parts(usize),
 }
 
-/// How two chains meet, by the names of their entries. It allocates nothing, and looks at no entry behind the first
-/// that
-/// differ.
+/// How two chains meet, by the names of their entries. It allocates nothing, and looks at no entry behind the first two
+/// that differ.
 pub fn meet(a: &Chain, b: &Chain) -> Meeting
     ensures { Meet (names_of a.now) (names_of b.now) result }
 {

@@ -34,7 +34,7 @@ abbrev pub Nests : CommandRecord → Type 0
 Nests (signs document) = depth document ≤ 126
 Nests command = Unit {0}
 
--- a well-formed command by a well-formed party at a moment
+-- a well-formed command, whose document nests at most 126 deep, by a well-formed party at a well-formed moment
 pub record IsHandedIn (party : Party) (command : CommandRecord) (now : Moment) : Type 0 where
   pub by : IsParty party
   pub form : IsCommand command
