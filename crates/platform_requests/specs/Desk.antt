@@ -27,7 +27,8 @@ IsFlatEnough (signs document) = depth document ≤ 126
 IsFlatEnough (acts bill kind recipient) = Unit {0}
 IsFlatEnough (attaches bill name media bytes) = Unit {0}
 
--- a command has its form; every other request may hold any bytes
+-- a command has its form, and the document that it signs nests at most 126 deep; every other request may hold any
+-- bytes
 abbrev pub MayAsk : RequestRecord → Type 0
 MayAsk (commands party command) = IsCommand command × IsFlatEnough command
 MayAsk (starts body) = Unit {0}

@@ -1,4 +1,4 @@
-//! What answers requests, as a trait: one shard, an office of many, or a list in memory.
+//! What answers requests, as a trait.
 ghost use Rattle.std.specs.Prelude.{◌≡◌, ◌++◌, ◌∷◌, [], List, Bool};
 ghost use Rattle.ebl_base.specs.declared.party.Party.{Party};
 ghost use Rattle.platform_requests.specs.Desk.{Call, MayAsk, MayGive, NamesMissing};

@@ -42,7 +42,7 @@ pub enum Reply {
     KnownBill,
     /// The bill isn't held here: this is where it is.
     NotHere(PlaceTag),
-    /// This party, to which possession would go, is unknown.
+    /// This party, to which possession or title would go, is none to which the roster lets it go.
     NoParty(Party),
     /// This rule of titles refuses the transaction.
     NotAllowed(FoldRefusal),
@@ -52,15 +52,15 @@ pub enum Reply {
     Ignored(IgnoreReason),
     /// No transfer of the bill is under way from here: this is where it is.
     NotParting(PlaceTag),
-    /// The ring of keys failed to sign. Nothing changed.
+    /// The ring of keys failed to sign. Nothing of the request is kept.
     Sign,
-    /// The journal has no room for the frame. Nothing changed.
+    /// The journal has no room for the frame. Nothing of the request is kept.
     Full,
     /// The disk failed. The frame may be found there later.
     Disk,
     /// What the disk gave at this place is no frame that may be there.
     Damaged(u64),
-    /// Memory ran out. Nothing changed.
+    /// Memory ran out. Nothing of the request is kept.
     NoMemory,
 }
 

@@ -10,7 +10,7 @@ use crate::reply::Reply;
 use crate::request::Request;
 use ebl_base::MAX_DOCUMENTS;
 
-/// Whether every desk may give this outcome for this request.
+/// If true, every desk may give this outcome for this request.
 pub fn suits(request: &Request, outcome: &Outcome) -> bool
     ensures messages { IsTrue result → MayGive (request_view request.now) outcome.now.messages }
     ensures missing { IsTrue result → NamesMissing outcome.now.reply }
