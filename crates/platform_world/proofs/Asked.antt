@@ -3,6 +3,7 @@ use Rattle.std.proofs.Common.{ℕ, ◌≡◌, ◌⊎◌, inl, inr, ◌≤◌, Bo
 use Rattle.std.specs.Prelude.{IfOk, OnErr, OnOk}
 use Rattle.std.specs.Option.{option_to_list}
 use Rattle.std.proofs.lemmas.List.{append-nil, length-append}
+use mathlib.Core.List.{IsPrefix}
 use Rattle.ebl_base.specs.declared.checksum.Checksum.{Checksum}
 use Rattle.ebl_base.specs.declared.moment.Moment.{Moment}
 use Rattle.ebl_base.specs.declared.platform_code.PlatformCode.{PlatformCode}
@@ -146,6 +147,36 @@ followed_to {M = M} {R = R} seen w between after a out path signing is_path is_s
       signed = after.signed;
     }) (sym same_roster ∙ ap (λ (ps : PlatformsRecord M R). ps.roster) (sym same_platforms))
 
+-- ---- what was sent and signed before
+
+-- it stands in front where nothing is new, and where something is added
+same_front : {A : Type 0} (xs ys : List A) → ys ≡ xs → IsPrefix xs ys
+same_front xs ys same = ([], append-nil xs ∙ sym same)
+
+more_front : {A : Type 0} (xs ys more : List A) → ys ≡ xs ++ more → IsPrefix xs ys
+more_front xs ys more is = (more, sym is)
+
+-- and so it does behind whatever happened
+sent_stands : (w : WorldRecord) (h : Happening) (fate : Fate) (answer : Answer) (to : WorldRecord)
+    → Happens w h fate answer to → IsPrefix w.sent to.sent
+sent_stands w (happening.answers said) fate answer to (whole, said_is, same) =
+    same_front w.sent to.sent (ap (λ (v : WorldRecord). v.sent) same)
+sent_stands w (happening.asks a) fate answer to takes =
+    more_front w.sent to.sent (parcels_of a takes.out.reply takes.out.messages)
+    (ap (λ (v : WorldRecord). v.sent) takes.after_is)
+sent_stands w (happening.starts_again at) fate answer to again =
+    same_front w.sent to.sent (ap (λ (v : WorldRecord). v.sent) again.after_is)
+
+signed_stands : (w : WorldRecord) (h : Happening) (fate : Fate) (answer : Answer) (to : WorldRecord)
+    → Happens w h fate answer to → IsPrefix w.signed to.signed
+signed_stands w (happening.answers said) fate answer to (whole, said_is, same) =
+    same_front w.signed to.signed (ap (λ (v : WorldRecord). v.signed) same)
+signed_stands w (happening.asks a) fate answer to takes =
+    more_front w.signed to.signed (bills_signed a.request takes.out.reply)
+    (ap (λ (v : WorldRecord). v.signed) takes.after_is)
+signed_stands w (happening.starts_again at) fate answer to again =
+    same_front w.signed to.signed (ap (λ (v : WorldRecord). v.signed) again.after_is)
+
 -- ---- a request as a whole
 
 longer : (xs ys zs : List Parcel) → zs ≡ xs ++ ys → length xs ≤ length zs
@@ -188,8 +219,31 @@ module _ {M R : Type 0} (seen : M → MachineRecord) (faults : Counts M) (w betw
   same_shards : between.platforms.shards ≡ after.platforms.shards
   same_shards = ap (λ (ps : PlatformsRecord M R). ps.shards) (sym same_platforms)
 
-  cut_so : after.fates ≡ w.fates ++ fate ∷ [] → IsCut seen faults w (happening.asks a) after
-  cut_so fates = record {
+  disks_asked : EachRose faults.disk (times_at w.platforms.roster.platforms (disk_failed_at (happening.asks a) fate.end))
+      w.platforms.shards after.platforms.shards
+  disks_asked =
+      subst
+      (EachRose faults.disk (times_at w.platforms.roster.platforms (disk_failed_at (happening.asks a) fate.end))
+      w.platforms.shards) same_shards
+      (rose_as faults.disk (times_if (disk_times fate.end)
+      (index_of a.at (shard_of a.request) w.platforms.roster.platforms))
+      (times_at w.platforms.roster.platforms (disk_failed_at (happening.asks a) fate.end)) w.platforms.shards
+      between.platforms.shards (asked_disk w.platforms.roster.platforms a fate.end) disks)
+
+  rings_asked : EachRose faults.ring (times_at w.platforms.roster.platforms (ring_failed_at (happening.asks a) fate.end))
+      w.platforms.shards after.platforms.shards
+  rings_asked =
+      subst
+      (EachRose faults.ring (times_at w.platforms.roster.platforms (ring_failed_at (happening.asks a) fate.end))
+      w.platforms.shards) same_shards
+      (rose_as faults.ring (times_if (ring_times fate.end)
+      (index_of a.at (shard_of a.request) w.platforms.roster.platforms))
+      (times_at w.platforms.roster.platforms (ring_failed_at (happening.asks a) fate.end)) w.platforms.shards
+      between.platforms.shards (asked_ring w.platforms.roster.platforms a fate.end) rings)
+
+  cut_so : between.sent ≡ w.sent → between.signed ≡ w.signed → after.fates ≡ w.fates ++ fate ∷ []
+      → IsPrefix between.sent after.sent → after.signed ≡ between.signed → IsCut seen faults w (happening.asks a) after
+  cut_so same_sent same_signed fates stands same_bills = record {
     more = fate ∷ [];
     fates_are = fates;
     left = (
@@ -200,14 +254,12 @@ module _ {M R : Type 0} (seen : M → MachineRecord) (faults : Counts M) (w betw
           (world_with (world_of seen w) a (world_of seen between).platforms out.reply out.messages) refl refl,
       ap (λ (ps : PlatformsRecord M R). states_of seen ps) same_platforms,
     );
-    disks = subst (EachRose faults.disk (λ (k : ℕ). 0) w.platforms.shards) same_shards
-        (rose_later faults.disk (times_if (disk_times fate.end)
-        (index_of a.at (shard_of a.request) w.platforms.roster.platforms)) w.platforms.shards between.platforms.shards
-        disks);
-    rings = subst (EachRose faults.ring (λ (k : ℕ). 0) w.platforms.shards) same_shards
-        (rose_later faults.ring (times_if (ring_times fate.end)
-        (index_of a.at (shard_of a.request) w.platforms.roster.platforms)) w.platforms.shards between.platforms.shards
-        rings);
+    sent = subst (λ (xs : List Parcel). IsPrefix xs after.sent) same_sent stands;
+    signed = same_front w.signed after.signed (same_bills ∙ same_signed);
+    disks = rose_later faults.disk (times_at w.platforms.roster.platforms (disk_failed_at (happening.asks a) fate.end))
+        w.platforms.shards after.platforms.shards disks_asked;
+    rings = rose_later faults.ring (times_at w.platforms.roster.platforms (ring_failed_at (happening.asks a) fate.end))
+        w.platforms.shards after.platforms.shards rings_asked;
   }
 
   fate_so : (answer : Answer) → answer ≡ Replied out.reply
@@ -215,20 +267,8 @@ module _ {M R : Type 0} (seen : M → MachineRecord) (faults : Counts M) (w betw
       → HasFate seen faults w (happening.asks a) fate answer after
   fate_so answer said world_is = record {
     happens = happened_to answer (world_of seen after) said world_is;
-    disks = subst
-        (EachRose faults.disk (times_at w.platforms.roster.platforms (disk_failed_at (happening.asks a) fate.end))
-        w.platforms.shards) same_shards
-        (rose_as faults.disk (times_if (disk_times fate.end)
-        (index_of a.at (shard_of a.request) w.platforms.roster.platforms))
-        (times_at w.platforms.roster.platforms (disk_failed_at (happening.asks a) fate.end)) w.platforms.shards
-        between.platforms.shards (asked_disk w.platforms.roster.platforms a fate.end) disks);
-    rings = subst
-        (EachRose faults.ring (times_at w.platforms.roster.platforms (ring_failed_at (happening.asks a) fate.end))
-        w.platforms.shards) same_shards
-        (rose_as faults.ring (times_if (ring_times fate.end)
-        (index_of a.at (shard_of a.request) w.platforms.roster.platforms))
-        (times_at w.platforms.roster.platforms (ring_failed_at (happening.asks a) fate.end)) w.platforms.shards
-        between.platforms.shards (asked_ring w.platforms.roster.platforms a fate.end) rings);
+    disks = disks_asked;
+    rings = rings_asked;
   }
 
   pub asked_so : {E : Type 0} (path : ReplyPath) (signing : Bool) (result : Result Answer E)
@@ -239,8 +279,11 @@ module _ {M R : Type 0} (seen : M → MachineRecord) (faults : Counts M) (w betw
       → after.fates ≡ w.fates ++ fate ∷ []
       → IfOk result (λ answer. answer ≡ Replied out.reply)
       → OnOk result (IsFollowed between path signing out after)
+      → OnErr result (IsPrefix between.sent after.sent)
+      → OnErr result (after.signed ≡ between.signed)
       → Asked seen faults w after a result
-  asked_so path signing (Ok answer) is_path is_signing same_sent same_signed writable same_roster fates said follows =
+  asked_so path signing (Ok answer) is_path is_signing same_sent same_signed writable same_roster fates said follows
+      stands same_bills =
       let world_is = followed_to seen w between after a out path signing is_path is_signing same_sent same_signed
       same_roster same_platforms follows in
       record {
@@ -257,8 +300,13 @@ module _ {M R : Type 0} (seen : M → MachineRecord) (faults : Counts M) (w betw
             (follows.sent ∙ ap (λ (xs : List Parcel).
             xs ++ sends path.from path.sender path.kind path.brought out.reply out.messages) same_sent);
       }
-  asked_so path signing (Err e) is_path is_signing same_sent same_signed writable same_roster fates said follows =
-      record { ok = tt; short = cut_so fates; writable = tt; grown = tt }
+  asked_so path signing (Err e) is_path is_signing same_sent same_signed writable same_roster fates said follows stands
+      same_bills = record {
+        ok = tt;
+        short = cut_so same_sent same_signed fates stands same_bills;
+        writable = tt;
+        grown = tt;
+      }
 
 -- ---- where nothing was asked
 
@@ -269,6 +317,8 @@ cut_before seen faults w h = record {
   more = [];
   fates_are = sym (append-nil w.fates);
   left = refl;
+  sent = same_front w.sent w.sent refl;
+  signed = same_front w.signed w.signed refl;
   disks = none_rose faults.disk w.platforms.shards;
   rings = none_rose faults.ring w.platforms.shards;
 }
@@ -280,6 +330,8 @@ cut_behind seen faults w h answer after so = record {
   more = so.fate ∷ [];
   fates_are = so.fates_are;
   left = (refl, answer, world_of seen after, so.has_fate.happens, refl);
+  sent = sent_stands (world_of seen w) h so.fate answer (world_of seen after) so.has_fate.happens;
+  signed = signed_stands (world_of seen w) h so.fate answer (world_of seen after) so.has_fate.happens;
   disks = rose_later faults.disk (times_at w.platforms.roster.platforms (disk_failed_at h so.fate.end))
       w.platforms.shards after.platforms.shards so.has_fate.disks;
   rings = rose_later faults.ring (times_at w.platforms.roster.platforms (ring_failed_at h so.fate.end))
@@ -359,6 +411,8 @@ module _ {M R : Type 0} (seen : M → MachineRecord) (faults : Counts M) (w afte
     more = fate ∷ [];
     fates_are = fates;
     left = (refl, start_answer fate.end, world_of seen after, started, refl);
+    sent = same_front w.sent after.sent same_sent;
+    signed = same_front w.signed after.signed same_signed;
     disks = rose_later faults.disk (failures_at w.platforms.roster.platforms p fate.end) w.platforms.shards
         after.platforms.shards disks;
     rings = rings;

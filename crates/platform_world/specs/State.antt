@@ -1,6 +1,7 @@
 -- The world as its code keeps it.
 use Rattle.std.specs.Prelude.{◌≡◌, ◌≢◌, ◌≤◌, ◌+◌, ℕ, Bool, true, false, List, [], ◌∷◌, ◌++◌, All, length, Option, Some, None, IfSome}
 use Rattle.std.specs.Option.{option_to_list}
+use mathlib.Core.List.{IsPrefix}
 use Rattle.ebl_base.specs.declared.checksum.Checksum.{Checksum}
 use Rattle.ebl_base.specs.declared.moment.Moment.{Moment}
 use Rattle.ebl_base.specs.declared.platform_code.PlatformCode.{PlatformCode}
@@ -119,12 +120,15 @@ abbrev pub IsStepped : {M R : Type 0} → (M → MachineRecord) → Counts M →
 IsStepped seen faults before event answer after =
     HasHappened seen faults before (comes_to before.signed before.sent event) answer after
 
--- memory ran out: the fate of what happens is kept, if it has one already; no count fell
+-- memory ran out: the fate of what happens is kept, if it has one already; what was sent and signed before stands, in
+-- front of what is new; no count fell
 pub record IsCut {M R : Type 0} (seen : M → MachineRecord) (faults : Counts M) (before : WorldState M R)
     (happening : Happening) (after : WorldState M R) : Type 0 where
   pub more : List Fate
   pub fates_are : after.fates ≡ before.fates ++ more
   pub left : IsCutShort (world_of seen before) happening more (world_of seen after).platforms
+  pub sent : IsPrefix before.sent after.sent
+  pub signed : IsPrefix before.signed after.signed
   pub disks : EachRose faults.disk (λ k. 0) before.platforms.shards after.platforms.shards
   pub rings : EachRose faults.ring (λ k. 0) before.platforms.shards after.platforms.shards
 

@@ -4,6 +4,7 @@
 //! (1) Each shard has at most as many frames as there are fates, its loose frame included; what was sent is between
 //!     platforms of the roster, and the bills that were signed are well-formed. So whatever a line asks may be asked.
 ghost use Rattle.std.specs.Prelude.{◌≡◌, ◌≤◌, ◌+◌, ◌++◌, ◌<◌, [], true, IfOk, OnErr, OnOk, length, map, reverse};
+ghost use mathlib.Core.List.{IsPrefix};
 ghost use Rattle.world_script.specs.Event.{event_view};
 ghost use Rattle.world_script.specs.Form.{IsEvent};
 ghost use Rattle.party_roster.specs.RosterRecord.{has_platform};
@@ -170,18 +171,12 @@ impl<M: Machine> World<M> {
         bill_standing(alloc, bill, diaries.as_slice())
     }
 
-    /// How many events have a fate.
-    pub fn event_count(&self) -> usize
-        ensures { result ≡ length self.now.fates }
-    {
-        self.fates.len()
-    }
-
-    /// Takes an event of a line (`event_in`), and answers it by its line. The world keeps its fate.
+    /// Takes an event of a line (`event_in`), and answers it by its line. The world keeps its fate. Its condition,
+    /// beside what `event_in` promises of an event, is that fewer than 4,294,967,295 events have a fate.
     ///
     /// `DISK` and `SIGN` come only where a disk and a ring failed: its count of faults rose. Out of memory, the event
-    /// has a fate or none, and the platforms are those before it, or those after the whole of it by that fate; what it
-    /// sends and signs may be missing then.
+    /// has a fate or none, and the platforms are those before it, or those after the whole of it by that fate. What was
+    /// sent and signed before stands; what it sends and signs itself may be missing then.
     pub fn step(&mut self, alloc: Global, event: Event) -> Result<ByteList, NoMemory>
         requires form { IsEvent (event_view event) }
         requires nests { IsNested (event_view event) }
@@ -205,7 +200,8 @@ impl<M: Machine> World<M> {
         )
     }
 
-    /// Takes an event, as `step` does, and gives its answer. No line is written.
+    /// Takes an event, as `step` does and under the same condition, and gives its answer. No line is written. Out of
+    /// memory, the bills that were signed are as before.
     pub fn take(&mut self, alloc: Global, event: Event) -> Result<Answer, NoMemory>
         requires form { IsEvent (event_view event) }
         requires nests { IsNested (event_view event) }
@@ -214,6 +210,7 @@ impl<M: Machine> World<M> {
         ensures ok { IfOk result (λ answer. IsStepped M.seen M.faults self.old (event_view event) answer self.new) }
         ensures short { OnErr result (IsCut M.seen M.faults self.old
             (comes_to self.old.signed self.old.sent (event_view event)) self.new) }
+        ensures signed { OnErr result (self.new.signed ≡ self.old.signed) }
         ensures writable { IfOk result IsWritable }
         ensures grown { IfOk result (λ _. length self.old.sent ≤ length self.new.sent) }
         ensures roster { self.new.platforms.roster ≡ self.old.platforms.roster }
@@ -237,6 +234,7 @@ impl<M: Machine> World<M> {
         ensures ok { IfOk result (λ answer. HasHappened M.seen M.faults self.old (asks (asking_view asking)) answer
             self.new) }
         ensures short { OnErr result (IsCut M.seen M.faults self.old (asks (asking_view asking)) self.new) }
+        ensures signed { OnErr result (self.new.signed ≡ self.old.signed) }
         ensures writable { IfOk result IsWritable }
         ensures grown { IfOk result (λ _. length self.old.sent ≤ length self.new.sent) }
         ensures roster { self.new.platforms.roster ≡ self.old.platforms.roster }
@@ -260,6 +258,7 @@ impl<M: Machine> World<M> {
         requires listed { has_platform self.old.platforms.roster at ≡ true }
         ensures ok { IfOk result (λ answer. HasHappened M.seen M.faults self.old (starts_again at) answer self.new) }
         ensures short { OnErr result (IsCut M.seen M.faults self.old (starts_again at) self.new) }
+        ensures signed { OnErr result (self.new.signed ≡ self.old.signed) }
         ensures writable { IfOk result IsWritable }
         ensures grown { IfOk result (λ _. self.new.sent ≡ self.old.sent) }
         ensures roster { self.new.platforms.roster ≡ self.old.platforms.roster }
@@ -273,7 +272,8 @@ impl<M: Machine> World<M> {
         start_answer(end)
     }
 
-    // What an outcome sends and signs is added. Out of memory, what was sent may have grown; nothing else changes.
+    // What an outcome sends and signs is added. Out of memory, what it sends may stand behind what was sent; nothing
+    // else changes.
     fn follow(
         &mut self,
         alloc: Global,
@@ -285,6 +285,8 @@ impl<M: Machine> World<M> {
         requires listed { AreForListed self.old.platforms.roster out.messages }
         ensures answer { IfOk result (λ answer. answer ≡ Replied out.reply) }
         ensures ok { OnOk result (IsFollowed self.old path signing out self.new) }
+        ensures sent { OnErr result (IsPrefix self.old.sent self.new.sent) }
+        ensures signed { OnErr result (self.new.signed ≡ self.old.signed) }
         ensures fates { self.new.fates ≡ self.old.fates }
         ensures platforms { self.new.platforms ≡ self.old.platforms }
     {

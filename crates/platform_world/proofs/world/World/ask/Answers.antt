@@ -110,7 +110,7 @@ returns-clause-ok g c =
     c.is_sign-signing.ensures refl refl c.take-taken.ensures.writable c.take-taken.ensures.roster
     (c.follow.ensures.fates ∙ c.push_reserved.ensures.items
     ∙ ap (λ (fs : List Fate). fs ++ fate ∷ []) c.reserve.ensures.items)
-    c.follow.ensures.answer c.follow.ensures.ok in
+    c.follow.ensures.answer c.follow.ensures.ok c.follow.ensures.sent c.follow.ensures.signed in
     subst (λ (w : WorldState _ _). IfOk c.follow.result (λ answer.
     HasHappened g.M.Machine.seen g.M.Machine.faults w (asks a) answer c.follow.new.self)) c.self.view_is asked.ok
 
@@ -146,6 +146,6 @@ returns-clause-short g c =
     c.is_sign-signing.ensures refl refl c.take-taken.ensures.writable c.take-taken.ensures.roster
     (c.follow.ensures.fates ∙ c.push_reserved.ensures.items
     ∙ ap (λ (fs : List Fate). fs ++ fate ∷ []) c.reserve.ensures.items)
-    c.follow.ensures.answer c.follow.ensures.ok in
+    c.follow.ensures.answer c.follow.ensures.ok c.follow.ensures.sent c.follow.ensures.signed in
     subst (λ (w : WorldState _ _). OnErr c.follow.result
     (IsCut g.M.Machine.seen g.M.Machine.faults w (asks a) c.follow.new.self)) c.self.view_is asked.short

@@ -8,6 +8,18 @@ use Rattle.platform_world.proofs.Asked.{cut_same, on_err_so, on_started, started
 use Rattle.platform_world.proofs.Reached.{fates_more, reached_by, within_one_more, within_started}
 use Rattle.platform_world.proofs.world.World.start_again.Goals as goal
 
+pub returns-in_err-reserve-clause-short : goal.returns-in_err-reserve-clause-short
+returns-in_err-reserve-clause-short g c =
+    let at : List Fate → WorldState _ _ = λ fs. record {
+      platforms = c.self.inside.platforms;
+      sent = c.self.inside.sent.items;
+      signed = c.self.inside.signed;
+      fates = fs;
+    } in
+    on_err_so c.from_residual.result
+    (cut_same g.M.Machine.seen g.M.Machine.faults c.args.self.now (at c.reserve.new.self.items) (starts_again c.args.at)
+    (ap at c.reserve.ensures.items ∙ c.self.view_is))
+
 pub returns-in_err-room-clause-short : goal.returns-in_err-room-clause-short
 returns-in_err-room-clause-short g c =
     let at : List Fate → WorldState _ _ = λ fs. record {
