@@ -5,7 +5,7 @@ PREFIX ?= /usr/local
 .PHONY: help run program install test lint
 
 help:
-	@echo 'make run [SCRIPT=FILE]     runs a script; without a proved program it builds one unproved, in a minute or two'
+	@echo 'make run [SCRIPT=FILE]     runs a script; without a proved program it builds one unproved, in a minute or so'
 	@echo 'make program               proves and builds the program to deploy, crates/ebl_cli/out/ebl_cli'
 	@echo 'make install [PREFIX=DIR]  proves and builds it, and puts it at DIR/bin/ebl (DIR is $(PREFIX) otherwise)'
 	@echo 'make test                  the gate: every proof, every edit that must fail, every test, the program'\''s runs'
