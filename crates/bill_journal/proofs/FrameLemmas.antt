@@ -4,7 +4,7 @@ use Rattle.std.proofs.lemmas.List.{append-nil, take_at, drop_at}
 use Rattle.std.proofs.lemmas.Nat.{from_be_bytes-to_be_bytes_4}
 use Rattle.std.specs.Int.{w32, from_be_bytes}
 use Rattle.bill_journal.specs.Framed.{content, IsFramed}
-use Rattle.bill_journal.specs.Frames.{length_bytes, frame_text, framed, gated, front_of, IsShort, AreShort, StandsFor, RunsPast, HasNoVersion, IsDamagedAt}
+use Rattle.bill_journal.specs.Frames.{length_bytes, frame_text, framed, gated, front_of, IsShort, AreShort, StandsAt, StandsFor, RunsPast, HasNoVersion, IsDamagedAt}
 
 pub length-length_bytes : (n : ℕ) → length (length_bytes n) ≡ 4
 unfolding length_bytes
@@ -159,3 +159,27 @@ pub IsFramed-framed : (bytes x : List ℕ) → bytes ≡ framed x → length x �
 IsFramed-framed bytes x is fits =
     let same : content bytes ≡ x = ap content is ∙ content-framed x in
     record { whole = is ∙ ap framed (sym same); short = omega (arith, ap length same, fits) }
+
+-- ---- where a content stands
+
+pub stands_at : (file x : List ℕ) (before behind : List (List ℕ)) → StandsFor file (before ++ x ∷ behind)
+    → StandsAt file (length (front_of before) + 5) x
+stands_at file x before behind stands =
+    let four = length_bytes (length x) in
+    let rest = gated behind ++ stands.gate ∷ stands.rest in
+    let inner : gated (before ++ x ∷ behind) ≡ gated before ++ 1 ∷ (four ++ (x ++ gated behind)) =
+    gated-append before (x ∷ behind)
+    ∙ ap (λ (l : List ℕ). gated before ++ 1 ∷ l) (append_assoc four x (gated behind)) in
+    record {
+      front = front_of before ++ 1 ∷ four;
+      rest = rest;
+      bytes = stands.bytes
+          ∙ ap (λ (l : List ℕ). 1 ∷ (l ++ stands.gate ∷ stands.rest)) inner
+          ∙ ap (λ (l : List ℕ). 1 ∷ l)
+          (append_assoc (gated before) (1 ∷ (four ++ (x ++ gated behind))) (stands.gate ∷ stands.rest)
+          ∙ ap (λ (l : List ℕ). gated before ++ 1 ∷ l)
+          (append_assoc four (x ++ gated behind) (stands.gate ∷ stands.rest)
+          ∙ ap (λ (l : List ℕ). four ++ l) (append_assoc x (gated behind) (stands.gate ∷ stands.rest)))
+          ∙ sym (append_assoc (gated before) (1 ∷ four) (x ++ rest)));
+      here = omega (arith, length-append (front_of before) (1 ∷ four), length-length_bytes (length x));
+    }

@@ -40,6 +40,13 @@ pub record StandsFor (file : List ℕ) (h : List (List ℕ)) : Type 0 where
   pub bytes : file ≡ front_of h ++ gate ∷ rest
   pub short : AreShort h
 
+-- a content stands at a place in the bytes
+pub record StandsAt (file : List ℕ) (place : ℕ) (x : List ℕ) : Type 0 where
+  pub front : List ℕ
+  pub rest : List ℕ
+  pub bytes : file ≡ front ++ (x ++ rest)
+  pub here : length front ≡ place
+
 -- there is a gate, and it isn't 1
 pub record IsShut (tail : List ℕ) : Type 0 where
   pub gate : ℕ

@@ -10,7 +10,7 @@
 //!     loose: it is read again before anything rests on it.
 //! (5) A disk is synced before it is read, when it is opened as when it is read again: what was written and never
 //!     synced is read all the same, and a crash may take it back.
-ghost use Rattle.std.specs.Prelude.{◌≡◌, ◌↔◌, ◌⊎◌, ◌+◌, ◌<◌, ◌≤◌, ◌++◌, [], ◌∷◌, true, false, List, ℕ, length, IsTrue, IfOk, IfErr, OnOk, OnErr, IsErrOf, MatchResult};
+ghost use Rattle.std.specs.Prelude.{◌≡◌, ◌↔◌, ◌⊎◌, ◌+◌, ◌<◌, ◌≤◌, ◌++◌, [], ◌∷◌, true, false, List, ℕ, length, IsTrue, IfOk, IfErr, OnOk, OnErr, IsErrOf, MatchResult, IsErr, take, drop};
 ghost use Rattle.ebl_base.specs.Faults.{Rose};
 ghost use Rattle.disk_model.specs.Disk.{LeavesOnly, Looked};
 ghost use Rattle.bill_journal.specs.Frames.{StandsFor, IsDamagedAt};
@@ -20,9 +20,9 @@ ghost use Rattle.bill_journal.specs.Journal.{HasContents, MayHave, WithOrWithout
 use crate::fault::{AppendFault, OpenFault};
 use crate::frame_at::FrameBytes;
 use crate::framed::Framed;
-use crate::steps::{read_again, read_or_make, write_frame};
+use crate::steps::{read_again, read_from, read_or_make, write_frame};
 use disk_model::Disk;
-use ebl_base::{MAX_JOURNAL, MAX_JOURNAL_UNSETTLED};
+use ebl_base::{Failed, MAX_JOURNAL, MAX_JOURNAL_UNSETTLED};
 use std::alloc::Global;
 use std::marker::Model;
 
@@ -189,6 +189,40 @@ impl<D: Disk> Journal<D> {
                 Err(fault)
             }
         }
+    }
+
+    /// Fills `into` with the bytes from a place on, within the journal's frames. It allocates nothing and writes
+    /// nothing: the journal is as it was, whether the reading failed or not.
+    ///
+    /// `Failed` comes only where the disk's count of faults rose.
+    pub fn fetch(&mut self, at: u64, into: &mut [u8]) -> Result<(), Failed>
+        requires inside { at + length into.old ≤ self.old.end }
+        ensures told { D.tells self.new.disk ≡ D.tells self.old.disk }
+        ensures bytes { D.tells self.old.disk ≡ true
+            → OnOk result (into.new ≡ take (length into.old) (drop at (D.seen self.old.disk))) }
+        ensures nothing_written { D.tells self.old.disk ≡ true
+            → Looked D.seen D.may_leave D.moment D.left_since self.old.disk self.new.disk }
+        ensures contents { (h : List (List ℕ)) → D.tells self.old.disk ≡ true
+            → HasContents D.seen D.may_leave self.old h → HasContents D.seen D.may_leave self.new h }
+        ensures may_have { (h : List (List ℕ)) (x : List ℕ) → D.tells self.old.disk ≡ true
+            → MayHave (D.seen self.old.disk) (D.may_leave self.old.disk) h x
+            → MayHave (D.seen self.new.disk) (D.may_leave self.new.disk) h x }
+        ensures any_moment { (h : List (List ℕ)) (x : List ℕ) → D.tells self.old.disk ≡ true
+            → MayHave (D.seen self.old.disk) (D.may_leave self.old.disk) h x
+            → LeavesOnly D.moment D.left_since self.old.disk self.new.disk (WithOrWithout h x) }
+        ensures end { self.new.end ≡ self.old.end }
+        ensures loose { self.new.loose ≡ self.old.loose }
+        ensures later { D.faults self.old.disk ≤ D.faults self.new.disk }
+        ensures failed { IsErr result → Rose (D.faults self.old.disk) (D.faults self.new.disk) }
+    {
+        read_from(&mut self.disk, at, into)
+    }
+
+    /// The place of the journal's last gate: where the next frame begins.
+    pub fn end(&self) -> u64
+        ensures { result ≡ self.now.end }
+    {
+        self.end
     }
 
     /// Whether the journal has to be read again before the next append.

@@ -1,6 +1,6 @@
 //! What follows from the definitions alone, for the crates above.
-ghost use Rattle.std.specs.Prelude.{◌≡◌, ◌⊎◌, ◌++◌, ◌∷◌, [], List, ℕ};
-ghost use Rattle.bill_journal.specs.Frames.{StandsFor, IsDamagedAt};
+ghost use Rattle.std.specs.Prelude.{◌≡◌, ◌⊎◌, ◌+◌, ◌++◌, ◌∷◌, [], List, length, ℕ};
+ghost use Rattle.bill_journal.specs.Frames.{StandsAt, StandsFor, IsDamagedAt, front_of};
 ghost use Rattle.bill_journal.specs.Journal.{IsSettled, MayHave, WithOrWithout};
 
 use disk_model::Disk;
@@ -30,4 +30,10 @@ pub fn settled_contents_are_there<D: Disk>()
 pub fn a_loose_content_is_there_or_not()
     ensures { (file : List ℕ) (h k : List (List ℕ)) (x : List ℕ) → WithOrWithout h x file → StandsFor file k → (k ≡ h)
         ⊎ (k ≡ h ++ x ∷ []) }
+{}
+
+/// The content of each frame stands at its place: behind the frames before it, a gate and a length.
+pub fn content_stands_at_its_place()
+    ensures { (file x : List ℕ) (before behind : List (List ℕ)) → StandsFor file (before ++ x ∷ behind)
+        → StandsAt file (length (front_of before) + 5) x }
 {}

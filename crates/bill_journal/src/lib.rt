@@ -14,6 +14,6 @@ pub use frame_at::{FrameAt, FrameBytes};
 pub use framed::Framed;
 pub use journal::Journal;
 pub use laws::{
-    a_loose_content_is_there_or_not, bytes_stand_for_one_list, damage_has_one_place,
-    no_journal_is_damaged, settled_contents_are_there,
+    a_loose_content_is_there_or_not, bytes_stand_for_one_list, content_stands_at_its_place,
+    damage_has_one_place, no_journal_is_damaged, settled_contents_are_there,
 };

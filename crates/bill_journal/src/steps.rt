@@ -1,5 +1,5 @@
 //! The device calls of a journal.
-ghost use Rattle.std.specs.Prelude.{◌≡◌, ◌+◌, ◌<◌, ◌≤◌, ◌^◌, ◌++◌, [], ◌∷◌, true, List, ℕ, length, IfOk, OnOk, IsErrOf};
+ghost use Rattle.std.specs.Prelude.{◌≡◌, ◌+◌, ◌<◌, ◌≤◌, ◌^◌, ◌++◌, [], ◌∷◌, true, List, ℕ, length, IfOk, OnOk, IsErrOf, take, drop};
 ghost use Rattle.ebl_base.specs.Faults.{HasCause, Rose};
 ghost use Rattle.disk_model.specs.Disk.{written, Torn, Follows, Only, LeavesOnly, Looked};
 ghost use Rattle.bill_journal.specs.Frames.{IsShort, framed, StandsFor, IsDamagedAt};
@@ -51,6 +51,18 @@ pub(crate) fn write_frame<D: Disk>(disk: &mut D, end: u64, bytes: &[u8]) -> Resu
     // The frame has to be on the disk first: behind a gate that is open, what was there would count.
     put(disk, end + 1, bytes)?;
     put(disk, end, &[1])
+}
+
+// Fills `into` with the bytes from a place on.
+pub(crate) fn read_from<D: Disk>(disk: &mut D, place: u64, into: &mut [u8]) -> Result<(), Failed>
+    requires inside { D.tells disk.old ≡ true → place + length into.old ≤ length (D.seen disk.old) }
+    ensures told { D.tells disk.new ≡ D.tells disk.old }
+    ensures bytes { D.tells disk.old ≡ true
+        → OnOk result (into.new ≡ take (length into.old) (drop place (D.seen disk.old))) }
+    ensures looked { D.tells disk.old ≡ true → Looked D.seen D.may_leave D.moment D.left_since disk.old disk.new }
+    ensures cause { HasCause (D.faults disk.old) (D.faults disk.new) result }
+{
+    disk.read(place, into)
 }
 
 // The bytes of a disk of this length.
