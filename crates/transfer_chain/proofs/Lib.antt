@@ -9,3 +9,4 @@ pub mod GoodChainLemmas
 pub mod NameLemmas
 mod ExclusionLemmas
 pub mod OneRefusal
+mod KnownLemmas

@@ -7,23 +7,42 @@ ghost use Rattle.ebl_base.specs.declared.signed_text.SignedText.{SignedText};
 ghost use Rattle.party_roster.specs.RosterRecord.{RosterRecord};
 ghost use Rattle.signed_envelope.specs.KeyRing.{Keys};
 ghost use Rattle.signed_envelope.specs.SignedText.{IsSigned};
-ghost use Rattle.bill_chain.specs.Chain.{destination, last_name, names_of};
-ghost use Rattle.transport_document.specs.DocumentRecord.{DocumentRecord};
+ghost use Rattle.bill_chain.specs.Chain.{FollowEachOther, destination, last_name, names_of};
+ghost use Rattle.transport_document.specs.DocumentRecord.{DocumentRecord, bill_of};
 ghost use Rattle.transfer_chain.specs.Checked.{IsChecked, texts_of};
-ghost use Rattle.transfer_chain.specs.GoodChain.{HaveDistinctNames, HaveOwnNames, IsGoodChain};
+ghost use Rattle.transfer_chain.specs.GoodChain.{AreLinks, HaveDistinctNames, HaveOwnNames, IsGoodChain};
 ghost use Rattle.transfer_chain.specs.Meeting.{Meet};
 ghost use Rattle.transfer_chain.specs.Refusal.{IsRefused};
 ghost use Rattle.transfer_chain.specs.declared.fault.ChainRefusal.TheVariants.{NoMemory};
 
 use crate::compare::Meeting;
 use crate::fault::ChainRefusal;
-use ebl_base::MAX_SIGNED_TEXT;
+use ebl_base::{MAX_CHAIN_ENTRIES, MAX_SIGNED_TEXT};
 
 /// A front of a good chain is a good chain of its texts, if it has an entry.
 pub fn front_of_good_chain_is_good()
     ensures { (roster : RosterRecord) (keys : Keys) (document : DocumentRecord) (texts : List SignedText)
         (front rest : List ChainLink) → IsGoodChain roster keys document texts (front ++ rest)
         → 1 ≤ length front → IsGoodChain roster keys document (texts_of front) front }
+{}
+
+/// The links of a good chain are those of its own texts: so [`check_from`](crate::check_from) may know it.
+pub fn good_chain_has_its_links()
+    ensures { (roster : RosterRecord) (keys : Keys) (document : DocumentRecord) (texts : List SignedText)
+        (chain : List ChainLink) → IsGoodChain roster keys document texts chain → AreLinks keys (texts_of chain) chain }
+{}
+
+/// A good chain goes on as a good chain if and only if the links behind it are those of the texts behind its texts,
+/// each may follow those before it, and there are 64 texts at most.
+pub fn good_chain_goes_on()
+    ensures good { (roster : RosterRecord) (keys : Keys) (document : DocumentRecord) (texts more : List SignedText)
+        (front rest : List ChainLink) → IsGoodChain roster keys document texts front → AreLinks keys more rest
+        → FollowEachOther (bill_of document) front rest → length (texts ++ more) ≤ MAX_CHAIN_ENTRIES
+        → IsGoodChain roster keys document (texts ++ more) (front ++ rest) }
+    ensures behind { (roster : RosterRecord) (keys : Keys) (document : DocumentRecord) (texts more : List SignedText)
+        (front rest : List ChainLink) → IsGoodChain roster keys document texts front
+        → IsGoodChain roster keys document (texts ++ more) (front ++ rest)
+        → AreLinks keys more rest × FollowEachOther (bill_of document) front rest }
 {}
 
 /// A good chain is checked: it has a destination.

@@ -1,5 +1,6 @@
 //! The links of a chain's texts: each text is verified, read and named once.
 ghost use Rattle.std.specs.Prelude.{◌≡◌, ◌++◌, ◌∷◌, [], IfOk, IfErr, OnOk};
+ghost use Rattle.transfer_chain.specs.Checked.{texts_of};
 ghost use Rattle.transfer_chain.specs.GoodChain.{IsLink, AreLinks};
 ghost use Rattle.transfer_chain.specs.Refusal.{IsTextRefused};
 ghost use Rattle.transfer_chain.specs.Steps.{IsTextFault, refusal_at};
@@ -70,12 +71,15 @@ impl From<NoMemory> for TextFault {
     }
 }
 
-/// The links of the texts, or the first text that is wrong.
+/// The links of the texts, or the first text that is wrong. A text that is that of the known link at its place isn't
+/// verified again.
 pub(crate) fn links_of<G: KeyRing>(
     alloc: Global,
     ring: &G,
+    known: &[ChainLink],
     texts: &[SignedText],
 ) -> Result<Vec<ChainLink>, ChainRefusal>
+    requires { AreLinks (G.keys ring.now) (texts_of known.now) known.now }
     ensures ok { IfOk result (λ links. AreLinks (G.keys ring.now) texts.now links.items) }
     ensures err { IfErr result (IsTextRefused (G.keys ring.now) texts.now) }
 {
@@ -84,7 +88,7 @@ pub(crate) fn links_of<G: KeyRing>(
         Err(_) => return Err(ChainRefusal::NoMemory),
     };
     for (place, text) in texts.iter().enumerate() {
-        let link = match link_of(alloc, ring, text) {
+        let link = match link_at(alloc, ring, known, place, text) {
             Ok(link) => link,
             Err(fault) => return Err(fault.at(place)),
         };
@@ -98,6 +102,27 @@ fn push(links: &mut Vec<ChainLink>, link: ChainLink) -> Result<(), NoMemory>
 {
     links.push(link)?;
     Ok(())
+}
+
+// The link of the text at this place: the known one there, if it is of the same bytes.
+fn link_at<G: KeyRing>(
+    alloc: Global,
+    ring: &G,
+    known: &[ChainLink],
+    place: usize,
+    text: &SignedText,
+) -> Result<ChainLink, TextFault>
+    requires { AreLinks (G.keys ring.now) (texts_of known.now) known.now }
+    ensures ok { IfOk result (IsLink (G.keys ring.now) text.now) }
+    ensures err { IfErr result (IsTextFault (G.keys ring.now) text.now) }
+{
+    if let Some(link) = known.get(place) {
+        if link.text.0.as_slice() == text.0.as_slice() {
+            let link = link.copy(alloc)?;
+            return Ok(link);
+        }
+    }
+    link_of(alloc, ring, text)
 }
 
 fn link_of<G: KeyRing>(alloc: Global, ring: &G, text: &SignedText) -> Result<ChainLink, TextFault>
