@@ -10,3 +10,4 @@ pub mod PlanLemmas
 pub mod ListedLemmas
 pub mod FormLemmas
 pub mod FollowLemmas
+mod OwnLinkLemmas

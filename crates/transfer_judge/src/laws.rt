@@ -1,12 +1,15 @@
 //! Laws of legal diaries and of judgements. Each function does nothing: its contract is the law.
-ghost use Rattle.std.specs.Prelude.{◌≡◌, ◌≤◌, ℕ, List, [], ◌∷◌, ◌++◌, length};
+ghost use Rattle.std.specs.Prelude.{◌≡◌, ◌≤◌, ℕ, List, [], ◌∷◌, ◌++◌, Some, length};
 ghost use Rattle.ebl_base.specs.declared.limits.TheConstants.{MAX_DOCUMENTS};
 ghost use Rattle.signed_envelope.specs.KeyRing.{Keys};
 ghost use Rattle.party_roster.specs.RosterRecord.{RosterRecord};
 ghost use Rattle.bill_diary.specs.declared.record.Record.TheVariants.{Signed, Begun};
-ghost use Rattle.bill_diary.specs.History.{IsRecordOf, newest_first};
+ghost use Rattle.bill_diary.specs.History.{IsRecordOf, history, newest_first};
+ghost use Rattle.bill_diary.specs.Known.{known};
 ghost use Rattle.bill_diary.specs.Sound.{IsSound, MayFollowDiary};
 ghost use Rattle.bill_diary.specs.Texts.{LinksAreTheirTexts};
+ghost use Rattle.transfer_chain.specs.Checked.{texts_of};
+ghost use Rattle.transfer_chain.specs.GoodChain.{AreLinks};
 ghost use Rattle.transfer_judge.specs.Judgement.{judgement_of};
 ghost use Rattle.transfer_judge.specs.Legal.{FollowsDiaryLegally, IsLegal};
 ghost use Rattle.transfer_judge.specs.Sealing.{CanBeSealed};
@@ -26,6 +29,14 @@ pub fn legal_diary_is_sound()
 pub fn frame_that_follows_legally_follows_soundly()
     ensures { (roster : RosterRecord) (keys : Keys) (me : PlatformCode) (diary : List Frame) (frame : Frame)
         → FollowsDiaryLegally roster keys me diary frame → MayFollowDiary me diary frame }
+{}
+
+/// The known chain of a bill in a legal diary has the links of its own texts, under the diary's keys: so
+/// `transfer_chain::check_from` may know it.
+pub fn known_chain_of_a_legal_diary_has_its_links()
+    ensures { (roster : RosterRecord) (keys : Keys) (me : PlatformCode) (diary : List Frame) (bill : Checksum)
+        (chain : List ChainLink) → IsLegal roster keys me diary → known (history bill diary) ≡ Some chain
+        → AreLinks keys (texts_of chain) chain }
 {}
 
 /// The front of a legal diary is legal.
