@@ -1,27 +1,25 @@
 -- How a session goes on from request to request.
-use Rattle.std.proofs.Common.{◌≡◌, ℕ, ◌+◌, ◌≤◌, Bool, true, false, List, [], ◌∷◌, ◌++◌, refl, ap, sym, ◌∙◌, subst, length, map, drop, arith, append_assoc, append-nil, length-append, inl, inr}
-use Rattle.std.specs.Prelude.{◌⊎◌, ◌≢◌, Result, Ok, Err, OnOk, IfErr, Option, Some, None, MatchBool}
+use Rattle.std.proofs.Common.{◌≡◌, ℕ, ◌+◌, ◌≤◌, Bool, true, false, List, [], ◌∷◌, ◌++◌, refl, ap, sym, ◌∙◌, subst, length, map, arith, append_assoc, append-nil, length-append, inl, inr}
+use Rattle.std.specs.Prelude.{◌≢◌, Result, Ok, Err, OnOk, IfErr, Option, MatchBool}
 use Rattle.std.specs.List.{flat_map}
-use Rattle.std.specs.Io.KnownBytes.{Consumes, Appends, IsAtEnd}
+use Rattle.std.specs.Io.KnownBytes.{Consumes, Appends}
 use Rattle.std.proofs.KnownBytes.{Consumes-nil, Consumes-trans, Appends-nil, Appends-trans}
 use Rattle.ebl_edge.specs.Sink.{AppendsFirst}
-use Rattle.http_requests.specs.Next.{Incoming, Next, whole, refused, short, formed, IsNext, CutEnd, nothing, within, status, parted, stopped, EndsAt, Cuts}
+use Rattle.http_requests.specs.Next.{Incoming, whole, refused, formed, IsNext, CutEnd, nothing, within, status, parted, stopped, EndsAt, Cuts}
 use Rattle.http_requests.proofs.CutLemmas.{IsNext-more}
 use Rattle.platform_requests.specs.Desk.{Call}
-use Rattle.platform_requests.specs.Request.{RequestRecord}
 use Rattle.ebl_base.specs.declared.moment.Moment.{Moment}
 use Rattle.ebl_base.specs.declared.party.Party.{Party}
 use Rattle.ebl_edge.specs.Clock.{Gives}
 use Rattle.ebl_edge.proofs.ClockLemmas.{Gives-nil, Gives-trans}
-use Rattle.reply_forms.specs.declared.body.ReplyBody.{ReplyBody}
 use Rattle.reply_forms.specs.declared.body.ReplyBody.TheVariants as bodies
 use Rattle.reply_forms.specs.Body.{body_of}
 use Rattle.http_heads.specs.declared.status.Status.{Status}
 use Rattle.http_heads.specs.declared.status.Status.TheVariants as statuses
 use Rattle.http_requests.specs.Asked.{Asks, of_desk, of_party}
 use Rattle.pint_http.specs.Reply.{reply_text, known_body, status_of}
-use Rattle.pint_http.specs.Session.{Exchange, taken, tested, incoming_of, call_of, moment_of, reply_of, last_reply, Session, text_of, calls_of, moments_of, IsEndOf, StandsBehind, LeavesBody, Wrote, Served}
-use Rattle.http_requests.specs.Reading.{Fills, Added, Read, IsStop}
+use Rattle.pint_http.specs.Session.{Exchange, taken, tested, incoming_of, call_of, moment_of, reply_of, last_reply, Session, calls_of, moments_of, GoesOn, IsEndOf, StandsBehind, LeavesBody, Wrote, Served}
+use Rattle.http_requests.specs.Reading.{Fills, Read, IsStop}
 use Rattle.pint_http.specs.Answered.{Answered, IsReplyEnd, IsReplyFault}
 use Rattle.http_requests.specs.declared.end.LinkEnd.{LinkEnd}
 use Rattle.http_requests.specs.declared.end.LinkEnd.TheVariants.{Closed, Cut, ReadFault, WriteFault, Limit, NoMemory}
@@ -86,12 +84,13 @@ cuts_last b rest more a next closes =
     (rest ++ more, IsNext-more b more a rest next, subst P (sym closes) (refl, refl))
 
 -- the reply was written, and the link stays open
-pub progress_over : (left l1 l2 written w1 w2 : Option (List ℕ)) (given g1 g2 : Option (List Moment)) (buffer filled rest : List ℕ) (known : Party → Bool) (Run Then : List Call → Type 0) (count : ℕ) (a : Incoming)
+pub progress_over : (left l1 l2 written w1 w2 : Option (List ℕ)) (given g1 g2 : Option (List Moment)) (buffer filled rest : List ℕ) (known : Party → Bool) (Run Step Then : List Call → Type 0) (count : ℕ) (a : Incoming)
+    → ((calls more : List Call) → Run calls → Step more → Then (calls ++ more))
     → Progress left l1 written w1 given g1 buffer known Run count
     → Fills l1 l2 buffer filled → IsNext filled (whole a rest) → a.keeps ≡ true
-    → Answered Closed a w1 w2 g1 g2 known Run Then
+    → Answered Closed a w1 w2 g1 g2 known Step
     → Progress left l2 written w2 given g2 rest known Then (count + 1)
-progress_over left l1 l2 written w1 w2 given g1 g2 buffer filled rest known Run Then count a p fill next keeps done = record {
+progress_over left l1 l2 written w1 w2 given g1 g2 buffer filled rest known Run Step Then count a join p fill next keeps done = record {
   read = p.read ++ fill.piece;
   exchanges = p.exchanges ++ done.exchange ∷ [];
   consumed = Consumes-trans left l1 l2 p.read fill.piece p.consumed fill.consumed;
@@ -119,7 +118,7 @@ progress_over left l1 l2 written w1 w2 given g1 g2 buffer filled rest known Run 
       let P : List ℕ → Type 0 = Appends written w2 in
       subst P (sym (flat_map-end (reply_of known) p.exchanges done.exchange)) both;
   run =
-      let both = done.extends (calls_of p.exchanges) p.run in
+      let both = join (calls_of p.exchanges) (call_of done.exchange) p.run done.run in
       subst Then (sym (flat_map-end call_of p.exchanges done.exchange)) both;
   moments =
       let both = Gives-trans given g1 g2 (moments_of p.exchanges) (moment_of done.exchange) p.moments done.moments in
@@ -287,12 +286,13 @@ last_ends Limit k s left may at = absurd may
 last_ends NoMemory k s left may at = tt
 
 -- the last exchange
-pub served_last : (e : LinkEnd) (k : Bool) (left l1 l2 written w1 w2 : Option (List ℕ)) (given g1 g2 : Option (List Moment)) (buffer filled rest : List ℕ) (known : Party → Bool) (Run Then : List Call → Type 0) (count : ℕ) (a : Incoming)
+pub served_last : (e : LinkEnd) (k : Bool) (left l1 l2 written w1 w2 : Option (List ℕ)) (given g1 g2 : Option (List Moment)) (buffer filled rest : List ℕ) (known : Party → Bool) (Run Step Then : List Call → Type 0) (count : ℕ) (a : Incoming)
+    → ((calls more : List Call) → Run calls → Step more → Then (calls ++ more))
     → Progress left l1 written w1 given g1 buffer known Run count
     → Fills l1 l2 buffer filled → IsNext filled (whole a rest) → a.keeps ≡ k → MayEnd e k
-    → Answered e a w1 w2 g1 g2 known Run Then
+    → Answered e a w1 w2 g1 g2 known Step
     → Served e left l2 written w2 given g2 known Then
-served_last e k left l1 l2 written w1 w2 given g1 g2 buffer filled rest known Run Then count a p fill next keeps may done = record {
+served_last e k left l1 l2 written w1 w2 given g1 g2 buffer filled rest known Run Step Then count a join p fill next keeps may done = record {
   read = p.read ++ fill.piece;
   session = record { exchanges = p.exchanges ++ done.exchange ∷ []; end = last_end k };
   consumed = Consumes-trans left l1 l2 p.read fill.piece p.consumed fill.consumed;
@@ -310,7 +310,7 @@ served_last e k left l1 l2 written w1 w2 given g1 g2 buffer filled rest known Ru
       let P : List ℕ → Type 0 = Wrote e written w2 in
       let text = flat_map (reply_of known) (p.exchanges ++ done.exchange ∷ []) in
       subst P (sym (ap (λ l. text ++ l) (last_silent k) ∙ append-nil text ∙ flat_map-end (reply_of known) p.exchanges done.exchange)) both;
-  run = subst Then (sym (flat_map-end call_of p.exchanges done.exchange)) (done.extends (calls_of p.exchanges) p.run);
+  run = subst Then (sym (flat_map-end call_of p.exchanges done.exchange)) (join (calls_of p.exchanges) (call_of done.exchange) p.run done.run);
   moments =
       let both = Gives-trans given g1 g2 (moments_of p.exchanges) (moment_of done.exchange) p.moments done.moments in
       let P : List Moment → Type 0 = λ ms. Gives given ms g2 in
@@ -319,27 +319,37 @@ served_last e k left l1 l2 written w1 w2 given g1 g2 buffer filled rest known Ru
 
 -- a test of a party
 pub answered_test : (e : LinkEnd) (party : Party) (keeps : Bool) (w1 w2 : Option (List ℕ)) (given : Option (List Moment)) (known : Party → Bool) (Run : List Call → Type 0)
-    → Wrote e w1 w2 (reply_text statuses.Ok (known_body (known party)) keeps) → Answered e (record { asks = of_party party; keeps = keeps }) w1 w2 given given known Run Run
-answered_test e party keeps w1 w2 given known Run wrote = record {
+    → Run [] → Wrote e w1 w2 (reply_text statuses.Ok (known_body (known party)) keeps) → Answered e (record { asks = of_party party; keeps = keeps }) w1 w2 given given known Run
+answered_test e party keeps w1 w2 given known Run stays wrote = record {
   exchange = tested party keeps;
   is_asked = refl;
-  extends = λ calls run. subst Run (sym (append-nil calls)) run;
+  run = stays;
   moments = Gives-nil given;
   wrote = wrote;
 }
 
 -- a request of the desk
-pub answered_take : (e : LinkEnd) (keeps : Bool) (call : Call) (w1 w2 : Option (List ℕ)) (g1 g2 : Option (List Moment)) (known : Party → Bool) (Run Then : List Call → Type 0)
-    → ((calls : List Call) → Run calls → Then (calls ++ call ∷ []))
+pub answered_take : (e : LinkEnd) (keeps : Bool) (call : Call) (w1 w2 : Option (List ℕ)) (g1 g2 : Option (List Moment)) (known : Party → Bool) (Run : List Call → Type 0)
+    → Run (call ∷ [])
     → Gives g1 (call.now ∷ []) g2 → Wrote e w1 w2 (reply_text (status_of call.outcome.reply) (body_of call.outcome.reply) keeps)
-    → Answered e (record { asks = of_desk call.request; keeps = keeps }) w1 w2 g1 g2 known Run Then
-answered_take e keeps call w1 w2 g1 g2 known Run Then runs moment wrote = record {
+    → Answered e (record { asks = of_desk call.request; keeps = keeps }) w1 w2 g1 g2 known Run
+answered_take e keeps call w1 w2 g1 g2 known Run runs moment wrote = record {
   exchange = taken call keeps;
   is_asked = refl;
-  extends = runs;
+  run = runs;
   moments = moment;
   wrote = wrote;
 }
+
+-- no call
+pub goes_on-nil : {K : Type 0} (run : K → List Call → K → Type 0) (desk : K) → GoesOn run desk [] desk
+goes_on-nil run desk start before is = subst (λ calls. run start calls desk) (sym (append-nil before)) is
+
+-- one session behind the other
+pub goes_on-trans : {K : Type 0} (run : K → List Call → K → Type 0) (a b c : K) (calls more : List Call)
+    → GoesOn run a calls b → GoesOn run b more c → GoesOn run a (calls ++ more) c
+goes_on-trans run a b c calls more first second start before is =
+    subst (λ all. run start all c) (append_assoc before calls more) (second start (before ++ calls) (first start before is))
 
 pub OnOk-to : {A E : Type 0} (r : Result A E) {P Q : Type 0} → (P → Q) → OnOk r P → OnOk r Q
 OnOk-to (Ok a) f h = f h
@@ -354,14 +364,36 @@ reply_same (taken call keeps) k known same = refl
 reply_same (tested party keeps) k known same = ap (λ b. reply_text statuses.Ok (known_body b) keeps) (same party)
 
 -- the desk's test of parties is that at the entry
-pub answered_known : (e : LinkEnd) (a : Incoming) (w1 w2 : Option (List ℕ)) (g1 g2 : Option (List Moment)) (k known : Party → Bool) (Run Then : List Call → Type 0)
-    → ((party : Party) → k party ≡ known party) → Answered e a w1 w2 g1 g2 k Run Then → Answered e a w1 w2 g1 g2 known Run Then
-answered_known e a w1 w2 g1 g2 k known Run Then same done = record {
+pub answered_known : (e : LinkEnd) (a : Incoming) (w1 w2 : Option (List ℕ)) (g1 g2 : Option (List Moment)) (k known : Party → Bool) (Run : List Call → Type 0)
+    → ((party : Party) → k party ≡ known party) → Answered e a w1 w2 g1 g2 k Run → Answered e a w1 w2 g1 g2 known Run
+answered_known e a w1 w2 g1 g2 k known Run same done = record {
   exchange = done.exchange;
   is_asked = done.is_asked;
-  extends = done.extends;
+  run = done.run;
   moments = done.moments;
   wrote = let P : List ℕ → Type 0 = Wrote e w1 w2 in subst P (reply_same done.exchange k known same) done.wrote;
+}
+
+replies_same : (xs : List Exchange) (k known : Party → Bool) → ((party : Party) → k party ≡ known party) → flat_map (reply_of k) xs ≡ flat_map (reply_of known) xs
+replies_same [] k known same = refl
+replies_same (x ∷ xs) k known same =
+    ap (λ l. l ++ flat_map (reply_of k) xs) (reply_same x k known same) ∙ ap (λ l. reply_of known x ++ l) (replies_same xs k known same)
+
+-- a later session at the desk's test of parties of an earlier one
+pub served_known : (e : LinkEnd) (left l1 written w1 : Option (List ℕ)) (given g1 : Option (List Moment)) (k known : Party → Bool) (Run : List Call → Type 0)
+    → ((party : Party) → k party ≡ known party) → Served e left l1 written w1 given g1 k Run → Served e left l1 written w1 given g1 known Run
+served_known e left l1 written w1 given g1 k known Run same served = record {
+  read = served.read;
+  session = served.session;
+  consumed = served.consumed;
+  cuts = served.cuts;
+  ends = served.ends;
+  leaves = served.leaves;
+  wrote =
+      let P : List ℕ → Type 0 = Wrote e written w1 in
+      subst P (ap (λ l. l ++ last_reply served.session.end) (replies_same served.session.exchanges k known same)) served.wrote;
+  run = served.run;
+  moments = served.moments;
 }
 
 pub fault_may_end : (e : LinkEnd) (k : Bool) → IsReplyFault e → MayEnd e k

@@ -1,5 +1,5 @@
 -- What is done for one request.
-use Rattle.std.specs.Prelude.{◌≡◌, ℕ, Bool, List, ◌++◌, Option}
+use Rattle.std.specs.Prelude.{◌≡◌, ℕ, Bool, List, Option}
 use Rattle.ebl_base.specs.declared.moment.Moment.{Moment}
 use Rattle.ebl_base.specs.declared.party.Party.{Party}
 use Rattle.ebl_edge.specs.Clock.{Gives}
@@ -9,12 +9,13 @@ use Rattle.pint_http.specs.Session.{Exchange, incoming_of, call_of, moment_of, r
 use Rattle.http_requests.specs.declared.end.LinkEnd.{LinkEnd}
 use Rattle.http_requests.specs.declared.end.LinkEnd.TheVariants.{Closed, Cut, ReadFault, WriteFault, Limit, NoMemory}
 
--- the desk's run goes on by the call, and the reply was written: whole, or at a failure its first part
+-- The desk went on by the call, and the reply was written: whole, or at a failure its first part. `Run` tells of calls
+-- that the desk went on by them.
 pub record Answered (end : LinkEnd) (request : Incoming) (written now_written : Option (List ℕ))
-    (given now_given : Option (List Moment)) (known : Party → Bool) (Run Then : List Call → Type 0) : Type 0 where
+    (given now_given : Option (List Moment)) (known : Party → Bool) (Run : List Call → Type 0) : Type 0 where
   pub exchange : Exchange
   pub is_asked : incoming_of exchange ≡ request
-  pub extends : (calls : List Call) → Run calls → Then (calls ++ call_of exchange)
+  pub run : Run (call_of exchange)
   pub moments : Gives given (moment_of exchange) now_given
   pub wrote : Wrote end written now_written (reply_of known exchange)
 

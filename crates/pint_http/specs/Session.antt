@@ -104,8 +104,14 @@ Wrote WriteFault old new text = AppendsFirst old new text
 Wrote Limit old new text = Appends old new text
 Wrote NoMemory old new text = AppendsFirst old new text
 
--- The bytes that were read were cut into a session, however they came. `Run` is the desk's run up to its value at the
--- exit, and `known` its test of parties.
+-- Every run that ended at `old` goes on by these calls to `new`. With `run old [] old` it holds of `run old calls new`
+-- too.
+abbrev pub GoesOn : {K : Type 0} → (K → List Call → K → Type 0) → K → List Call → K → Type 0
+GoesOn {K} run old calls new =
+    (start : K) (before : List Call) → run start before old → run start (before ++ calls) new
+
+-- The bytes that were read were cut into a session, however they came. `Run` tells of calls that the desk went on by
+-- them from its value at the entry to its value at the exit, and `known` is its test of parties.
 pub record Served (end : LinkEnd) (left now_left written now_written : Option (List ℕ))
     (given now_given : Option (List Moment)) (known : Party → Bool) (Run : List Call → Type 0) : Type 0 where
   pub read : List ℕ

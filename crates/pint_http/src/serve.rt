@@ -8,7 +8,7 @@ ghost use Rattle.http_heads.specs.declared.status.Status.TheVariants as statuses
 ghost use Rattle.http_requests.specs.Asked.{MayBeAsked, asked_view, of_desk, of_party};
 ghost use Rattle.pint_http.specs.Answered.{Answered, IsReplyFault};
 ghost use Rattle.pint_http.specs.Reply.{known_body, reply_text};
-ghost use Rattle.pint_http.specs.Session.{Served, Wrote};
+ghost use Rattle.pint_http.specs.Session.{GoesOn, Served, Wrote};
 ghost use Rattle.std.specs.Io.KnownBytes.{Appends};
 
 use crate::known::known_body;
@@ -28,7 +28,9 @@ pub const MOST_REPLIES: u32 = 1_000_000;
 /// link, the input ends, a call of the link fails, memory runs out, or [`MOST_REPLIES`] replies are written.
 ///
 /// What is written is a function of the bytes that were read and of the desk's outcomes. The clock is read once for
-/// each request of the desk. A fault of the link is answered only if the link's count of faults rose.
+/// each request of the desk. Every run that ended at the desk at the entry goes on by the calls of the session, so the
+/// calls of several links that one desk serves are one run; the desk's test of parties stays. A fault of the link is
+/// answered only if the link's count of faults rose.
 ///
 /// It keeps at most 16,384 bytes, or one request, in memory, and copies each body once. A body that is refused by its
 /// head is left in the link behind those bytes.
@@ -39,7 +41,8 @@ pub fn serve_link<L: Link, K: Desk, C: Clock>(
     clock: &mut C,
 ) -> LinkEnd
     ensures served { Served result (L.left link.old) (L.left link.new) (L.written link.old) (L.written link.new)
-        (C.given clock.old) (C.given clock.new) (K.known desk.old) (λ calls. K.run desk.old calls desk.new) }
+        (C.given clock.old) (C.given clock.new) (K.known desk.old) (λ calls. GoesOn K.run desk.old calls desk.new) }
+    ensures known { (party : Party) → K.known desk.new party ≡ K.known desk.old party }
     ensures read_fault { result ≡ LinkEnd.ReadFault → Rose (L.faults link.old) (L.faults link.new) }
     ensures write_fault { result ≡ LinkEnd.WriteFault → Rose (L.faults link.old) (L.faults link.new) }
     ensures later { L.faults link.old ≤ L.faults link.new }
@@ -59,7 +62,8 @@ fn serve_with<L: Link, K: Desk, C: Clock>(
     plans: &Plans,
 ) -> LinkEnd
     ensures served { Served result (L.left link.old) (L.left link.new) (L.written link.old) (L.written link.new)
-        (C.given clock.old) (C.given clock.new) (K.known desk.old) (λ calls. K.run desk.old calls desk.new) }
+        (C.given clock.old) (C.given clock.new) (K.known desk.old) (λ calls. GoesOn K.run desk.old calls desk.new) }
+    ensures known { (party : Party) → K.known desk.new party ≡ K.known desk.old party }
     ensures read_fault { result ≡ LinkEnd.ReadFault → Rose (L.faults link.old) (L.faults link.new) }
     ensures write_fault { result ≡ LinkEnd.WriteFault → Rose (L.faults link.old) (L.faults link.new) }
     ensures later { L.faults link.old ≤ L.faults link.new }
@@ -107,14 +111,12 @@ fn answer<L: Link, K: Desk, C: Clock>(
     keeps: bool,
 ) -> Result<(), LinkEnd>
     requires { MayBeAsked asked }
-    ensures ok { OnOk result ((start : K)
-        → Answered LinkEnd.Closed (record { asks = asked_view asked; keeps = keeps })
+    ensures ok { OnOk result (Answered LinkEnd.Closed (record { asks = asked_view asked; keeps = keeps })
         (L.written link.old) (L.written link.new) (C.given clock.old) (C.given clock.new) (K.known desk.old)
-        (λ calls. K.run start calls desk.old) (λ calls. K.run start calls desk.new)) }
-    ensures err { IfErr result (λ e. (start : K)
-        → Answered e (record { asks = asked_view asked; keeps = keeps })
+        (λ calls. GoesOn K.run desk.old calls desk.new)) }
+    ensures err { IfErr result (λ e. Answered e (record { asks = asked_view asked; keeps = keeps })
         (L.written link.old) (L.written link.new) (C.given clock.old) (C.given clock.new) (K.known desk.old)
-        (λ calls. K.run start calls desk.old) (λ calls. K.run start calls desk.new)) }
+        (λ calls. GoesOn K.run desk.old calls desk.new)) }
     ensures fails { IfErr result (λ e. IsReplyFault e) }
     ensures known { (party : Party) → K.known desk.new party ≡ K.known desk.old party }
     ensures fault { IsErrOf result LinkEnd.WriteFault → Rose (L.faults link.old) (L.faults link.new) }
@@ -137,14 +139,12 @@ fn ask<L: Link, K: Desk, C: Clock>(
     keeps: bool,
 ) -> Result<(), LinkEnd>
     requires { MayAsk (request_view request) }
-    ensures ok { OnOk result ((start : K)
-        → Answered LinkEnd.Closed (record { asks = of_desk (request_view request); keeps = keeps })
+    ensures ok { OnOk result (Answered LinkEnd.Closed (record { asks = of_desk (request_view request); keeps = keeps })
         (L.written link.old) (L.written link.new) (C.given clock.old) (C.given clock.new) (K.known desk.old)
-        (λ calls. K.run start calls desk.old) (λ calls. K.run start calls desk.new)) }
-    ensures err { IfErr result (λ e. (start : K)
-        → Answered e (record { asks = of_desk (request_view request); keeps = keeps })
+        (λ calls. GoesOn K.run desk.old calls desk.new)) }
+    ensures err { IfErr result (λ e. Answered e (record { asks = of_desk (request_view request); keeps = keeps })
         (L.written link.old) (L.written link.new) (C.given clock.old) (C.given clock.new) (K.known desk.old)
-        (λ calls. K.run start calls desk.old) (λ calls. K.run start calls desk.new)) }
+        (λ calls. GoesOn K.run desk.old calls desk.new)) }
     ensures fails { IfErr result (λ e. IsReplyFault e) }
     ensures known { (party : Party) → K.known desk.new party ≡ K.known desk.old party }
     ensures fault { IsErrOf result LinkEnd.WriteFault → Rose (L.faults link.old) (L.faults link.new) }
