@@ -117,10 +117,14 @@ fn tell_failing(
     Ok(())
 }
 
-// The journal on a disk of which calls fail.
+// The fresh journal on a disk of which calls fail.
 fn opened(alloc: Global, fails: &[u64], done: &[u64]) -> Result<Journal<MemoryDisk>, Fail> {
     let failures = failures(alloc, fails, done)?;
-    match Journal::open(alloc, disk_of(alloc, b"\x01\0", failures)?) {
+    opened_on(alloc, disk_of(alloc, b"\x01\0", failures)?)
+}
+
+fn opened_on(alloc: Global, disk: MemoryDisk) -> Result<Journal<MemoryDisk>, Fail> {
+    match Journal::open(alloc, disk) {
         Ok((journal, _)) => Ok(journal),
         Err((disk, _)) => {
             drop(disk);
@@ -424,6 +428,50 @@ fn tell_going_on<R: Abort>(
     Ok(())
 }
 
+// Two bytes of a journal's frames from a place on; `None` where they aren't there or can't be read.
+fn two_from<D: Disk>(journal: &mut Journal<D>, place: u64) -> Option<[u8; 2]> {
+    let last = journal.end().checked_sub(2)?;
+    if last < place {
+        return None;
+    }
+    let mut into = [0; 2];
+    journal.fetch(place, &mut into).ok()?;
+    Some(into)
+}
+
+// The places of two bytes in the three frames, and the bytes; the first fetch fails.
+const FETCHES: [(u64, Option<[u8; 2]>); 5] = [
+    (12, None),
+    (12, Some(*b"bc")),
+    (0, Some([1, 1])),
+    (17, Some([0, 0])),
+    (18, None),
+];
+
+// A fetch that fails leaves the journal as it was: the next one reads, and the next append is done.
+#[test]
+fn a_fetch_fails(rt: HostRuntime) -> Result<(), Fail> {
+    let failures = failures(rt.alloc(), &[3], &[])?;
+    let mut journal = opened_on(rt.alloc(), disk_of(rt.alloc(), &THREE, failures)?)?;
+    for &(place, bytes) in &FETCHES {
+        tell_fetch(&rt, &mut journal, place, bytes);
+    }
+    let appended = append(rt.alloc(), &mut journal, b"d");
+    drop(journal);
+    same(&rt, appended?, None);
+    Ok(())
+}
+
+fn tell_fetch<R: Abort>(
+    rt: &R,
+    journal: &mut Journal<MemoryDisk>,
+    place: u64,
+    bytes: Option<[u8; 2]>,
+) {
+    same(rt, two_from(journal, place), bytes);
+    same(rt, journal.is_loose(), false);
+}
+
 fn open_file(rt: &HostRuntime, folder: &str, path: &str) -> Result<Journal<FileDisk>, Fail> {
     match Journal::open(rt.alloc(), FileDisk::open(rt, folder, path)?) {
         Ok((journal, _)) => Ok(journal),
@@ -486,6 +534,7 @@ fn tell_only_read<R: Abort>(rt: &R, alloc: Global, disk: FileDisk) -> Result<(),
     match Journal::open(alloc, disk) {
         Ok((mut journal, frames)) => {
             same(rt, frames.len(), 3);
+            same(rt, two_from(&mut journal, 12), Some(*b"bc"));
             tell_refused(rt, alloc, &mut journal)?;
             same(rt, journal.close().faults(), 1);
         }
