@@ -1,24 +1,16 @@
 -- A body shows one thing at most, or has one refusal at most, and never both.
-use Rattle.std.proofs.Common.{◌≡◌, ◌≢◌, ◌⊎◌, inl, inr, ℕ, true, List, Option, Some, None, Ok, Err, refl, ap, sym, subst, ◌∙◌}
+use Rattle.std.proofs.Common.{◌≡◌, ◌≢◌, inl, inr, ℕ, List, Some, None, Ok, Err, ap, sym, subst, ◌∙◌}
 use Rattle.ebl_base.specs.declared.chain.ChainLink.{ChainLink}
-use Rattle.ebl_base.specs.declared.checksum.Checksum.{Checksum}
-use Rattle.ebl_base.specs.declared.platform_code.PlatformCode.{PlatformCode}
 use Rattle.ebl_base.specs.declared.reason.Reason.{Reason}
-use Rattle.ebl_base.specs.declared.reason.Reason.TheVariants as reasons
 use Rattle.ebl_base.specs.declared.signed_text.SignedText.{SignedText}
-use Rattle.ebl_base.proofs.SameLemmas.{code_eq-Decides}
 use Rattle.canonical_json.specs.Value.{Value}
 use Rattle.canonical_json.specs.Reading.{Reads}
 use Rattle.signed_envelope.specs.KeyRing.{Keys}
-use Rattle.signed_envelope.specs.Refusal as envelope
 use Rattle.signed_envelope.specs.SignedText.{IsSigned}
-use Rattle.signed_envelope.specs.declared.fault.BadSigned.{BadSigned}
-use Rattle.signed_envelope.specs.declared.fault.BadSigned.TheVariants as bad
 use Rattle.party_roster.specs.RosterRecord.{RosterRecord}
 use Rattle.transport_document.specs.DocumentRecord.{DocumentRecord, bill_of}
 use Rattle.transport_document.specs.Reading.{document_of}
 use Rattle.envelope_manifest.specs.Body.{BodyRecord, IsWrongAt, ReadsAs, body_of}
-use Rattle.envelope_manifest.specs.Manifest.{manifest_of}
 use Rattle.envelope_manifest.specs.declared.fault.BodyField.{BodyField}
 use Rattle.envelope_manifest.specs.declared.manifest.Manifest.{Manifest}
 use Rattle.envelope_manifest.proofs.WholeBodies.{body_once}
@@ -27,16 +19,13 @@ use Rattle.transfer_chain.specs.GoodChain.{IsGoodChain}
 use Rattle.transfer_chain.specs.Refusal as chains
 use Rattle.transfer_chain.specs.declared.fault.ChainRefusal.{ChainRefusal}
 use Rattle.transfer_chain.specs.declared.fault.ChainRefusal.TheVariants as stops
+use Rattle.end_manifest.specs.EndManifest.{IsManifestRefused, reason_for}
+use Rattle.end_manifest.proofs.ManifestLemmas.{refused_is_none, same_manifest, same_reason}
 use Rattle.platform_machine.specs.declared.refusal.Refusal.{Refusal}
-use Rattle.platform_machine.specs.Preface.{AreNames, ArePartsRefused, Envelops, IsEnvelopeRefused, IsManifestRefused, IsOtherForm, IsRefused, IsUnsigned, Manifests, NamesOthers, ShownRecord, Shows, ShowsIn, reason_for, refusal_of}
+use Rattle.platform_machine.specs.Preface.{ArePartsRefused, Envelops, IsEnvelopeRefused, IsRefused, ShownRecord, Shows, ShowsIn, refusal_of}
 
--- what is known of signed texts and of chains
+-- what is known of chains
 pub record Exclusions : Type 0 where
-  pub signed_once : (keys : Keys) (most : ℕ) (text : List ℕ) (p q : PlatformCode) (v w : Value)
-      → IsSigned keys most text p v → IsSigned keys most text q w → (p ≡ q) × (v ≡ w)
-  pub not_signed : (keys : Keys) (most : ℕ) (asked : Option PlatformCode) (text : List ℕ) (e : BadSigned)
-      (who : PlatformCode) (value : Value) → envelope.IsRefused keys most asked text e → e ≢ bad.NoMemory
-      → IsSigned keys most text who value → envelope.is_asked asked who ≡ true → ⊥
   pub no_good_chain : (roster : RosterRecord) (keys : Keys) (document : DocumentRecord) (texts : List SignedText)
       (chain : List ChainLink) (refusal : ChainRefusal) → chains.IsRefused roster keys document texts refusal
       → refusal ≢ stops.NoMemory → IsGoodChain roster keys document texts chain → ⊥
@@ -47,49 +36,6 @@ pub record Exclusions : Type 0 where
       (one other : ChainRefusal) → chains.IsRefused roster keys document texts one
       → chains.IsRefused roster keys document texts other → one ≢ stops.NoMemory → other ≢ stops.NoMemory
       → one ≡ other
-
--- ---- the manifest
-
--- a text is one manifest of this entry's platform
-manifest_once : (laws : Exclusions) (keys : Keys) (end : ChainLink) (text : SignedText) (v w : Value) (a b : Manifest)
-    → IsSigned keys 16384 text.0 end.entry.platform v → manifest_of v ≡ Ok a
-    → IsSigned keys 16384 text.0 end.entry.platform w → manifest_of w ≡ Ok b → a ≡ b
-manifest_once laws keys end text v w a b first a_is second b_is =
-    let values = (laws.signed_once keys 16384 text.0 end.entry.platform end.entry.platform v w first second).1 in
-    let both : Ok a ≡ Ok b = sym a_is ∙ ap manifest_of values ∙ b_is in
-    cc both
-
-manifest_not_refused : (laws : Exclusions) (keys : Keys) (bill : Checksum) (end : ChainLink) (text : SignedText)
-    (manifest : Manifest) (reason : Reason) → Manifests keys bill end text manifest
-    → IsManifestRefused keys bill end text reason → ⊥
-manifest_not_refused laws keys bill end text manifest reasons.ManifestSignature is (why, not_memory, refused) =
-    laws.not_signed keys 16384 (Some end.entry.platform) text.0 why end.entry.platform is.payload refused not_memory
-    is.signed ((code_eq-Decides end.entry.platform end.entry.platform).1 refl)
-manifest_not_refused laws keys bill end text manifest reasons.ManifestForm is (payload, field, signed, wrong) =
-    let values =
-    (laws.signed_once keys 16384 text.0 end.entry.platform end.entry.platform payload is.payload signed is.signed).1 in
-    let both : Err field ≡ Ok manifest = sym wrong ∙ ap manifest_of values ∙ is.manifest_is in
-    cc both
-manifest_not_refused laws keys bill end text manifest reasons.ManifestNames is (payload, other, signed, other_is, differs) =
-    differs (subst (AreNames bill end)
-    (manifest_once laws keys end text is.payload payload manifest other is.signed is.manifest_is signed other_is) is.names)
-manifest_not_refused laws keys bill end text manifest reasons.Body is refused = refused
-manifest_not_refused laws keys bill end text manifest reasons.Document is refused = refused
-manifest_not_refused laws keys bill end text manifest reasons.Length is refused = refused
-manifest_not_refused laws keys bill end text manifest (reasons.Signature i) is refused = refused
-manifest_not_refused laws keys bill end text manifest (reasons.Entry i) is refused = refused
-manifest_not_refused laws keys bill end text manifest (reasons.Signer i) is refused = refused
-manifest_not_refused laws keys bill end text manifest (reasons.Link i) is refused = refused
-manifest_not_refused laws keys bill end text manifest (reasons.Bill i) is refused = refused
-manifest_not_refused laws keys bill end text manifest reasons.Carrier is refused = refused
-manifest_not_refused laws keys bill end text manifest (reasons.Platform i) is refused = refused
-manifest_not_refused laws keys bill end text manifest (reasons.Fold i) is refused = refused
-manifest_not_refused laws keys bill end text manifest (reasons.Move i) is refused = refused
-manifest_not_refused laws keys bill end text manifest reasons.Destination is refused = refused
-manifest_not_refused laws keys bill end text manifest reasons.Party is refused = refused
-manifest_not_refused laws keys bill end text manifest reasons.Parts is refused = refused
-manifest_not_refused laws keys bill end text manifest reasons.NotListed is refused = refused
-manifest_not_refused laws keys bill end text manifest reasons.Bytes is refused = refused
 
 -- ---- the envelope
 
@@ -110,8 +56,9 @@ envelope_not_refused laws roster keys document parts chain manifest reason is (i
 envelope_not_refused laws roster keys document parts chain manifest reason is (inr end) =
     let chains_are = laws.chain_once roster keys document parts.chain end.chain chain end.good is.good in
     let ends_are = same_end end.chain chain end.end is.end chains_are end.end_is is.end_is in
-    manifest_not_refused laws keys (bill_of document) is.end parts.manifest manifest reason is.manifests
+    refused_is_none keys (bill_of document) is.end parts.manifest manifest reason
     (subst (λ (l : ChainLink). IsManifestRefused keys (bill_of document) l parts.manifest reason) ends_are end.refused)
+    is.manifests
 
 -- ---- the body
 
@@ -165,72 +112,11 @@ shown_once laws roster keys bytes a b first second =
     subst (λ (l : ChainLink). IsSigned keys 16384 b.parts.manifest.0 l.entry.platform one.manifests.payload) ends_are
     (subst (λ (p : BodyRecord). IsSigned keys 16384 p.manifest.0 one.end.entry.platform one.manifests.payload) parts
     one.manifests.signed) in
-    let manifests = manifest_once laws keys two.end b.parts.manifest one.manifests.payload two.manifests.payload
+    let manifests = same_manifest keys two.end b.parts.manifest one.manifests.payload two.manifests.payload
     a.manifest b.manifest one_signed one.manifests.manifest_is two.manifests.signed two.manifests.manifest_is in
     λ i. record { parts = parts i; document = documents i; chain = chains_are i; manifest = manifests i }
 
 -- ---- one refusal
-
--- why a manifest is refused, with its reason
-abbrev Cause : Keys → Checksum → ChainLink → SignedText → Reason → Type 0
-Cause keys bill end text reason =
-    ((reason ≡ reasons.ManifestSignature) × IsUnsigned keys end text)
-    ⊎ (((reason ≡ reasons.ManifestForm) × IsOtherForm keys end text)
-    ⊎ ((reason ≡ reasons.ManifestNames) × NamesOthers keys bill end text))
-
-cause_of : (keys : Keys) (bill : Checksum) (end : ChainLink) (text : SignedText) (reason : Reason)
-    → IsManifestRefused keys bill end text reason → Cause keys bill end text reason
-cause_of keys bill end text reasons.ManifestSignature refused = inl (refl, refused)
-cause_of keys bill end text reasons.ManifestForm refused = inr (inl (refl, refused))
-cause_of keys bill end text reasons.ManifestNames refused = inr (inr (refl, refused))
-cause_of keys bill end text reasons.Body refused = absurd refused
-cause_of keys bill end text reasons.Document refused = absurd refused
-cause_of keys bill end text reasons.Length refused = absurd refused
-cause_of keys bill end text (reasons.Signature i) refused = absurd refused
-cause_of keys bill end text (reasons.Entry i) refused = absurd refused
-cause_of keys bill end text (reasons.Signer i) refused = absurd refused
-cause_of keys bill end text (reasons.Link i) refused = absurd refused
-cause_of keys bill end text (reasons.Bill i) refused = absurd refused
-cause_of keys bill end text reasons.Carrier refused = absurd refused
-cause_of keys bill end text (reasons.Platform i) refused = absurd refused
-cause_of keys bill end text (reasons.Fold i) refused = absurd refused
-cause_of keys bill end text (reasons.Move i) refused = absurd refused
-cause_of keys bill end text reasons.Destination refused = absurd refused
-cause_of keys bill end text reasons.Party refused = absurd refused
-cause_of keys bill end text reasons.Parts refused = absurd refused
-cause_of keys bill end text reasons.NotListed refused = absurd refused
-cause_of keys bill end text reasons.Bytes refused = absurd refused
-
-unsigned_not_signed : (laws : Exclusions) (keys : Keys) (end : ChainLink) (text : SignedText) (value : Value)
-    → IsUnsigned keys end text → IsSigned keys 16384 text.0 end.entry.platform value → ⊥
-unsigned_not_signed laws keys end text value (why, not_memory, refused) signed =
-    laws.not_signed keys 16384 (Some end.entry.platform) text.0 why end.entry.platform value refused not_memory signed
-    ((code_eq-Decides end.entry.platform end.entry.platform).1 refl)
-
-form_or_names : (laws : Exclusions) (keys : Keys) (bill : Checksum) (end : ChainLink) (text : SignedText)
-    → IsOtherForm keys end text → NamesOthers keys bill end text → ⊥
-form_or_names laws keys bill end text (payload, field, signed, wrong) (other, manifest, also, is, differs) =
-    let values = (laws.signed_once keys 16384 text.0 end.entry.platform end.entry.platform payload other signed also).1 in
-    let both : Err field ≡ Ok manifest = sym wrong ∙ ap manifest_of values ∙ is in
-    cc both
-
-manifest_reason_once : (laws : Exclusions) (keys : Keys) (bill : Checksum) (end : ChainLink) (text : SignedText)
-    (a b : Reason) → Cause keys bill end text a → Cause keys bill end text b → a ≡ b
-manifest_reason_once laws keys bill end text a b (inl (is, x)) (inl (also, y)) = is ∙ sym also
-manifest_reason_once laws keys bill end text a b (inl (is, x)) (inr (inl (also, y))) =
-    absurd (unsigned_not_signed laws keys end text y.0 x y.2)
-manifest_reason_once laws keys bill end text a b (inl (is, x)) (inr (inr (also, y))) =
-    absurd (unsigned_not_signed laws keys end text y.0 x y.2)
-manifest_reason_once laws keys bill end text a b (inr (inl (is, x))) (inl (also, y)) =
-    absurd (unsigned_not_signed laws keys end text x.0 y x.2)
-manifest_reason_once laws keys bill end text a b (inr (inl (is, x))) (inr (inl (also, y))) = is ∙ sym also
-manifest_reason_once laws keys bill end text a b (inr (inl (is, x))) (inr (inr (also, y))) =
-    absurd (form_or_names laws keys bill end text x y)
-manifest_reason_once laws keys bill end text a b (inr (inr (is, x))) (inl (also, y)) =
-    absurd (unsigned_not_signed laws keys end text x.0 y x.2)
-manifest_reason_once laws keys bill end text a b (inr (inr (is, x))) (inr (inl (also, y))) =
-    absurd (form_or_names laws keys bill end text y x)
-manifest_reason_once laws keys bill end text a b (inr (inr (is, x))) (inr (inr (also, y))) = is ∙ sym also
 
 reason_once : (laws : Exclusions) (roster : RosterRecord) (keys : Keys) (document : DocumentRecord)
     (parts : BodyRecord) (a b : Reason) → IsEnvelopeRefused roster keys document parts a
@@ -247,10 +133,9 @@ reason_once laws roster keys document parts a b (inr end) (inl (other, also, too
 reason_once laws roster keys document parts a b (inr end) (inr too) =
     let chains_are = laws.chain_once roster keys document parts.chain end.chain too.chain end.good too.good in
     let ends_are = same_end end.chain too.chain end.end too.end chains_are end.end_is too.end_is in
-    manifest_reason_once laws keys (bill_of document) too.end parts.manifest a b
-    (cause_of keys (bill_of document) too.end parts.manifest a
-    (subst (λ (l : ChainLink). IsManifestRefused keys (bill_of document) l parts.manifest a) ends_are end.refused))
-    (cause_of keys (bill_of document) too.end parts.manifest b too.refused)
+    same_reason keys (bill_of document) too.end parts.manifest a b
+    (subst (λ (l : ChainLink). IsManifestRefused keys (bill_of document) l parts.manifest a) ends_are end.refused)
+    too.refused
 
 parts_refusal_once : (laws : Exclusions) (roster : RosterRecord) (keys : Keys) (parts : BodyRecord) (r q : Refusal)
     → ArePartsRefused roster keys parts r → ArePartsRefused roster keys parts q → r ≡ q

@@ -1,91 +1,29 @@
 -- What a body shows before any diary is looked at, or the first thing that is wrong with it: its form, the document,
 -- the chain, the manifest's signature, the manifest's form, the manifest's names.
-use Rattle.std.specs.Prelude.{◌≡◌, ◌≢◌, ◌⊎◌, ◌≤◌, ◌-◌, ℕ, List, Option, Some, None, Ok, Err, length, option_map, slice_get}
-use Rattle.ebl_base.specs.declared.limits.TheConstants.{MAX_SIGNED_TEXT}
+use Rattle.std.specs.Prelude.{◌≡◌, ◌⊎◌, ◌≤◌, ◌-◌, ℕ, List, Option, Some, None, Ok, Err, length, option_map, slice_get}
 use Rattle.ebl_base.specs.declared.chain.ChainLink.{ChainLink}
 use Rattle.ebl_base.specs.declared.checksum.Checksum.{Checksum}
 use Rattle.ebl_base.specs.declared.reason.Reason.{Reason}
 use Rattle.ebl_base.specs.declared.reason.Reason.TheVariants as reasons
 use Rattle.ebl_base.specs.declared.signed_text.SignedText.{SignedText}
-use Rattle.canonical_json.specs.Value.{Value, depth}
+use Rattle.canonical_json.specs.Value.{depth}
 use Rattle.document_checksum.specs.Digest.{checksum_of}
 use Rattle.signed_envelope.specs.KeyRing.{Keys}
-use Rattle.signed_envelope.specs.Refusal as envelope
-use Rattle.signed_envelope.specs.SignedText.{IsSigned}
-use Rattle.signed_envelope.specs.declared.fault.BadSigned.{BadSigned}
-use Rattle.signed_envelope.specs.declared.fault.BadSigned.TheVariants as bad
 use Rattle.party_roster.specs.RosterRecord.{RosterRecord}
 use Rattle.transport_document.specs.DocumentRecord.{DocumentRecord, bill_of}
 use Rattle.transport_document.specs.Reading.{document_of}
 use Rattle.transport_document.specs.declared.fault.DocumentFault.{DocumentFault}
 use Rattle.envelope_manifest.specs.Body.{BodyRecord, IsBody, IsWrongAt, ReadsAs}
-use Rattle.envelope_manifest.specs.Manifest.{IsManifest, manifest_of}
 use Rattle.envelope_manifest.specs.declared.fault.BodyField.{BodyField}
-use Rattle.envelope_manifest.specs.declared.fault.ManifestField.{ManifestField}
 use Rattle.envelope_manifest.specs.declared.manifest.Manifest.{Manifest}
 use Rattle.bill_chain.specs.Chain.{last_of}
 use Rattle.transfer_chain.specs.GoodChain.{IsGoodChain}
 use Rattle.transfer_chain.specs.Refusal as chains
 use Rattle.transfer_chain.specs.declared.fault.ChainRefusal.{ChainRefusal}
-use Rattle.transfer_chain.specs.declared.fault.ChainRefusal.TheVariants.{Empty, TooLong, BadSignature, EntryForm, WrongSigner, BrokenLink, WrongBill, Carrier, WrongPlatform, Fold, Move, NoMemory}
+use Rattle.end_manifest.specs.EndManifest.{IsManifestRefused, Manifests, reason_for}
 use Rattle.platform_machine.specs.declared.refusal.Refusal.{Refusal}
 
--- ---- the manifest
-
--- the manifest names this bill, and the last entry of the chain
-abbrev pub AreNames : Checksum → ChainLink → Manifest → Type 0
-AreNames bill end manifest = (manifest.bill ≡ bill) × (manifest.last ≡ end.name)
-
--- the text is a manifest that the last entry's platform signed, and that names the bill and the entry
-pub record Manifests (keys : Keys) (bill : Checksum) (end : ChainLink) (text : SignedText) (manifest : Manifest)
-    : Type 0 where
-  pub payload : Value
-  pub signed : IsSigned keys MAX_SIGNED_TEXT text.0 end.entry.platform payload
-  pub manifest_is : manifest_of payload ≡ Ok manifest
-  pub form : IsManifest manifest
-  pub names : AreNames bill end manifest
-
--- it isn't signed by that platform
-abbrev pub IsUnsigned : Keys → ChainLink → SignedText → Type 0
-IsUnsigned keys end text =
-    (why : BadSigned) × (why ≢ bad.NoMemory)
-    × envelope.IsRefused keys MAX_SIGNED_TEXT (Some end.entry.platform) text.0 why
-
--- it is, and its payload is no manifest
-abbrev pub IsOtherForm : Keys → ChainLink → SignedText → Type 0
-IsOtherForm keys end text =
-    (payload : Value) × (field : ManifestField) × IsSigned keys MAX_SIGNED_TEXT text.0 end.entry.platform payload
-    × (manifest_of payload ≡ Err field)
-
--- it is a manifest, of another bill or entry
-abbrev pub NamesOthers : Keys → Checksum → ChainLink → SignedText → Type 0
-NamesOthers keys bill end text =
-    (payload : Value) × (manifest : Manifest) × IsSigned keys MAX_SIGNED_TEXT text.0 end.entry.platform payload
-    × (manifest_of payload ≡ Ok manifest) × ¬ AreNames bill end manifest
-
--- the first of these that applies
-abbrev pub IsManifestRefused : Keys → Checksum → ChainLink → SignedText → Reason → Type 0
-IsManifestRefused keys bill end text reasons.ManifestSignature = IsUnsigned keys end text
-IsManifestRefused keys bill end text reasons.ManifestForm = IsOtherForm keys end text
-IsManifestRefused keys bill end text reasons.ManifestNames = NamesOthers keys bill end text
-IsManifestRefused keys bill end text reason = ⊥
-
 -- ---- the chain and the manifest
-
--- the reason with which a chain's refusal is answered; running out of memory has none
-abbrev pub reason_for : ChainRefusal → Option Reason
-reason_for Empty = Some reasons.Length
-reason_for TooLong = Some reasons.Length
-reason_for (BadSignature i why) = Some (reasons.Signature i)
-reason_for (EntryForm i field) = Some (reasons.Entry i)
-reason_for (WrongSigner i) = Some (reasons.Signer i)
-reason_for (BrokenLink i) = Some (reasons.Link i)
-reason_for (WrongBill i) = Some (reasons.Bill i)
-reason_for Carrier = Some reasons.Carrier
-reason_for (WrongPlatform i) = Some (reasons.Platform i)
-reason_for (Fold i k rule) = Some (reasons.Fold i)
-reason_for (Move i) = Some (reasons.Move i)
-reason_for NoMemory = None
 
 -- a good chain of the document's bill, and its manifest
 pub record Envelops (roster : RosterRecord) (keys : Keys) (document : DocumentRecord) (parts : BodyRecord)

@@ -35,9 +35,7 @@ use bill_diary::{Frame, Record};
 use chain_entry::written_entries_are_lawful;
 use ebl_base::{ChainLink, Checksum, Moment, Party, PlatformCode, Reference, Transaction};
 use envelope_manifest::{written_bodies_read_back, written_manifests_read_back};
-use signed_envelope::{
-    composed_text_is_signed, refused_text_is_not_signed, signed_text_has_one_reading,
-};
+use signed_envelope::composed_text_is_signed;
 use transfer_chain::{refused_texts_are_no_good_chain, refused_texts_have_one_refusal};
 use transport_document::document_texts_read_back;
 
@@ -151,8 +149,6 @@ pub fn body_has_at_most_one_reading_or_refusal()
     ensures never_both { (roster : RosterRecord) (keys : Keys) (body : List ℕ) (s : ShownRecord) (refusal : Refusal)
         → Shows roster keys body s → IsRefused roster keys body refusal → ⊥ }
 {
-    signed_text_has_one_reading();
-    refused_text_is_not_signed();
     refused_texts_are_no_good_chain();
     refused_texts_have_one_refusal();
 }

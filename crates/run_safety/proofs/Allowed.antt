@@ -30,8 +30,9 @@ use Rattle.bill_diary.specs.declared.record.Record.{Record}
 use Rattle.bill_diary.specs.Pieces.{is_there, missing_of}
 use Rattle.transfer_judge.specs.declared.judgement.Judgement.TheVariants.{Elsewhere, Duplicate, Unknown, Missing, Accept}
 use Rattle.transfer_judge.proofs.FormLemmas.{checksum_form}
+use Rattle.end_manifest.specs.EndManifest.{IsManifestRefused, reason_for}
 use Rattle.platform_machine.specs.declared.refusal.Refusal.{Refusal}
-use Rattle.platform_machine.specs.Preface.{IsRefused, IsEnvelopeRefused, IsManifestRefused, last_text_name, reason_for}
+use Rattle.platform_machine.specs.Preface.{IsRefused, IsEnvelopeRefused, last_text_name}
 use Rattle.platform_machine.specs.Answer.{document_response, refusal_response, no_evidence, subject_of}
 use Rattle.platform_machine.specs.Judged.{response_for}
 

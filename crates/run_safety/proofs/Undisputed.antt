@@ -32,13 +32,14 @@ use Rattle.transfer_judge.specs.declared.judgement.Judgement.TheVariants.{Elsewh
 use Rattle.transfer_judge.specs.declared.planned.Planned.TheVariants.{Nothing, Add, Part}
 use Rattle.transfer_judge.specs.declared.planned.PlanRefusal.{PlanRefusal}
 use Rattle.transfer_judge.specs.declared.planned.PlanRefusal.TheVariants as refusals
+use Rattle.end_manifest.specs.EndManifest.{IsManifestRefused, reason_for}
 use Rattle.platform_machine.specs.declared.step.Step.{Step}
 use Rattle.platform_machine.specs.Answer.{IsAnswer, reference_for, refusal_response, subject_of}
 use Rattle.platform_machine.specs.Commanding.{FollowsPlan, IsThere, StepsAtCommand, reply_to}
 use Rattle.platform_machine.specs.Hearing.{StepsAtAnswer}
 use Rattle.platform_machine.specs.Judged.{response_for}
 use Rattle.platform_machine.specs.Machine.{Steps}
-use Rattle.platform_machine.specs.Preface.{IsEnvelopeRefused, IsManifestRefused, IsRefused, reason_for}
+use Rattle.platform_machine.specs.Preface.{IsEnvelopeRefused, IsRefused}
 use Rattle.platform_machine.specs.Receiving.{SaysAtStart, judgement_at_finish, judgement_at_start}
 use Rattle.platform_machine.specs.declared.refusal.Refusal.{Refusal}
 use Rattle.run_safety.specs.Network.{Network}

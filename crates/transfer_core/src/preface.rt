@@ -1,20 +1,20 @@
 //! What a body shows, before any diary is looked at.
-ghost use Rattle.std.specs.Prelude.{◌≡◌, ◌↔◌, IfErr, IfOk, IsTrue, None, Some, option_copied};
+ghost use Rattle.std.specs.Prelude.{◌≡◌, IfErr, IfOk, None, Some, option_copied};
 ghost use Rattle.bill_chain.specs.Chain.{last_of};
 ghost use Rattle.envelope_manifest.specs.Body.{IsBody, ReadsAs, body_view};
 ghost use Rattle.transport_document.specs.DocumentRecord.{bill_of};
-ghost use Rattle.platform_machine.specs.Preface.{AreNames, ArePartsRefused, Envelops, IsEnvelopeRefused, IsManifestRefused, IsRefused, Manifests, Shows, ShowsIn, last_text_name, reason_for, refusal_of};
+ghost use Rattle.end_manifest.specs.EndManifest.{reason_for};
+ghost use Rattle.platform_machine.specs.Preface.{ArePartsRefused, Envelops, IsEnvelopeRefused, IsRefused, Shows, ShowsIn, last_text_name, refusal_of};
 ghost use Rattle.transfer_core.specs.Shown.{IsStop, shown_view, stop_with};
 
 use bill_chain::last_link;
 use document_checksum::checksum;
-use ebl_base::{
-    Chain, ChainLink, Checksum, MAX_SIGNED_TEXT, NoMemory, Reason, SignedText, TextList,
-};
-use envelope_manifest::{Body, BodyFault, Manifest, ManifestFault, decode};
+use ebl_base::{Chain, Checksum, NoMemory, Reason, TextList};
+use end_manifest::{EndFault, read_manifest, reason_for};
+use envelope_manifest::{Body, BodyFault, Manifest};
 use party_roster::Roster;
 use platform_machine::Refusal;
-use signed_envelope::{BadSigned, KeyRing, verify_text};
+use signed_envelope::KeyRing;
 use std::alloc::Global;
 use transfer_chain::{ChainRefusal, check};
 use transport_document::{Document, DocumentFault};
@@ -131,8 +131,11 @@ fn read_envelope<G: KeyRing>(
     let Some(end) = last_link(chain.as_slice()) else {
         unreachable!()
     };
-    let manifest = read_manifest(alloc, ring, document.bill(), end, &body.manifest)?;
-    Ok(Envelope { chain, manifest })
+    match read_manifest(alloc, ring, document.bill(), end, &body.manifest) {
+        Ok(manifest) => Ok(Envelope { chain, manifest }),
+        Err(EndFault::Refused(reason)) => Err(Stop::Refused(reason)),
+        Err(EndFault::NoMemory) => Err(Stop::NoMemory),
+    }
 }
 
 // How the refusal of a chain stops the reading of its body.
@@ -143,62 +146,4 @@ fn stop_for(refusal: ChainRefusal) -> Stop
         Some(reason) => Stop::Refused(reason),
         None => Stop::NoMemory,
     }
-}
-
-fn reason_for(refusal: ChainRefusal) -> Option<Reason>
-    ensures { result ≡ reason_for refusal }
-{
-    match refusal {
-        ChainRefusal::Empty | ChainRefusal::TooLong => Some(Reason::Length),
-        ChainRefusal::BadSignature(i, _) => Some(Reason::Signature(i)),
-        ChainRefusal::EntryForm(i, _) => Some(Reason::Entry(i)),
-        ChainRefusal::WrongSigner(i) => Some(Reason::Signer(i)),
-        ChainRefusal::BrokenLink(i) => Some(Reason::Link(i)),
-        ChainRefusal::WrongBill(i) => Some(Reason::Bill(i)),
-        ChainRefusal::Carrier => Some(Reason::Carrier),
-        ChainRefusal::WrongPlatform(i) => Some(Reason::Platform(i)),
-        ChainRefusal::Fold(i, _, _) => Some(Reason::Fold(i)),
-        ChainRefusal::Move(i) => Some(Reason::Move(i)),
-        ChainRefusal::NoMemory => None,
-    }
-}
-
-// The manifest that a text is, signed by the last entry's platform, of the bill and that entry.
-fn read_manifest<G: KeyRing>(
-    alloc: Global,
-    ring: &G,
-    bill: Checksum,
-    end: &ChainLink,
-    text: &SignedText,
-) -> Result<Manifest, Stop>
-    ensures ok { IfOk result (Manifests (G.keys ring.now) bill end.now text.now) }
-    ensures err { IfErr result (IsStop (IsManifestRefused (G.keys ring.now) bill end.now text.now)) }
-{
-    let payload = match verify_text(
-        alloc,
-        ring,
-        text.0.as_slice(),
-        end.entry.platform,
-        MAX_SIGNED_TEXT,
-    ) {
-        Ok(payload) => payload,
-        Err(BadSigned::NoMemory) => return Err(Stop::NoMemory),
-        Err(_) => return Err(Stop::Refused(Reason::ManifestSignature)),
-    };
-    let manifest = match decode(alloc, &payload) {
-        Ok(manifest) => manifest,
-        Err(ManifestFault::NoMemory) => return Err(Stop::NoMemory),
-        Err(_) => return Err(Stop::Refused(Reason::ManifestForm)),
-    };
-    if !are_names(bill, end, &manifest) {
-        return Err(Stop::Refused(Reason::ManifestNames));
-    }
-    Ok(manifest)
-}
-
-// Whether a manifest names this bill and the last entry.
-fn are_names(bill: Checksum, end: &ChainLink, manifest: &Manifest) -> bool
-    ensures { IsTrue result ↔ AreNames bill end.now manifest.now }
-{
-    manifest.bill == bill && manifest.last == end.name
 }

@@ -4,8 +4,6 @@ use Rattle.platform_machine.proofs.laws.body_has_at_most_one_reading_or_refusal.
 pub returns-clause-shown : goal.returns-clause-shown
 returns-clause-shown c =
     shown_once (record {
-      signed_once = c.signed_text_has_one_reading.ensures.signed;
-      not_signed = c.refused_text_is_not_signed.ensures;
       no_good_chain = c.refused_texts_are_no_good_chain.ensures.refused;
       chain_once = c.refused_texts_are_no_good_chain.ensures.one;
       refused_once = c.refused_texts_have_one_refusal.ensures;
@@ -14,8 +12,6 @@ returns-clause-shown c =
 pub returns-clause-refused : goal.returns-clause-refused
 returns-clause-refused c =
     refusal_once (record {
-      signed_once = c.signed_text_has_one_reading.ensures.signed;
-      not_signed = c.refused_text_is_not_signed.ensures;
       no_good_chain = c.refused_texts_are_no_good_chain.ensures.refused;
       chain_once = c.refused_texts_are_no_good_chain.ensures.one;
       refused_once = c.refused_texts_have_one_refusal.ensures;
@@ -24,8 +20,6 @@ returns-clause-refused c =
 pub returns-clause-never_both : goal.returns-clause-never_both
 returns-clause-never_both c =
     shown_not_refused (record {
-      signed_once = c.signed_text_has_one_reading.ensures.signed;
-      not_signed = c.refused_text_is_not_signed.ensures;
       no_good_chain = c.refused_texts_are_no_good_chain.ensures.refused;
       chain_once = c.refused_texts_are_no_good_chain.ensures.one;
       refused_once = c.refused_texts_have_one_refusal.ensures;
