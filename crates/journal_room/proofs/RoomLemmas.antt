@@ -1,5 +1,5 @@
 -- Which diaries have room, and why a settlement always fits behind a legal one that has.
-use Rattle.std.proofs.Common.{◌≡◌, ◌⊎◌, inl, inr, ℕ, ◌+◌, ◌*◌, ◌≤◌, Bool, true, false, cond, List, [], ◌∷◌, ◌++◌, length, Option, Some, None, refl, sym, ap, ◌∙◌, subst, arith, append_assoc, append-nil, length-append}
+use Rattle.std.proofs.Common.{◌≡◌, ◌⊎◌, inl, inr, ℕ, ◌+◌, ◌*◌, ◌<◌, ◌≤◌, Bool, true, false, cond, List, [], ◌∷◌, ◌++◌, length, Option, Some, None, refl, sym, ap, ◌∙◌, subst, arith, lit≤, append_assoc, append-nil, length-append}
 use Rattle.std.specs.Prelude.{count_by, option_map}
 use Rattle.std.specs.List.{flat_map}
 use Rattle.std.specs.Option.{option_to_list}
@@ -102,6 +102,36 @@ one_more_has_room diary last has fits = record {
     by before behind frame (inl (same, is)) =
         subst (λ (d : List Frame). Fits d frame) (sym same) (subst (λ (f : Frame). Fits diary f) (sym is) fits)
     by before behind frame (inr (rest, is)) = has.each before rest frame is
+
+-- ---- how many frames
+
+-- a frame has a byte or more
+frame_has_bytes : (frame : Frame) → 1 ≤ length (frame_bytes frame)
+frame_has_bytes (One r) = omega arith
+frame_has_bytes (BegunTaken begun) = omega arith
+
+-- no room is larger than a whole journal
+pub room_is_most : (settling : Bool) → room_for settling ≤ 16777216
+room_is_most true = lit≤ tt
+room_is_most false = lit≤ tt
+
+-- what follows a front with six bytes a frame, and fits, takes six bytes a frame too
+few_behind : (front rest : List Frame) → HasRoom (front ++ rest) → 6 * length front < journal_length front
+    → journal_length front ≤ 16777216 → length (front ++ rest) < 2796203
+few_behind front [] has longer most = omega (arith, ap length (append-nil front), longer, most)
+few_behind front (frame ∷ rest) has longer most =
+    let assoc : (front ++ frame ∷ []) ++ rest ≡ front ++ frame ∷ rest = append_assoc front (frame ∷ []) rest in
+    let fits : Fits front frame = has.each front rest frame refl in
+    let more = length_more front frame in
+    let one = frame_has_bytes frame in
+    let count = length-append front (frame ∷ []) in
+    subst (λ (d : List Frame). length d < 2796203) assoc
+    (few_behind (front ++ frame ∷ []) rest (subst HasRoom (sym assoc) has) (omega (arith, longer, more, one, count))
+    (omega (arith, fits, room_is_most (is_settling frame))))
+
+-- a diary with room has few frames
+pub few_frames : (diary : List Frame) → HasRoom diary → length diary < 2796203
+few_frames diary has = few_behind [] diary has (omega arith) (omega arith)
 
 -- ---- settlements and other frames
 

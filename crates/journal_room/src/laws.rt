@@ -1,5 +1,5 @@
 //! What holds of diaries and the room that they have. Each function does nothing: its contract is the law.
-ghost use Rattle.std.specs.Prelude.{◌≡◌, ◌<◌, ◌≤◌, [], ◌∷◌, ◌++◌, true, List, count_by};
+ghost use Rattle.std.specs.Prelude.{◌≡◌, ◌<◌, ◌≤◌, [], ◌∷◌, ◌++◌, true, List, count_by, length};
 ghost use Rattle.ebl_base.specs.declared.checksum.Checksum.{Checksum};
 ghost use Rattle.ebl_base.specs.declared.platform_code.PlatformCode.{PlatformCode};
 ghost use Rattle.signed_envelope.specs.KeyRing.{Keys};
@@ -21,6 +21,12 @@ pub fn frame_that_fits_keeps_room()
     ensures none { HasRoom [] }
     ensures more { (diary : List Frame) (frame : Frame) → HasRoom diary → Fits diary frame
         → HasRoom (diary ++ frame ∷ []) }
+{}
+
+/// A diary with room has fewer than 2,796,203 frames: each takes six bytes or more of a journal, which has 16,777,216
+/// at most.
+pub fn diary_with_room_has_few_frames()
+    ensures { (diary : List Frame) → HasRoom diary → length diary < 2796203 }
 {}
 
 /// In a sound diary each Settled and each Regained has a Parted of its own; where a bill is parting, one Parted more is
