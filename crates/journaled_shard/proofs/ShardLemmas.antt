@@ -1,5 +1,5 @@
 -- What becomes of a shard on a journal, by what its parts do.
-use Rattle.std.proofs.Common.{◌≡◌, ◌⊎◌, inl, inr, ℕ, ◌<◌, ◌≤◌, Bool, true, false, List, [], ◌∷◌, ◌++◌, Option, Some, None, Err, refl, ap, sym, subst, ◌∙◌, arith}
+use Rattle.std.proofs.Common.{◌≡◌, ◌≢◌, ◌⊎◌, inl, inr, ℕ, ◌<◌, ◌≤◌, Bool, true, false, List, [], ◌∷◌, ◌++◌, Option, Some, None, Err, refl, ap, sym, subst, ◌∙◌, arith}
 use Rattle.ebl_base.specs.declared.moment.Moment.{Moment}
 use Rattle.ebl_base.specs.declared.platform_code.PlatformCode.{PlatformCode}
 use Rattle.signed_envelope.specs.KeyRing.{Keys}
@@ -354,6 +354,39 @@ module _ (roster : RosterRecord) (keys : Keys) (me : PlatformCode) (now : Moment
       let same = judged_refused x.found after out meek refusal x.judged in
       (subst (IsKeptOrDropped before.diary before.loose) (sym same.0) x.kept, same.1)
 
+  -- ---- the journal
+
+  no_frame_untouched : {D : Type 0} (found after : WrittenRecord D) (frame : Option Frame) → frame ≡ None
+      → IsWrittenIfAny found frame after → after.journal ≡ found.journal
+  no_frame_untouched found after None is written = written.journal
+  no_frame_untouched found after (Some frame) is written = cc is
+
+  unwritten_untouched : {D : Type 0} (found after : WrittenRecord D) (frame : Frame) (cause : Unwritten)
+      → IsWritten found frame after (Err cause) → reply_of cause ≢ replies.Disk → after.journal ≡ found.journal
+  unwritten_untouched found after frame why.Full written other = written.0.journal
+  unwritten_untouched found after frame why.Disk written other = absurd (other refl)
+  unwritten_untouched found after frame why.NoMemory written other = written.journal
+
+  judged_untouched : {D : Type 0} (found after : WrittenRecord D) (out : Outcome) → AreMeek
+      → is_refusal out.reply ≡ true → out.reply ≢ replies.Disk → IsJudged roster keys me found now request out after
+      → after.journal ≡ found.journal
+  judged_untouched found after out meek refusal other (inl undecided) = undecided.same.journal
+  judged_untouched found after out meek refusal other (inr (step, steps, inl handed)) =
+      let nothing = meek found.diary step steps (sym (ap is_refusal handed.reply_is) ∙ refusal) in
+      no_frame_untouched found after step.frame nothing.0 handed.written
+  judged_untouched found after out meek refusal other (inr (step, steps, inr refused)) =
+      unwritten_untouched found after refused.frame refused.cause refused.written
+      (λ disk. other (ap (λ (o : Outcome). o.reply) refused.out_is ∙ disk))
+
+  -- where nothing had to be read again, a refusal but Disk leaves the journal as it was
+  pub taken_untouched : {D : Type 0} (before after : WrittenRecord D) (out : Outcome) → AreMeek → before.unread ≡ false
+      → is_refusal out.reply ≡ true → out.reply ≢ replies.Disk → IsTaken roster keys me before now request out after
+      → after.journal ≡ before.journal
+  taken_untouched before after out meek read refusal other (inl stuck) =
+      absurd (let clash : true ≡ false = sym stuck.was ∙ read in cc clash)
+  taken_untouched before after out meek read refusal other (inr x) =
+      judged_untouched x.found after out meek refusal other x.judged ∙ x.untouched read
+
   -- ---- each failure
 
   unfit : {D : Type 0} (found after : WrittenRecord D) (frame : Frame) (cause : Unwritten) (reply : Reply)
@@ -401,24 +434,23 @@ module _ (roster : RosterRecord) (keys : Keys) (me : PlatformCode) (now : Moment
 
   lost : {D : Type 0} (found after : WrittenRecord D) (frame : Frame) (cause : Unwritten) (reply : Reply)
       → IsWritten found frame after (Err cause) → reply ≡ reply_of cause → reply ≡ replies.Disk
-      → (after.diary ≡ found.diary) × ((after.loose ≡ Some frame) × (after.unread ≡ true))
+      → IsLeftOpen found frame after
   lost found after frame why.Full reply written is disk =
       absurd (let clash : replies.Full ≡ replies.Disk = sym is ∙ disk in cc clash)
-  lost found after frame why.Disk reply written is disk = (written.diary, (written.loose, written.unread))
+  lost found after frame why.Disk reply written is disk = written
   lost found after frame why.NoMemory reply written is disk =
       absurd (let clash : replies.NoMemory ≡ replies.Disk = sym is ∙ disk in cc clash)
 
   judged_lost : {D : Type 0} (found after : WrittenRecord D) (out : Outcome) → AreFine → out.reply ≡ replies.Disk
       → IsJudged roster keys me found now request out after
-      → (after.diary ≡ found.diary) × ((frame : Frame) × HasStepWith roster keys me found.diary now request frame
-      × ((after.loose ≡ Some frame) × (after.unread ≡ true)))
+      → (frame : Frame) × HasStepWith roster keys me found.diary now request frame × IsLeftOpen found frame after
   judged_lost found after out fine disk (inl undecided) = disk_decided out.reply undecided.reply_is disk
   judged_lost found after out fine disk (inr (step, steps, inl handed)) =
       no_failure step.reply replies.Disk (sym handed.reply_is ∙ disk) (fine found.diary step steps) refl
   judged_lost found after out fine disk (inr (step, steps, inr refused)) =
-      let is = lost found after refused.frame refused.cause out.reply refused.written
+      let left = lost found after refused.frame refused.cause out.reply refused.written
       (ap (λ (o : Outcome). o.reply) refused.out_is) disk in
-      (is.0, (refused.frame, record { step = step; steps = steps; frame_is = refused.frame_is }, is.1))
+      (refused.frame, record { step = step; steps = steps; frame_is = refused.frame_is }, left)
 
   -- Disk: nothing changed, or the step's frame is loose
   pub taken_disk : {D : Type 0} (before after : WrittenRecord D) (out : Outcome) → AreFine
@@ -426,14 +458,15 @@ module _ (roster : RosterRecord) (keys : Keys) (me : PlatformCode) (now : Moment
       → IsStillUnread before after ⊎ IsLeftLoose roster keys me before now request after
   taken_disk before after out fine disk (inl stuck) = inl (stuck.was, stuck.still)
   taken_disk before after out fine disk (inr x) =
-      let is = judged_lost x.found after out fine disk x.judged in
-      inr (
-        is.1.0,
-        subst (IsKeptOrDropped before.diary before.loose) (sym is.0) x.kept,
-        subst (λ (d : List Frame). HasStepWith roster keys me d now request is.1.0) (sym is.0) is.1.1,
-        is.1.2.0,
-        is.1.2.1,
-      )
+      let (frame, steps, left) = judged_lost x.found after out fine disk x.judged in
+      inr (record {
+        frame = frame;
+        kept = subst (IsKeptOrDropped before.diary before.loose) (sym left.diary) x.kept;
+        steps = subst (λ (d : List Frame). HasStepWith roster keys me d now request frame) (sym left.diary) steps;
+        fits = subst (λ (d : List Frame). Fits d frame) (sym left.diary) left.fits;
+        loose = left.loose;
+        unread = left.unread;
+      })
 
   caused_damaged : {X : Type 0} (cause : Unwritten) (place : ℕ) → reply_of cause ≡ replies.Damaged place → X
   caused_damaged why.Full place is = absurd (cc is)

@@ -122,6 +122,7 @@ module _ {D : Type 0} where
       → IsAsBefore before after
   as_before before after is diary loose unread journal = record {
     diary = diary;
+    journal = journal;
     read = record {
       read = unread ∙ is.read;
       nothing_loose = loose ∙ is.nothing_loose;

@@ -133,12 +133,14 @@ IsJudged roster keys me before now request out after =
     IsUndecided before out after
     ⊎ ((step : Step) × Steps roster keys me before.diary now request step × CarriesOut before step out after)
 
--- and where it may have to be read again first: the loose frame is then kept or dropped
+-- and where it may have to be read again first: the loose frame is then kept or dropped; where nothing has to be read,
+-- the journal stays as it is
 pub record IsJudgedAfterReading {D : Type 0} (roster : RosterRecord) (keys : Keys) (me : PlatformCode)
     (before : WrittenRecord D) (now : Moment) (request : RequestRecord) (out : Outcome) (after : WrittenRecord D)
     : Type 0 where
   pub found : WrittenRecord D
   pub kept : IsKeptOrDropped before.diary before.loose found.diary
+  pub untouched : before.unread ≡ false → found.journal ≡ before.journal
   pub judged : IsJudged roster keys me found now request out after
 
 -- what becomes of a request
@@ -176,9 +178,12 @@ HasNoRoom roster keys me diary now request =
     (frame : Frame) × HasStepWith roster keys me diary now request frame × IsTooLong diary frame
     × (is_settling frame ≡ false)
 
--- the append of the step's frame failed, and the journal has to be read again
-abbrev pub IsLeftLoose : {D : Type 0} → RosterRecord → Keys → PlatformCode → WrittenRecord D → Moment → RequestRecord
-    → WrittenRecord D → Type 0
-IsLeftLoose roster keys me before now request after =
-    (frame : Frame) × IsKeptOrDropped before.diary before.loose after.diary
-    × HasStepWith roster keys me after.diary now request frame × (after.loose ≡ Some frame) × (after.unread ≡ true)
+-- the append of the step's frame, which has room, failed: it is loose, and the journal has to be read again
+pub record IsLeftLoose {D : Type 0} (roster : RosterRecord) (keys : Keys) (me : PlatformCode) (before : WrittenRecord D)
+    (now : Moment) (request : RequestRecord) (after : WrittenRecord D) : Type 0 where
+  pub frame : Frame
+  pub kept : IsKeptOrDropped before.diary before.loose after.diary
+  pub steps : HasStepWith roster keys me after.diary now request frame
+  pub fits : Fits after.diary frame
+  pub loose : after.loose ≡ Some frame
+  pub unread : after.unread ≡ true

@@ -81,9 +81,10 @@ pub record IsLeftOpen {D : Type 0} (before : WrittenRecord D) (frame : Frame) (a
   pub loose : after.loose ≡ Some frame
   pub unread : after.unread ≡ true
 
--- the diary is as before, and nothing is loose
+-- the diary and the journal are as before, and nothing is loose
 pub record IsAsBefore {D : Type 0} (before after : WrittenRecord D) : Type 0 where
   pub diary : after.diary ≡ before.diary
+  pub journal : after.journal ≡ before.journal
   pub read : IsRead after
 
 -- what becomes of a frame that is to be written

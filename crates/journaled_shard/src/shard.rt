@@ -6,7 +6,7 @@
 //!     reply and its messages are handed out. So a reply rests on a frame that stands in every later crash. What it
 //!     shows of a bill is looked up once the frame is written, which allocates nothing.
 //! (3) After a call that failed the journal is read again before the next request is decided.
-ghost use Rattle.std.specs.Prelude.{◌≡◌, ◌⊎◌, ◌&&◌, ◌<◌, ◌≤◌, [], not, true, false, List, None, Option, ℕ, length, IfErr, IfOk, IsErrOf, IsTrue, MatchResult, OnErr, OnOk};
+ghost use Rattle.std.specs.Prelude.{◌≡◌, ◌≢◌, ◌⊎◌, ◌&&◌, ◌<◌, ◌≤◌, [], not, true, false, List, None, Option, ℕ, length, IfErr, IfOk, IsErrOf, IsTrue, MatchResult, OnErr, OnOk};
 ghost use Rattle.ebl_base.specs.Faults.{Rose};
 ghost use Rattle.disk_model.specs.Disk.{LeavesOnly, Looked};
 ghost use Rattle.party_roster.specs.RosterForm.{IsRoster};
@@ -134,7 +134,8 @@ impl<D: Disk, G: KeyRing> JournaledShard<D, G> {
     /// is parting, since a settlement always has room. `Sign` and `Disk` come only where the count of
     /// faults of the ring and of the disk rose. `Damaged` names a frame that isn't the diary's, and never comes over a
     /// disk that tells. After each of them, after `NoMemory` and after every refusal the diary is as it was, with a
-    /// loose frame kept or dropped, and nothing is sent; after `Disk` the step's frame may be loose.
+    /// loose frame kept or dropped, and nothing is sent; after `Disk` the step's frame, which has room, may be loose.
+    /// Where nothing had to be read again first, the journal is untouched after all of these but `Disk`.
     pub fn take(&mut self, alloc: Global, now: Moment, request: Request) -> Outcome
         requires { MayBeAskedOf self.old.written now (request_view request) }
         ensures step { is_failure result.reply ≡ false → (h : List Frame)
@@ -144,6 +145,8 @@ impl<D: Disk, G: KeyRing> JournaledShard<D, G> {
         ensures refused { is_refusal result.reply ≡ true
             → IsKeptOrDropped self.old.written.diary self.old.written.loose self.new.written.diary
             × (result.messages ≡ []) }
+        ensures untouched { self.old.written.unread ≡ false → is_refusal result.reply ≡ true
+            → result.reply ≢ replies.Disk → self.new.written.journal ≡ self.old.written.journal }
         ensures full { result.reply ≡ replies.Full
             → IsKeptOrDropped self.old.written.diary self.old.written.loose self.new.written.diary
             × HasNoRoom self.old.roster (G.keys self.old.ring) self.old.me self.new.written.diary now
@@ -200,6 +203,7 @@ impl<D: Disk, G: KeyRing> JournaledShard<D, G> {
         ensures found { OnOk result (IsKeptOrDropped self.old.written.diary self.old.written.loose
             self.new.written.diary) }
         ensures read { OnOk result (IsRead self.new.written) }
+        ensures untouched { self.old.written.unread ≡ false → self.new.written.journal ≡ self.old.written.journal }
         ensures still { OnErr result (IsStillUnread self.old.written self.new.written) }
         ensures undamaged { (place : ℕ) → D.tells self.old.written.journal.disk ≡ true
             → IsErrOf result (OpenFault.Damaged place) → ⊥ }

@@ -85,6 +85,7 @@ impl<D: Disk> Written<D> {
         ensures told { D.tells self.new.journal.disk ≡ D.tells self.old.journal.disk }
         ensures found { OnOk result (IsKeptOrDropped self.old.register.diary self.old.loose self.new.register.diary) }
         ensures read { OnOk result (IsRead (written_view self.new)) }
+        ensures untouched { self.old.unread ≡ false → self.new.journal ≡ self.old.journal }
         ensures was { OnErr result (self.old.unread ≡ true) }
         ensures still { OnErr result (IsStill (written_view self.old) (written_view self.new)) }
         ensures named { HasNamesOf (written_view self.old) → HasNamesOf (written_view self.new) }

@@ -290,17 +290,18 @@ module _ {D G : Type 0} (tells : D → Bool) (keys : G → Keys) where
       left_own : (frame : Frame)
           → IsLeftLoose old.roster (keys old.ring) old.me old.written now request new.written
           → new.written.loose ≡ Some frame → IsOfShard i frame
-      left_own frame (left, kept, has, loose, unread) is =
-          let same : left ≡ frame = (let both : Some left ≡ Some frame = sym loose ∙ is in cc both) in
+      left_own frame left is =
+          let same : left.frame ≡ frame = (let both : Some left.frame ≡ Some frame = sym left.loose ∙ is in cc both) in
+          let has = left.steps in
           let diary : new.written.diary ≡ old.written.diary =
-          found_is old.written.diary new.written.diary old.written.loose was kept in
+          found_is old.written.diary new.written.diary old.written.loose was left.kept in
           let legal : IsLegal old.roster (keys old.ring) old.me new.written.diary =
           subst (IsLegal old.roster (keys old.ring) old.me) (sym diary) at.legal.dropped in
           let own : IfSome has.step.frame (IsInShard i) =
           law old.roster (keys old.ring) old.me i new.written.diary now request has.step legal has.steps goes in
-          let own_left : IsInShard i left =
+          let own_left : IsInShard i left.frame =
           subst (λ (o : Option Frame). IfSome o (IsInShard i)) has.frame_is own in
-          subst (IsOfShard i) same (frame_own i left own_left)
+          subst (IsOfShard i) same (frame_own i left.frame own_left)
 
       loose_own : (loose : Option Frame) → new.written.loose ≡ loose → IfSome loose (IsOfShard i)
       loose_own None is = tt

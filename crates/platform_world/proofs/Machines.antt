@@ -16,7 +16,7 @@ use Rattle.platform_machine.specs.Machine.{MayBeAsked}
 use Rattle.answer_lines.specs.Lines.{IsWritable}
 use Rattle.answer_lines.specs.declared.answer.Answer.TheVariants.{Replied}
 use Rattle.journaled_shard.specs.Shard.{HasNoRoom, HasStepWith, IsLeftLoose, IsOfReading, IsStepOn, IsStillUnread, MayBeAskedOf, refusal_of}
-use Rattle.journaled_shard.specs.Written.{IsKeptOrDropped, IsRead, WrittenRecord}
+use Rattle.journaled_shard.specs.Written.{Fits, IsKeptOrDropped, IsRead, WrittenRecord}
 use Rattle.platform_world.specs.declared.fate.FateEnd.{FateEnd}
 use Rattle.platform_world.specs.declared.fate.FateEnd.TheVariants.{Whole}
 use Rattle.platform_world.specs.Journaled.{loose_mark}
@@ -194,15 +194,17 @@ module _ {D : Type 0} (roster : RosterRecord) (me : PlatformCode) (keys other : 
           on_cause : IsStillUnread before after ⊎ IsLeftLoose roster keys me before now request after
               → Ends (end_by replies.Disk)
           on_cause (inl still) = not_still still
-          on_cause (inr (frame, found, steps_with, loose, unread)) =
-              let diary = same_diary after.diary found in
+          on_cause (inr left) =
+              let diary = same_diary after.diary left.kept in
               record {
-                frame = frame;
-                steps = subst (λ (d : List Frame). HasStepWith roster keys me d now request frame) diary steps_with;
+                frame = left.frame;
+                steps = subst (λ (d : List Frame). HasStepWith roster keys me d now request left.frame) diary left.steps;
+                fits = subst (λ (d : List Frame). Fits d left.frame) diary left.fits;
                 out_is = (refused_as replies.Disk is refl).0;
-                after_is = same_state keys other before.diary after.diary (Some (Some frame))
+                after_is = same_state keys other before.diary after.diary (Some (Some left.frame))
                     (loose_mark after.unread after.loose) same diary
-                    (ap (λ (b : Bool). loose_mark b after.loose) unread ∙ ap (λ (l : Option Frame). Some l) loose);
+                    (ap (λ (b : Bool). loose_mark b after.loose) left.unread
+                    ∙ ap (λ (l : Option Frame). Some l) left.loose);
               }
 
       on_short : out.reply ≡ replies.NoMemory → Ends (end_by replies.NoMemory)

@@ -12,6 +12,7 @@ use Rattle.platform_machine.specs.declared.step.Step.{Step}
 use Rattle.platform_machine.specs.Machine.{MayBeAsked, Steps}
 use Rattle.platform_machine.specs.Step.{with_frame}
 use Rattle.journaled_shard.specs.Shard.{FitsIfAny, HasNoRoom, HasStepWith, refusal_of}
+use Rattle.journaled_shard.specs.Written.{Fits}
 use Rattle.platform_world.specs.declared.fate.Fate.{Fate}
 use Rattle.platform_world.specs.declared.fate.FateEnd.{FateEnd}
 use Rattle.platform_world.specs.declared.fate.FateEnd.TheVariants.{Whole, SignFault, Failed, Stuck, Short}
@@ -53,11 +54,12 @@ pub record IsFull (roster : RosterRecord) (p : PlatformCode) (shard : ShardState
   pub out_is : out ≡ refusal_of replies.Full
   pub after_is : after ≡ shard
 
--- the disk fails while the frame of its step is written: the frame is loose, and nothing is sent
+-- the disk fails while the frame of its step, which has room, is written: the frame is loose, and nothing is sent
 pub record IsNotWritten (roster : RosterRecord) (p : PlatformCode) (shard : ShardState) (now : Moment)
     (request : RequestRecord) (out : Outcome) (after : ShardState) : Type 0 where
   pub frame : Frame
   pub steps : HasStepWith roster shard.keys p shard.diary now request frame
+  pub fits : Fits shard.diary frame
   pub out_is : out ≡ refusal_of replies.Disk
   pub after_is : after ≡ record { keys = shard.keys; diary = shard.diary; loose = Some (Some frame) }
 

@@ -13,6 +13,7 @@ pub returns-in-Ok-clause-taken : goal.returns-in-Ok-clause-taken
 returns-in-Ok-clause-taken g c = inr (record {
   found = written_view c.settle.new.self;
   kept = c.in-Ok.ensures.found;
+  untouched = c.settle.ensures.untouched;
   judged = c.judge_by.ensures.judged;
 })
 
@@ -27,6 +28,7 @@ returns-in-Ok-clause-order g c =
     let taken : IsTaken roster keys me before c.args.now request c.judge_by.result after = inr (record {
       found = written_view c.settle.new.self;
       kept = c.in-Ok.ensures.found;
+      untouched = c.settle.ensures.untouched;
       judged = c.judge_by.ensures.judged;
     }) in
     let legal : IsLegalWith roster keys me after.diary after.loose =
@@ -56,6 +58,7 @@ returns-in-Ok-clause-full g c = λ full.
     let taken : IsTaken roster keys me before c.args.now request c.judge_by.result after = inr (record {
       found = written_view c.settle.new.self;
       kept = c.in-Ok.ensures.found;
+      untouched = c.settle.ensures.untouched;
       judged = c.judge_by.ensures.judged;
     }) in
     taken_full roster keys me c.args.now request before after c.judge_by.result
